@@ -1,0 +1,75 @@
+ghost use Rattle.std.specs.Prelude.{◌≡◌, ◌∷◌, [], IfOk, MatchResult, IsErrAnd, Ok};
+ghost use Rattle.object_fields.specs.Fields.{IsError, error_at, field_error};
+
+use crate::kind::Kind;
+use crate::path::Path;
+use dra_values::Duplicate;
+use std::alloc::{AllocError, Global};
+use thiserror::Error;
+
+/// The first error of a reading: where, and why. One of kind Memory has the path of the top.
+#[derive(Debug, Drop, Error)]
+#[error("{kind} {path}")]
+pub struct FieldError {
+    pub path: Path,
+    pub kind: Kind,
+}
+
+impl FieldError {
+    /// Want of memory, at the top. Takes no memory.
+    pub fn memory(alloc: Global) -> FieldError
+        ensures { result ≡ error_at [] Kind.Memory }
+    {
+        FieldError {
+            path: Path::top(alloc),
+            kind: Kind::Memory,
+        }
+    }
+
+    /// The error of that kind at the path, or Memory.
+    pub fn at(alloc: Global, path: &Path, kind: Kind) -> FieldError
+        ensures { IsError result (error_at path.now kind) }
+    {
+        match path.copy(alloc) {
+            Ok(path) => FieldError { path, kind },
+            Err(_) => FieldError::memory(alloc),
+        }
+    }
+
+    /// The error of that kind at a member of what stands at the path, or Memory.
+    pub fn of_field(alloc: Global, path: &Path, name: &str, kind: Kind) -> FieldError
+        ensures { IsError result (field_error path.now name.now kind) }
+    {
+        match path.member(alloc, name) {
+            Ok(path) => FieldError { path, kind },
+            Err(error) => error,
+        }
+    }
+
+    /// An equal error.
+    pub fn copy(&self, alloc: Global) -> Result<FieldError, AllocError>
+        ensures { IfOk result (λ e. e ≡ self.now) }
+    {
+        Ok(FieldError {
+            path: self.path.copy(alloc)?,
+            kind: self.kind,
+        })
+    }
+}
+
+impl Duplicate for FieldError {
+    fn duplicate(&self, alloc: Global) -> Result<FieldError, AllocError> {
+        self.copy(alloc)
+    }
+}
+
+/// What was made, or the error Memory.
+pub fn or_memory<T: Drop>(alloc: Global, made: Result<T, AllocError>) -> Result<T, FieldError>
+    ensures { MatchResult made (λ x. result ≡ Ok x)
+        (λ _. IsErrAnd result (λ e. e ≡ error_at [] Kind.Memory)) }
+{
+    match made {
+        Ok(x) => Ok(x),
+        Err(_) => Err(FieldError::memory(alloc)),
+    }
+}
