@@ -1,0 +1,6 @@
+//! ResourceClaims: the devices that a pod asks for, as fields of `resource.k8s.io/v1`.
+#![tactic(auto)]
+
+mod types;
+
+pub use types::{DeviceRequest, ExactDeviceRequest, ResourceClaim};

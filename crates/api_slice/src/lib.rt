@@ -1,0 +1,6 @@
+//! ResourceSlices: the devices that a driver offers, as fields of `resource.k8s.io/v1`.
+#![tactic(auto)]
+
+mod types;
+
+pub use types::{Device, Pool, ResourceSlice};
