@@ -156,13 +156,13 @@ abbrev pub natural_at : ℕ → ℕ → List Step → List ℕ → Data → Resu
 natural_at least most path name d =
     whole_at path name d >>= natural_between (field_error path name OutOfRange) least most
 
--- a whole number that a signed number of 64 bits holds
-abbrev pub below_two_to_63 : FieldError → ℤ → Result ℤ FieldError
-below_two_to_63 e (pos n) = if nat_lt n (2 ^ 63) then Ok (pos n) else Err e
-below_two_to_63 e (negsuc n) = Ok (negsuc n)
+-- a whole number from -2^63 to 2^63-1
+abbrev pub within_signed : FieldError → ℤ → Result ℤ FieldError
+within_signed e (pos n) = if nat_lt n (2 ^ 63) then Ok (pos n) else Err e
+within_signed e (negsuc n) = if nat_lt n (2 ^ 63) then Ok (negsuc n) else Err e
 
 abbrev pub signed_at : List Step → List ℕ → Data → Result ℤ FieldError
-signed_at path name d = whole_at path name d >>= below_two_to_63 (field_error path name OutOfRange)
+signed_at path name d = whole_at path name d >>= within_signed (field_error path name OutOfRange)
 
 -- ---- names
 

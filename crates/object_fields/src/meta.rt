@@ -65,12 +65,7 @@ impl ObjectMeta {
 
 ghost use Rattle.object_fields.specs.Meta as spec;
 
-fn namespace(
-    alloc: Global,
-    meta: &Value,
-    path: &Path,
-    scope: Scope,
-) -> Result<Text, FieldError>
+fn namespace(alloc: Global, meta: &Value, path: &Path, scope: Scope) -> Result<Text, FieldError>
     ensures { Reads result (spec.namespace_at scope path.now (view meta.now)) }
 {
     match scope {
@@ -130,12 +125,7 @@ fn version_number(alloc: Global, path: &Path, text: &str) -> Result<Option<u64>,
     }
     match decimal(text) {
         Some(number) => Ok(Some(number)),
-        None => Err(FieldError::of_field(
-            alloc,
-            path,
-            "resourceVersion",
-            Kind::WrongType,
-        )),
+        None => Err(FieldError::of_field(alloc, path, "resourceVersion", Kind::WrongType)),
     }
 }
 
