@@ -73,11 +73,11 @@ cut_test true y d la x h = cc
 cut_test false true d la x h = cc
 cut_test false false d la x h = refl
 
-if_true : {A : Type 0} (v : Bool) (x y : A) → v ≡ true → (if v then x else y) ≡ x
+pub if_true : {A : Type 0} (v : Bool) (x y : A) → v ≡ true → (if v then x else y) ≡ x
 if_true true x y h = refl
 if_true false x y h = cc
 
-if_false : {A : Type 0} (v : Bool) (x y : A) → v ≡ false → (if v then x else y) ≡ y
+pub if_false : {A : Type 0} (v : Bool) (x y : A) → v ≡ false → (if v then x else y) ≡ y
 if_false true x y h = cc
 if_false false x y h = refl
 

@@ -50,11 +50,9 @@ impl ObjectMeta {
         let top = Path::top(alloc);
         let meta = object_field(alloc, document, &top, "metadata")?;
         let path = top.member(alloc, "metadata")?;
-        let name = read_dns_subdomain(alloc, meta, &path, "name", NAME_MOST)?;
-        let namespace = namespace(alloc, meta, &path, scope)?;
+        let key = key(alloc, meta, &path, scope)?;
         let labels = labels(alloc, meta, &path)?;
         let version = version(alloc, meta, &path)?;
-        let key = Key { namespace, name };
         Ok(ObjectMeta {
             key,
             labels,
@@ -64,6 +62,14 @@ impl ObjectMeta {
 }
 
 ghost use Rattle.object_fields.specs.Meta as spec;
+
+fn key(alloc: Global, meta: &Value, path: &Path, scope: Scope) -> Result<Key, FieldError>
+    ensures { Reads result (spec.key_at scope path.now (view meta.now)) }
+{
+    let name = read_dns_subdomain(alloc, meta, path, "name", NAME_MOST)?;
+    let namespace = namespace(alloc, meta, path, scope)?;
+    Ok(Key { namespace, name })
+}
 
 fn namespace(alloc: Global, meta: &Value, path: &Path, scope: Scope) -> Result<Text, FieldError>
     ensures { Reads result (spec.namespace_at scope path.now (view meta.now)) }
