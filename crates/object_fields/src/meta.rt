@@ -50,18 +50,29 @@ impl ObjectMeta {
         let top = Path::top(alloc);
         let meta = object_field(alloc, document, &top, "metadata")?;
         let path = top.member(alloc, "metadata")?;
-        let key = key(alloc, meta, &path, scope)?;
-        let labels = labels(alloc, meta, &path)?;
-        let version = version(alloc, meta, &path)?;
-        Ok(ObjectMeta {
-            key,
-            labels,
-            version,
-        })
+        members(alloc, meta, &path, scope)
     }
 }
 
 ghost use Rattle.object_fields.specs.Meta as spec;
+
+fn members(
+    alloc: Global,
+    meta: &Value,
+    path: &Path,
+    scope: Scope,
+) -> Result<ObjectMeta, FieldError>
+    ensures { Reads result (spec.members_at scope path.now (view meta.now)) }
+{
+    let key = key(alloc, meta, path, scope)?;
+    let labels = labels(alloc, meta, path)?;
+    let version = version(alloc, meta, path)?;
+    Ok(ObjectMeta {
+        key,
+        labels,
+        version,
+    })
+}
 
 fn key(alloc: Global, meta: &Value, path: &Path, scope: Scope) -> Result<Key, FieldError>
     ensures { Reads result (spec.key_at scope path.now (view meta.now)) }
