@@ -34,8 +34,9 @@ pub parts_has_first : (f : ℕ → Bool) (s : List ℕ) → HasFirst (parts_by f
 parts_has_first f [] = record { head = []; tail = []; is = refl }
 parts_has_first f (b ∷ bs) =
     elim (f b) as (λ v. HasFirst (if v then [] ∷ parts_by f bs else onto_first b (parts_by f bs))) [
-      true ↦ record { head = []; tail = parts_by f bs; is = refl }
-    | false ↦ onto_has_first b (parts_by f bs) ]
+      | true ↦ record { head = []; tail = parts_by f bs; is = refl }
+      | false ↦ onto_has_first b (parts_by f bs)
+    ]
 
 -- ---- one part
 
@@ -103,14 +104,15 @@ pub goes_inside : (f : ℕ → Bool) (apart : (b : ℕ) → f b ≡ true → is_
 goes_inside f apart [] a = inside_end a ∙ sym (and_true (inside a []))
 goes_inside f apart (b ∷ bs) a =
     (elim (f b) as (λ v. f b ≡ v →
-        (((is_lower_or_digit b || ((b == 45) && is_dns_byte a)) || (v && is_lower_or_digit a)) && goes_on f b bs) ≡ all_inside a (if v then [] ∷ parts_by f bs else onto_first b (parts_by f bs))) [
-      true ↦ λ h.
-        cut_test (is_lower_or_digit b) (b == 45) (is_dns_byte a) (is_lower_or_digit a) (goes_on f b bs) (apart b h)
-        ∙ both_parts (is_lower_or_digit a) (inside a []) (goes_on f b bs) (list_all is_dns_part (parts_by f bs)) (inside_end a)
-            (goes_inside f apart bs b ∙ at_cut b (parts_by f bs) (apart b h) (parts_has_first f bs))
-    | false ↦ λ h.
-        ap (λ v. ((is_lower_or_digit b || ((b == 45) && is_dns_byte a)) || (false && is_lower_or_digit a)) && v) (goes_inside f apart bs b)
-        ∙ onto_step a b (parts_by f bs) ]) refl
+    (((is_lower_or_digit b || ((b == 45) && is_dns_byte a)) || (v && is_lower_or_digit a)) && goes_on f b bs) ≡ all_inside a (if v then [] ∷ parts_by f bs else onto_first b (parts_by f bs))) [
+      | true ↦ λ h.
+          cut_test (is_lower_or_digit b) (b == 45) (is_dns_byte a) (is_lower_or_digit a) (goes_on f b bs) (apart b h)
+          ∙ both_parts (is_lower_or_digit a) (inside a []) (goes_on f b bs) (list_all is_dns_part (parts_by f bs)) (inside_end a)
+          (goes_inside f apart bs b ∙ at_cut b (parts_by f bs) (apart b h) (parts_has_first f bs))
+      | false ↦ λ h.
+          ap (λ v. ((is_lower_or_digit b || ((b == 45) && is_dns_byte a)) || (false && is_lower_or_digit a)) && v) (goes_inside f apart bs b)
+          ∙ onto_step a b (parts_by f bs)
+    ]) refl
 
 pub goes_is : (f : ℕ → Bool) (apart : (b : ℕ) → f b ≡ true → is_dns_byte b ≡ false) (s : List ℕ) →
     goes_on f 46 s ≡ list_all is_dns_part (parts_by f s)
@@ -166,15 +168,17 @@ nested : (s : List ℕ) → parts_by (is_cut PointsAndSlashes) s ≡ in_two (par
 nested [] = refl
 nested (b ∷ bs) =
     (elim (b == 47) as (λ y.
-        (if (b == 46) || y then [] ∷ parts_by (is_cut PointsAndSlashes) bs else onto_first b (parts_by (is_cut PointsAndSlashes) bs)) ≡ in_two (if y then [] ∷ parts_at 47 bs else onto_first b (parts_at 47 bs))) [
-      true ↦
-        if_true ((b == 46) || true) ([] ∷ parts_by (is_cut PointsAndSlashes) bs) (onto_first b (parts_by (is_cut PointsAndSlashes) bs)) (or_true (b == 46))
-        ∙ ap (λ ps. [] ∷ ps) (nested bs)
-    | false ↦
-        (elim (b == 46) as (λ x. (b == 46) ≡ x →
-            (if x || false then [] ∷ parts_by (is_cut PointsAndSlashes) bs else onto_first b (parts_by (is_cut PointsAndSlashes) bs)) ≡ in_two (onto_first b (parts_at 47 bs))) [
-          true ↦ λ h. ap (λ ps. [] ∷ ps) (nested bs) ∙ sym (onto_cut b h (parts_at 47 bs) (parts_has_first (λ c. c == 47) bs))
-        | false ↦ λ h. ap (onto_first b) (nested bs) ∙ sym (onto_other b h (parts_at 47 bs) (parts_has_first (λ c. c == 47) bs)) ]) refl ])
+    (if (b == 46) || y then [] ∷ parts_by (is_cut PointsAndSlashes) bs else onto_first b (parts_by (is_cut PointsAndSlashes) bs)) ≡ in_two (if y then [] ∷ parts_at 47 bs else onto_first b (parts_at 47 bs))) [
+      | true ↦
+          if_true ((b == 46) || true) ([] ∷ parts_by (is_cut PointsAndSlashes) bs) (onto_first b (parts_by (is_cut PointsAndSlashes) bs)) (or_true (b == 46))
+          ∙ ap (λ ps. [] ∷ ps) (nested bs)
+      | false ↦
+          (elim (b == 46) as (λ x. (b == 46) ≡ x →
+          (if x || false then [] ∷ parts_by (is_cut PointsAndSlashes) bs else onto_first b (parts_by (is_cut PointsAndSlashes) bs)) ≡ in_two (onto_first b (parts_at 47 bs))) [
+            | true ↦ λ h. ap (λ ps. [] ∷ ps) (nested bs) ∙ sym (onto_cut b h (parts_at 47 bs) (parts_has_first (λ c. c == 47) bs))
+            | false ↦ λ h. ap (onto_first b) (nested bs) ∙ sym (onto_other b h (parts_at 47 bs) (parts_has_first (λ c. c == 47) bs))
+          ]) refl
+    ])
 
 all_append : (p : List ℕ → Bool) (xs ys : List (List ℕ)) → list_all p (xs ++ ys) ≡ (list_all p xs && list_all p ys)
 all_append p [] ys = refl

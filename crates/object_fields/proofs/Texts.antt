@@ -47,5 +47,6 @@ version_is {E} bs (Ok n) h plain =
 version_is {E} bs (Err e) h plain =
     let f = parse_digits own {E = E} 64 bs (Err e) h (plain_digits bs plain) in
     elim (cases_Bool (nat_lt (digits_value 10 bs) (2 ^ 64))) as (λ _. None ≡ version_of bs) [
-      inl is ↦ absurd (f (plain_long bs plain, ltb-true _ _ is))
-    | inr is ↦ sym (if_false (is_plain_decimal bs && nat_lt (digits_value 10 bs) (2 ^ 64)) (Some (digits_value 10 bs)) None (and_right _ _ is)) ]
+      | inl is ↦ absurd (f (plain_long bs plain, ltb-true _ _ is))
+      | inr is ↦ sym (if_false (is_plain_decimal bs && nat_lt (digits_value 10 bs) (2 ^ 64)) (Some (digits_value 10 bs)) None (and_right _ _ is))
+    ]

@@ -1,6 +1,6 @@
 -- What the readers of fields answer: functions from what stands in a document to the value read, or
 -- to the first error with its path.
-use Rattle.std.specs.Prelude.{◌≡◌, ℕ, ◌^◌, ◌+◌, nat_lt, nat_le, ◌&&◌, ℤ, pos, negsuc, List, [], ◌∷◌, ◌++◌, length, Bool, Option, Some, None, Result, Ok, Err, option_and_then, if◌then◌else◌}
+use Rattle.std.specs.Prelude.{◌≡◌, ℕ, ◌^◌, ◌+◌, nat_lt, nat_le, ◌&&◌, ℤ, pos, negsuc, List, [], ◌∷◌, ◌++◌, length, Bool, true, false, not, ⊤, Option, Some, None, Result, Ok, Err, option_and_then, if◌then◌else◌}
 use Rattle.serde_json.specs.Data.{Data, null, boolean, number, string, array, object, Num, Members, no_members, member, Items, no_items, item}
 use Rattle.serde_json.specs.Find.{get, as_bool, as_str, as_number, as_integer, as_object, as_array}
 use Rattle.object_fields.specs.Names.{is_dns_label, is_dns_name, is_pool_name, label_most, pool_most}
@@ -131,6 +131,28 @@ if_there (Some v) reading = reading >>= λ x. Ok (Some x)
 
 abbrev pub optional_at : {A : Type 0} → (List Step → List ℕ → Data → Result A FieldError) → List Step → List ℕ → Data → Result (Option A) FieldError
 optional_at reading path name d = if_there (member_of name d) (reading path name d)
+
+-- ---- members that this project leaves out
+
+-- nothing is asked for: null, false, or an empty text, list or object
+abbrev pub is_unset : Data → Bool
+is_unset null = true
+is_unset (boolean b) = not b
+is_unset (number n) = false
+is_unset (string []) = true
+is_unset (string (b ∷ bs)) = false
+is_unset (array no_items) = true
+is_unset (array (item d ds)) = false
+is_unset (object no_members) = true
+is_unset (object (member k d ms)) = false
+
+-- a member that is missing or unset
+abbrev pub unset_or : FieldError → Option Data → Result ⊤ FieldError
+unset_or e None = Ok tt
+unset_or e (Some d) = unless e (not (is_unset d)) tt
+
+abbrev pub unset_at : List Step → List ℕ → Data → Result ⊤ FieldError
+unset_at path name d = unset_or (field_error path name NotSupported) (get name d)
 
 -- ---- limits
 

@@ -56,12 +56,7 @@ impl ObjectMeta {
 
 ghost use Rattle.object_fields.specs.Meta as spec;
 
-fn members(
-    alloc: Global,
-    meta: &Value,
-    path: &Path,
-    scope: Scope,
-) -> Result<ObjectMeta, FieldError>
+fn members(alloc: Global, meta: &Value, path: &Path, scope: Scope) -> Result<ObjectMeta, FieldError>
     ensures { Reads result (spec.members_at scope path.now (view meta.now)) }
 {
     let key = key(alloc, meta, path, scope)?;
