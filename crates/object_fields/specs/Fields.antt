@@ -1,6 +1,6 @@
 -- What the readers of fields answer: functions from what stands in a document to the value read, or
 -- to the first error with its path.
-use Rattle.std.specs.Prelude.{◌≡◌, ℕ, ◌^◌, ◌+◌, nat_lt, nat_le, ◌&&◌, ℤ, pos, negsuc, List, [], ◌∷◌, ◌++◌, length, Bool, true, false, not, ⊤, Option, Some, None, Result, Ok, Err, option_and_then, if◌then◌else◌}
+use Rattle.std.specs.Prelude.{◌≡◌, ℕ, ◌^◌, ◌+◌, ◌==◌, nat_lt, nat_le, ◌&&◌, ℤ, pos, negsuc, List, [], ◌∷◌, ◌++◌, length, Bool, true, false, not, ⊤, Option, Some, None, Result, Ok, Err, option_and_then, if◌then◌else◌}
 use Rattle.serde_json.specs.Data.{Data, null, boolean, number, string, array, object, Num, Members, no_members, member, Items, no_items, item}
 use Rattle.serde_json.specs.Find.{get, as_bool, as_str, as_number, as_integer, as_object, as_array}
 use Rattle.object_fields.specs.Names.{is_dns_label, is_dns_name, is_pool_name, label_most, pool_most}
@@ -134,17 +134,22 @@ optional_at reading path name d = if_there (member_of name d) (reading path name
 
 -- ---- members that this project leaves out
 
+abbrev pub has_no_items : Items → Bool
+has_no_items no_items = true
+has_no_items (item d ds) = false
+
+abbrev pub has_no_members : Members → Bool
+has_no_members no_members = true
+has_no_members (member k d ms) = false
+
 -- nothing is asked for: null, false, or an empty text, list or object
 abbrev pub is_unset : Data → Bool
 is_unset null = true
 is_unset (boolean b) = not b
 is_unset (number n) = false
-is_unset (string []) = true
-is_unset (string (b ∷ bs)) = false
-is_unset (array no_items) = true
-is_unset (array (item d ds)) = false
-is_unset (object no_members) = true
-is_unset (object (member k d ms)) = false
+is_unset (string s) = length s == 0
+is_unset (array ds) = has_no_items ds
+is_unset (object ms) = has_no_members ms
 
 -- a member that is missing or unset
 abbrev pub unset_or : FieldError → Option Data → Result ⊤ FieldError
@@ -159,10 +164,6 @@ unset_at path name d = unset_or (field_error path name NotSupported) (get name d
 abbrev pub items_length : Items → ℕ
 items_length no_items = 0
 items_length (item d ds) = items_length ds + 1
-
-abbrev pub members_length : Members → ℕ
-members_length no_members = 0
-members_length (member k d ms) = members_length ms + 1
 
 -- a list of at most so many items
 abbrev pub short_list_at : ℕ → List Step → List ℕ → Data → Result Items FieldError

@@ -1,6 +1,6 @@
 ghost use Rattle.std.specs.Prelude.{◌≡◌, option_map};
 ghost use Rattle.serde_json.specs.View.{items_view, members_view, view};
-ghost use Rattle.object_fields.specs.Fields.{Gives, Reads, dns_label_at, list_at, natural_at, object_at, optional_at, short_list_at, signed_at, table_at, text_at, truth_at, is_unset, unset_at};
+ghost use Rattle.object_fields.specs.Fields.{Gives, Reads, dns_label_at, has_no_items, has_no_members, list_at, natural_at, object_at, optional_at, short_list_at, signed_at, table_at, text_at, truth_at, is_unset, unset_at};
 
 use crate::error::{FieldError, or_memory};
 use crate::fields::{borrowed, list, member, object as object_field, table, truth};
@@ -186,7 +186,21 @@ fn is_blank(value: &Value) -> bool
         Value::Bool(truth) => !*truth,
         Value::Number(_) => false,
         Value::String(text) => text.as_str().is_empty(),
-        Value::Array(items) => items.is_empty(),
-        Value::Object(members) => members.is_empty(),
+        Value::Array(items) => no_items(items.as_slice()),
+        Value::Object(members) => no_members(members),
     }
+}
+
+#[tactic(auto, using(crate::proofs::Lengths::no_items_view))]
+fn no_items(items: &[Value]) -> bool
+    ensures { result ≡ has_no_items (items_view items.now) }
+{
+    items.is_empty()
+}
+
+#[tactic(auto, using(crate::proofs::Lengths::no_members_view))]
+fn no_members(members: &Map<String, Value>) -> bool
+    ensures { result ≡ has_no_members (members_view members.now.entries) }
+{
+    members.len() == 0
 }
