@@ -1,0 +1,5 @@
+pub mod CellLemmas
+pub mod NumberLemmas
+pub mod PlaceLemmas
+pub mod ValueLemmas
+pub mod ReadBackLemmas

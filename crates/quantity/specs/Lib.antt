@@ -1,0 +1,5 @@
+pub mod Range
+pub mod Value
+pub mod Printed
+pub mod Cells
+pub mod Messages

@@ -1,0 +1,16 @@
+//! Quantities: the notation of Kubernetes for amounts, as exact counts of 10^-9.
+//!
+//! The notation is that of the Kubernetes API (`resource.Quantity`). The limit of 64 bytes, the
+//! exponents from -9 to 18, the unit of 10^-9 and the greatest magnitude of 2^63 - 1 are this
+//! project's own rules: what is beyond them is refused, and nothing is rounded or capped.
+#![tactic(auto)]
+
+mod cells;
+mod error;
+mod magnitude;
+mod print;
+mod quantity;
+mod text;
+
+pub use error::QuantityError;
+pub use quantity::{Quantity, quantity_reads_back};
