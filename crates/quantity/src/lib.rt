@@ -10,6 +10,8 @@ mod error;
 mod magnitude;
 mod print;
 mod quantity;
+#[cfg(test)]
+mod tests;
 mod text;
 
 pub use error::QuantityError;
