@@ -3,19 +3,18 @@ use Rattle.std.proofs.Common.{◌≡◌, ℕ, zero, suc, ◌+◌, ◌-◌, ◌*�
 use Rattle.std.specs.Prelude.{Ok, ◌==◌}
 use Rattle.std.specs.List.{prefix_len}
 use Rattle.std.specs.Char.{is_ascii_digit}
-use Rattle.std.proofs.lemmas.List.{append-nil}
 use Rattle.std.proofs.lemmas.Bool.Decides.{nat_tests}
 use Rattle.std.proofs.lemmas.Fmt.{digits_decimal, digits_value-decimal, length-decimal-le, decimal_nonempty}
 use Rattle.std.proofs.lemmas.Int.{ints}
 use Rattle.std.proofs.lemmas.Nat.{div-add-mod'}
 use Rattle.std.proofs.lemmas.Str.Parse.{IsDigitsTest, WeighsDigits, IsNumeralModel, numerals_by_weight}
 use Rattle.std.proofs.Math.Nat.{pow-succ', mul-mod_left, mul-div_cancel, mod-lt, div-lt_iff_lt-mul}
-use Rattle.std.proofs.Math.Seq.{take-append_seam, drop-append_seam}
 use Rattle.quantity.specs.Cells.{AreDigits}
 use Rattle.quantity.specs.Range.{most, IsInRange}
-use Rattle.quantity.specs.Value.{digits_value, sign_of, digits_of, fraction_of, number_value, magnitude_value, magnitude_of, up_to_most, quantity_value}
+use Rattle.quantity.specs.Value.{digits_value, sign_of, fraction_of, number_value, magnitude_value, magnitude_of, up_to_most, quantity_value}
 use Rattle.quantity.specs.Printed.{places_text, fraction_text, magnitude_text, printed}
 use Rattle.quantity.proofs.CellLemmas.{one_le_pow}
+use Rattle.quantity.proofs.DigitLemmas.{digits_of-append, digits_of-all, sign_of-digits}
 use Rattle.quantity.proofs.NumberLemmas.{digits_value-append}
 use Rattle.quantity.proofs.PlaceLemmas.{places_text-none, places_text-zero, places_text-some}
 use Rattle.quantity.proofs.ValueLemmas.{value_ok}
@@ -30,28 +29,6 @@ weighs = search rules
 
 own : IsNumeralModel AreDigits digits_value
 own = numerals_by_weight AreDigits tells digits_value weighs
-
--- ---- digits and what follows them
-
-digit_is : (c : ℕ) → 48 ≤ c → c < 58 → is_ascii_digit c ≡ true
-digit_is c low high = grind (arith, nat_tests)
-
-front_len : (ds rest : List ℕ) → AreDigits ds → prefix_len is_ascii_digit rest ≡ 0 → prefix_len is_ascii_digit (ds ++ rest) ≡ length ds
-front_len [] rest a e = e
-front_len (d ∷ ds) rest a e = rw (digit_is d a.0 a.1) (omega (arith, front_len ds rest a.2 e))
-
-digits_of-append : (ds rest : List ℕ) → AreDigits ds → prefix_len is_ascii_digit rest ≡ 0 → digits_of (ds ++ rest) ≡ (ds, rest)
-digits_of-append ds rest a e = rw (front_len ds rest a e, take-append_seam ds rest, drop-append_seam ds rest) refl
-
-digits_of-all : (ds : List ℕ) → AreDigits ds → digits_of ds ≡ (ds, [])
-digits_of-all ds a = ap digits_of (sym (append-nil ds)) ∙ digits_of-append ds [] a refl
-
-sign_of-digits : (ds rest : List ℕ) → AreDigits ds → 0 < length ds → sign_of (ds ++ rest) ≡ (false, ds ++ rest)
-sign_of-digits [] rest a h = absurd (omega (arith, h))
-sign_of-digits (d ∷ ds) rest a h =
-    let minus : (d == 45) ≡ false = (let low = a.0 in grind (arith, nat_tests)) in
-    let plus : (d == 43) ≡ false = (let low = a.0 in grind (arith, nat_tests)) in
-    rw (minus, plus) refl
 
 -- ---- the places behind the point
 

@@ -3,3 +3,4 @@ pub mod Value
 pub mod Printed
 pub mod Cells
 pub mod Messages
+pub mod Grammar

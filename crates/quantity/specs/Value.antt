@@ -30,29 +30,19 @@ fraction_of (c ∷ cs) = if c == 46 then digits_of cs else ([], c ∷ cs)
 -- ---- what a suffix multiplies by, in units of 10^-9
 
 -- n, u, m, k, M, G, T, P, E
-abbrev pub decimal_factor : ℕ → Result ℕ QuantityError
-decimal_factor c =
-    if c == 110 then Ok 1
-    else (if c == 117 then Ok (10 ^ 3)
-    else (if c == 109 then Ok (10 ^ 6)
-    else (if c == 107 then Ok (10 ^ 12)
-    else (if c == 77 then Ok (10 ^ 15)
-    else (if c == 71 then Ok (10 ^ 18)
-    else (if c == 84 then Ok (10 ^ 21)
-    else (if c == 80 then Ok (10 ^ 24)
-    else (if c == 69 then Ok (10 ^ 27)
-    else Err BadText))))))))
+abbrev pub decimal_factors : List (ℕ × ℕ)
+decimal_factors =
+    (110, 10 ^ 0) ∷ (117, 10 ^ 3) ∷ (109, 10 ^ 6) ∷ (107, 10 ^ 12) ∷ (77, 10 ^ 15) ∷ (71, 10 ^ 18) ∷ (84, 10 ^ 21) ∷ (80, 10 ^ 24) ∷ (69, 10 ^ 27) ∷ []
 
 -- K, M, G, T, P, E before an i
-abbrev pub binary_factor : ℕ → Result ℕ QuantityError
-binary_factor c =
-    if c == 75 then Ok (2 ^ 10 * 10 ^ 9)
-    else (if c == 77 then Ok (2 ^ 20 * 10 ^ 9)
-    else (if c == 71 then Ok (2 ^ 30 * 10 ^ 9)
-    else (if c == 84 then Ok (2 ^ 40 * 10 ^ 9)
-    else (if c == 80 then Ok (2 ^ 50 * 10 ^ 9)
-    else (if c == 69 then Ok (2 ^ 60 * 10 ^ 9)
-    else Err BadText)))))
+abbrev pub binary_factors : List (ℕ × ℕ)
+binary_factors =
+    (75, 2 ^ 10 * 10 ^ 9) ∷ (77, 2 ^ 20 * 10 ^ 9) ∷ (71, 2 ^ 30 * 10 ^ 9) ∷ (84, 2 ^ 40 * 10 ^ 9) ∷ (80, 2 ^ 50 * 10 ^ 9) ∷ (69, 2 ^ 60 * 10 ^ 9) ∷ []
+
+-- what the letter has in a table
+abbrev pub factor_in : List (ℕ × ℕ) → ℕ → Result ℕ QuantityError
+factor_in [] c = Err BadText
+factor_in (e ∷ es) c = if c == e.0 then Ok e.1 else factor_in es c
 
 -- one digit or more, and nothing else
 abbrev pub is_numeral : List ℕ → Bool
@@ -72,8 +62,8 @@ scientific_factor c cs = if c == 101 then exponent_factor cs else (if c == 69 th
 
 abbrev pub suffix_factor : List ℕ → Result ℕ QuantityError
 suffix_factor [] = Ok (10 ^ 9)
-suffix_factor (c ∷ []) = decimal_factor c
-suffix_factor (c ∷ d ∷ []) = if d == 105 then binary_factor c else scientific_factor c (d ∷ [])
+suffix_factor (c ∷ []) = factor_in decimal_factors c
+suffix_factor (c ∷ d ∷ []) = if d == 105 then factor_in binary_factors c else scientific_factor c (d ∷ [])
 suffix_factor (c ∷ d ∷ e ∷ es) = scientific_factor c (d ∷ e ∷ es)
 
 -- ---- the value

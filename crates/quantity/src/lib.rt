@@ -7,6 +7,7 @@
 
 mod cells;
 mod error;
+mod laws;
 mod magnitude;
 mod print;
 mod quantity;
@@ -15,4 +16,5 @@ mod tests;
 mod text;
 
 pub use error::QuantityError;
-pub use quantity::{Quantity, quantity_reads_back};
+pub use laws::{quantity_reads_back, values_follow_the_grammar};
+pub use quantity::Quantity;

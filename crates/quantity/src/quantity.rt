@@ -6,7 +6,6 @@ ghost use Rattle.std.specs.Ordering.{int_cmp, int_eq, as_partial_cmp};
 ghost use Rattle.std.specs.Cmp.{partial_equiv_from_equiv, int_eq_equiv, int_cmp_total, signed_po};
 ghost use Rattle.quantity.specs.Range.{IsInRange, most};
 ghost use Rattle.quantity.specs.Value.{quantity_value, magnitude_value, signed};
-ghost use Rattle.quantity.specs.Printed.{printed};
 
 use crate::QuantityError;
 use crate::magnitude::magnitude;
@@ -177,11 +176,4 @@ impl Ord for Quantity {
     fn cmp(&self, other: &Quantity) -> Ordering {
         self.nanos.cmp(&other.nanos)
     }
-}
-
-/// The text that a quantity prints has that quantity as its value.
-pub fn quantity_reads_back(quantity: &Quantity)
-    ensures { quantity_value (printed quantity.now) ≡ Ok quantity.now }
-{
-    let _ = quantity.nanos();
 }

@@ -4,7 +4,7 @@ ghost use Rattle.std.specs.Prelude.{◌≡◌, ◌*◌, ◌^◌, ◌≤◌, leng
 ghost use Rattle.std.specs.List.{prefix_len, list_all};
 ghost use Rattle.std.specs.Char.{is_ascii_digit};
 ghost use Rattle.quantity.specs.Cells.{AreDigits};
-ghost use Rattle.quantity.specs.Value.{digits_value, sign_of, digits_of, fraction_of, decimal_factor, binary_factor, power_factor, exponent_factor, scientific_factor, suffix_factor, is_numeral};
+ghost use Rattle.quantity.specs.Value.{digits_value, sign_of, digits_of, fraction_of, factor_in, decimal_factors, binary_factors, power_factor, exponent_factor, scientific_factor, suffix_factor, is_numeral};
 
 use crate::QuantityError;
 
@@ -62,7 +62,7 @@ pub fn suffix(text: &[u8]) -> Result<u128, QuantityError>
 }
 
 fn decimal(letter: u8) -> Result<u128, QuantityError>
-    ensures value { result ≡ decimal_factor letter }
+    ensures value { result ≡ factor_in decimal_factors letter }
     ensures bounded { IfOk result (λ factor. factor ≤ 2 ^ 60 * 10 ^ 9) }
 {
     match letter {
@@ -80,7 +80,7 @@ fn decimal(letter: u8) -> Result<u128, QuantityError>
 }
 
 fn binary(letter: u8) -> Result<u128, QuantityError>
-    ensures value { result ≡ binary_factor letter }
+    ensures value { result ≡ factor_in binary_factors letter }
     ensures bounded { IfOk result (λ factor. factor ≤ 2 ^ 60 * 10 ^ 9) }
 {
     match letter {

@@ -1,7 +1,0 @@
-use Rattle.std.proofs.Common.{subst}
-use Rattle.quantity.specs.Range.{IsInRange}
-use Rattle.quantity.proofs.ReadBackLemmas.{reads_back}
-use Rattle.quantity.proofs.quantity.quantity_reads_back.Goals as goal
-
-pub returns : goal.returns
-returns c = reads_back c.args.quantity.now (subst IsInRange c.nanos.ensures.value c.nanos.ensures.in_range)
