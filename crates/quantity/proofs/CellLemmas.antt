@@ -3,8 +3,8 @@ use Rattle.std.specs.List.{list_all}
 use Rattle.std.proofs.lemmas.Bool.Decides.{nat_tests}
 use Rattle.std.proofs.Math.Nat.{pow-succ', pow-suc, add-mul, mul_assoc, mul_comm, mul-le-mul_left}
 use Rattle.std.proofs.lemmas.List.{drop_more, drop_all, take_all, append-nil}
-use Rattle.quantity.specs.Cells.{value_of, AreCells, scaled, AreDigits}
-use Rattle.quantity.specs.Value.{digits_value}
+use Rattle.quantity.specs.Cells.{value_of, AreCells, scaled}
+use Rattle.quantity.specs.Value.{digits_value, AreDigits}
 
 -- with room for the last carry, the digits stand for the product
 pub value_of-scaled : (f c : ℕ) (xs : List ℕ) → value_of xs * f + c < 10 ^ length xs → value_of (scaled f c xs) ≡ value_of xs * f + c

@@ -6,8 +6,7 @@ use Rattle.std.specs.Char.{is_ascii_digit}
 use Rattle.std.proofs.lemmas.List.{append-nil}
 use Rattle.std.proofs.lemmas.Bool.Decides.{nat_tests}
 use Rattle.std.proofs.Math.Seq.{take-append_seam, drop-append_seam}
-use Rattle.quantity.specs.Cells.{AreDigits}
-use Rattle.quantity.specs.Value.{sign_of, digits_of}
+use Rattle.quantity.specs.Value.{sign_of, digits_of, AreDigits}
 
 pub digit_is : (c : ℕ) → 48 ≤ c → c < 58 → is_ascii_digit c ≡ true
 digit_is c low high = grind (arith, nat_tests)

@@ -5,8 +5,7 @@ use Rattle.std.specs.List.{prefix_len, list_all}
 use Rattle.std.specs.Char.{is_ascii_digit}
 use Rattle.std.proofs.lemmas.List.{take-append-drop}
 use Rattle.std.proofs.lemmas.Bool.Decides.{nat_tests}
-use Rattle.quantity.specs.Cells.{AreDigits}
-use Rattle.quantity.specs.Value.{digits_value, sign_of, digits_of, fraction_of, number_value, magnitude_value, magnitude_times, suffix_factor, scientific_factor, exponent_factor, power_factor, factor_in, decimal_factors, binary_factors, is_numeral, quantity_value, with_sign}
+use Rattle.quantity.specs.Value.{digits_value, sign_of, digits_of, fraction_of, number_value, magnitude_value, magnitude_times, suffix_factor, scientific_factor, exponent_factor, power_factor, factor_in, decimal_factors, binary_factors, is_numeral, quantity_value, with_sign, AreDigits}
 use Rattle.quantity.specs.Grammar.{Sign, Unsigned, Plus, Minus, sign_text, is_minus, Number, Whole, Pointed, number_text, IsNumber, whole, fraction, Suffix, Bare, Decimal, Binary, Exponent, exponent_letter, suffix_text, IsSuffix, factor, spelled, IsSpelled}
 use Rattle.quantity.specs.declared.error.QuantityError.{QuantityError}
 use Rattle.quantity.specs.declared.error.QuantityError.TheVariants.{BadText}

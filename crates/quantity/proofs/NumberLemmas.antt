@@ -7,8 +7,8 @@ use Rattle.quantity.specs.declared.error.QuantityError.TheVariants.{TooPrecise}
 use Rattle.std.proofs.lemmas.List.{length-take-le}
 use Rattle.std.specs.Prelude.{Result, Err, ◌==◌}
 use Rattle.std.proofs.Math.Nat.{add-mul, pow-succ', mul_assoc, mul_comm, mul-le-mul_left, pow-le-pow_right, add-mul-div_right, add-mul-mod_self_right, mod-eq_of_lt, div-eq_of_lt}
-use Rattle.quantity.specs.Cells.{value_of, AreCells, AreDigits}
-use Rattle.quantity.specs.Value.{digits_value, magnitude_of, up_to_most, is_numeral}
+use Rattle.quantity.specs.Cells.{value_of, AreCells}
+use Rattle.quantity.specs.Value.{digits_value, magnitude_of, up_to_most, is_numeral, AreDigits}
 use Rattle.quantity.proofs.CellLemmas.{value_of-split, one_le_pow, zero_cells}
 
 -- a rest below the divisor is the remainder

@@ -9,9 +9,8 @@ use Rattle.std.proofs.lemmas.Int.{ints}
 use Rattle.std.proofs.lemmas.Nat.{div-add-mod'}
 use Rattle.std.proofs.lemmas.Str.Parse.{IsDigitsTest, WeighsDigits, IsNumeralModel, numerals_by_weight}
 use Rattle.std.proofs.Math.Nat.{pow-succ', mul-mod_left, mul-div_cancel, mod-lt, div-lt_iff_lt-mul}
-use Rattle.quantity.specs.Cells.{AreDigits}
 use Rattle.quantity.specs.Range.{most, IsInRange}
-use Rattle.quantity.specs.Value.{digits_value, sign_of, fraction_of, number_value, magnitude_value, magnitude_of, up_to_most, quantity_value}
+use Rattle.quantity.specs.Value.{digits_value, sign_of, fraction_of, number_value, magnitude_value, magnitude_of, up_to_most, quantity_value, AreDigits}
 use Rattle.quantity.specs.Printed.{places_text, fraction_text, magnitude_text, printed}
 use Rattle.quantity.proofs.CellLemmas.{one_le_pow}
 use Rattle.quantity.proofs.DigitLemmas.{digits_of-append, digits_of-all, sign_of-digits}

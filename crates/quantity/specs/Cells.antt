@@ -1,5 +1,5 @@
 -- Decimal numbers of many digits as the code keeps them: a cell a digit, the last digit first.
-use Rattle.std.specs.Prelude.{ℕ, ◌+◌, ◌*◌, ◌/◌, ◌%◌, ◌<◌, ◌≤◌, List, [], ◌∷◌}
+use Rattle.std.specs.Prelude.{ℕ, ◌+◌, ◌*◌, ◌/◌, ◌%◌, ◌<◌, List, [], ◌∷◌}
 
 abbrev pub value_of : List ℕ → ℕ
 value_of [] = 0
@@ -8,11 +8,6 @@ value_of (c ∷ cs) = c + 10 * value_of cs
 abbrev pub AreCells : List ℕ → Type 0
 AreCells [] = Unit {0}
 AreCells (c ∷ cs) = (c < 10) × AreCells cs
-
--- each byte is a digit
-abbrev pub AreDigits : List ℕ → Type 0
-AreDigits [] = Unit {0}
-AreDigits (d ∷ ds) = (48 ≤ d) × (d < 58) × AreDigits ds
 
 -- the cells times the factor, with a carry from below
 abbrev pub scaled : ℕ → ℕ → List ℕ → List ℕ

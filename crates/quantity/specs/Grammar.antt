@@ -3,8 +3,7 @@
 --   number   = digits [ "." [ digits ] ] | "." digits
 --   suffix   = a letter of decimal_factors | a letter of binary_factors "i" | ( "e" | "E" ) [ "+" | "-" ] digits
 use Rattle.std.specs.Prelude.{◌≡◌, ℕ, ◌+◌, ◌^◌, ◌<◌, Bool, true, false, List, [], ◌∷◌, ◌++◌, length, Result, Ok}
-use Rattle.quantity.specs.Cells.{AreDigits}
-use Rattle.quantity.specs.Value.{digits_value, factor_in, decimal_factors, binary_factors, power_factor}
+use Rattle.quantity.specs.Value.{digits_value, factor_in, decimal_factors, binary_factors, power_factor, AreDigits}
 use Rattle.quantity.specs.declared.error.QuantityError.{QuantityError}
 
 pub data Sign : Type 0 where

@@ -1,5 +1,5 @@
 -- What the text of a quantity is worth, in units of 10^-9, or why it has no value.
-use Rattle.std.specs.Prelude.{ℕ, ◌+◌, ◌-◌, ◌*◌, ◌/◌, ◌%◌, ◌^◌, ℤ, pos, neg_ℤ, Bool, true, false, ◌&&◌, List, [], ◌∷◌, ◌++◌, length, take, drop, if◌then◌else◌, ◌==◌, nat_lt, nat_le, Result, Ok, Err}
+use Rattle.std.specs.Prelude.{ℕ, ◌+◌, ◌-◌, ◌*◌, ◌/◌, ◌%◌, ◌^◌, ◌<◌, ◌≤◌, ℤ, pos, neg_ℤ, Bool, true, false, ◌&&◌, List, [], ◌∷◌, ◌++◌, length, take, drop, if◌then◌else◌, ◌==◌, nat_lt, nat_le, Result, Ok, Err}
 use Rattle.std.specs.List.{prefix_len, list_all}
 use Rattle.std.specs.Char.{is_ascii_digit}
 use Rattle.quantity.specs.Range.{most}
@@ -10,6 +10,10 @@ use Rattle.quantity.specs.declared.error.QuantityError.TheVariants.{BadText, Too
 abbrev pub digits_value : List ℕ → ℕ
 digits_value [] = 0
 digits_value (d ∷ ds) = (d - 48) * 10 ^ length ds + digits_value ds
+
+abbrev pub AreDigits : List ℕ → Type 0
+AreDigits [] = Unit {0}
+AreDigits (d ∷ ds) = (48 ≤ d) × (d < 58) × AreDigits ds
 
 -- ---- how the text is put together
 

@@ -2,8 +2,8 @@
 
 ghost use Rattle.std.specs.Prelude.{◌≡◌, ◌+◌, ◌*◌, ◌^◌, ◌<◌, ◌≤◌, ◌==◌, length};
 ghost use Rattle.std.specs.List.{list_all};
-ghost use Rattle.quantity.specs.Cells.{value_of, AreCells, AreDigits};
-ghost use Rattle.quantity.specs.Value.{digits_value, up_to_most};
+ghost use Rattle.quantity.specs.Cells.{value_of, AreCells};
+ghost use Rattle.quantity.specs.Value.{digits_value, up_to_most, AreDigits};
 
 use crate::QuantityError;
 

@@ -17,4 +17,5 @@ mod text;
 
 pub use error::QuantityError;
 pub use laws::{quantity_reads_back, values_follow_the_grammar};
+pub use print::Nanos;
 pub use quantity::Quantity;

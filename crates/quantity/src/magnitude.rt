@@ -1,8 +1,8 @@
 //! The number that digits, a point and a factor make.
 
 ghost use Rattle.std.specs.Prelude.{◌≡◌, ◌+◌, ◌*◌, ◌^◌, ◌≤◌, ◌++◌, length};
-ghost use Rattle.quantity.specs.Cells.{value_of, AreCells, AreDigits};
-ghost use Rattle.quantity.specs.Value.{digits_value, magnitude_of};
+ghost use Rattle.quantity.specs.Cells.{value_of, AreCells};
+ghost use Rattle.quantity.specs.Value.{digits_value, magnitude_of, AreDigits};
 
 use crate::QuantityError;
 use crate::cells::{are_zero, number, push_digits, scale};

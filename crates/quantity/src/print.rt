@@ -10,16 +10,34 @@ use std::fmt;
 /// One, in 10^-9.
 const ONE: u128 = 1_000_000_000;
 
+/// A number of 10^-9 that prints like a quantity. It may be out of a quantity's range, as a sum of
+/// quantities may be.
+#[derive(Clone, Copy, Debug, Drop, PartialEq, Eq)]
+pub struct Nanos(pub i128);
+
 impl fmt::Display for Quantity {
     ghost output = { λ n. Some (printed n) };
 
     fn fmt<W: fmt::Write>(&self, f: &mut fmt::Formatter<W>) -> fmt::Result {
-        let nanos = self.nanos();
-        if nanos < 0 {
-            f.write_str("-")?;
-        }
-        write_magnitude(f, nanos.unsigned_abs())
+        write_signed(f, self.nanos())
     }
+}
+
+impl fmt::Display for Nanos {
+    ghost output = { λ n. Some (printed n.0) };
+
+    fn fmt<W: fmt::Write>(&self, f: &mut fmt::Formatter<W>) -> fmt::Result {
+        write_signed(f, self.0)
+    }
+}
+
+fn write_signed<W: fmt::Write>(f: &mut fmt::Formatter<W>, nanos: i128) -> fmt::Result
+    ensures { WritesOnOk W.write_str_gives f.old result (printed nanos) f.new }
+{
+    if nanos < 0 {
+        f.write_str("-")?;
+    }
+    write_magnitude(f, nanos.unsigned_abs())
 }
 
 fn write_magnitude<W: fmt::Write>(f: &mut fmt::Formatter<W>, nanos: u128) -> fmt::Result

@@ -1,6 +1,6 @@
 //! Texts at the edges, with what they are worth by the rules for quantities.
 
-use crate::{Quantity, quantity_reads_back};
+use crate::{Nanos, Quantity, QuantityError, quantity_reads_back, values_follow_the_grammar};
 use std::alloc::{AllocError, Global};
 use std::cmp::Ordering;
 use std::test::Fail;
@@ -201,6 +201,14 @@ fn counts(rt: HostRuntime) -> Result<(), Fail> {
         Ordering::Equal
     );
     assert!(rt; Quantity::parse(b"-1")? < half);
+    let sum = Nanos(most.nanos() + most.nanos() + 1);
+    assert_eq!(rt;
+        sum.to_string(rt.alloc())?.as_str(),
+        "18446744073709551614.000000001"
+    );
+    let error = QuantityError::TooPrecise.to_string(rt.alloc())?;
+    assert_eq!(rt; error.as_str(), "finer than 10^-9");
     quantity_reads_back(&half);
+    values_follow_the_grammar();
     Ok(())
 }

@@ -3,8 +3,7 @@
 ghost use Rattle.std.specs.Prelude.{◌≡◌, ◌*◌, ◌^◌, ◌≤◌, length, IfOk, Some, None, if◌then◌else◌, nat_le};
 ghost use Rattle.std.specs.List.{prefix_len, list_all};
 ghost use Rattle.std.specs.Char.{is_ascii_digit};
-ghost use Rattle.quantity.specs.Cells.{AreDigits};
-ghost use Rattle.quantity.specs.Value.{digits_value, sign_of, digits_of, fraction_of, factor_in, decimal_factors, binary_factors, power_factor, exponent_factor, scientific_factor, suffix_factor, is_numeral};
+ghost use Rattle.quantity.specs.Value.{digits_value, sign_of, digits_of, fraction_of, factor_in, decimal_factors, binary_factors, power_factor, exponent_factor, scientific_factor, suffix_factor, is_numeral, AreDigits};
 
 use crate::QuantityError;
 

@@ -1,6 +1,6 @@
 use Rattle.std.proofs.Common.{◌≡◌, ◌≤◌, ◌+◌, ◌*◌, ◌^◌, drop, length}
-use Rattle.quantity.specs.Cells.{AreCells, AreDigits, value_of}
-use Rattle.quantity.specs.Value.{digits_value}
+use Rattle.quantity.specs.Cells.{AreCells, value_of}
+use Rattle.quantity.specs.Value.{digits_value, AreDigits}
 use Rattle.quantity.proofs.cells.push_digits.Given as goal
 
 abbrev pub invariant-loop-digit : goal.invariant-loop-digit

@@ -1,5 +1,5 @@
 use Rattle.std.proofs.Common.{subst, sym, ap, ◌∙◌, take}
-use Rattle.quantity.specs.Cells.{AreDigits}
+use Rattle.quantity.specs.Value.{AreDigits}
 use Rattle.quantity.proofs.NumberLemmas.{AreDigits-front}
 use Rattle.quantity.proofs.text.digits.Goals as goal
 

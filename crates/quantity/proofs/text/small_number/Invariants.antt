@@ -1,6 +1,5 @@
 use Rattle.std.proofs.Common.{◌≡◌, ◌≤◌, ◌+◌, ◌*◌, ◌^◌, drop, length}
-use Rattle.quantity.specs.Cells.{AreDigits}
-use Rattle.quantity.specs.Value.{digits_value}
+use Rattle.quantity.specs.Value.{digits_value, AreDigits}
 use Rattle.quantity.proofs.text.small_number.Given as goal
 
 abbrev pub invariant-loop-digit : goal.invariant-loop-digit
