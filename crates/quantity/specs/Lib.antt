@@ -1,0 +1,6 @@
+pub mod Range
+pub mod Value
+pub mod Printed
+pub mod Cells
+pub mod Messages
+pub mod Grammar
