@@ -1,7 +1,8 @@
 use crate::*;
 use dra_values::Text;
-use serde_json::Value;
+use serde_json::{Map, Value};
 use std::alloc::{AllocError, Global};
+use std::fmt::Display;
 use std::test::Fail;
 
 /// What a reader answers, as text: the value, or the word and the path of the error.
@@ -12,83 +13,112 @@ fn shown(alloc: Global, answer: Result<String, FieldError>) -> Result<String, Al
     }
 }
 
-/// The field `f` by the reader of that name.
-fn read_by(alloc: Global, reader: &str, value: &Value) -> Result<String, FieldError> {
-    let top = Path::top(alloc);
-    match reader {
-        "field" => {
-            let found = field(alloc, value, &top, "f")?;
-            or_memory(alloc, found.to_string(alloc))
-        }
-        "text" => text(alloc, value, &top, "f"),
-        "whole" => {
-            let number = whole(alloc, value, &top, "f")?;
-            or_memory(alloc, format!(in alloc; "{number}"))
-        }
-        "truth" => {
-            let truth = truth(alloc, value, &top, "f")?;
-            or_memory(alloc, format!(in alloc; "{truth}"))
-        }
-        "list" => {
-            let length = list(alloc, value, &top, "f")?.len();
-            or_memory(alloc, format!(in alloc; "{length}"))
-        }
-        "short_list" => {
-            let length = short_list(alloc, value, &top, "f", 2)?.len();
-            or_memory(alloc, format!(in alloc; "{length}"))
-        }
-        "table" => {
-            let length = table(alloc, value, &top, "f")?.len();
-            or_memory(alloc, format!(in alloc; "{length}"))
-        }
-        "natural" => {
-            let number = natural(alloc, value, &top, "f", 1, 9)?;
-            or_memory(alloc, format!(in alloc; "{number}"))
-        }
-        "signed" => {
-            let number = signed(alloc, value, &top, "f")?;
-            or_memory(alloc, format!(in alloc; "{number}"))
-        }
-        _ => read_name(alloc, reader, value),
+/// An answer's value, printed.
+fn printed<T: Display + Drop>(
+    alloc: Global,
+    answer: Result<T, FieldError>,
+) -> Result<String, FieldError> {
+    match answer {
+        Ok(value) => or_memory(alloc, format!(in alloc; "{value}")),
+        Err(error) => Err(error),
     }
 }
 
-fn read_name(alloc: Global, reader: &str, value: &Value) -> Result<String, FieldError> {
-    let top = Path::top(alloc);
-    let name = match reader {
-        "label" => read_dns_label(alloc, value, &top, "f")?,
-        "subdomain" => read_dns_subdomain(alloc, value, &top, "f", 8)?,
-        "pool" => read_pool_name(alloc, value, &top, "f")?,
-        "key" => label_of(alloc, &top, "a-b")?,
-        "value_text" => value_text(alloc, field(alloc, value, &top, "f")?, &top)?,
-        _ => return read_optional(alloc, reader, value),
-    };
-    or_memory(alloc, format!(in alloc; "{name}"))
+/// Whether an answer has a value.
+fn there<T: Drop>(
+    alloc: Global,
+    answer: Result<Option<T>, FieldError>,
+) -> Result<String, FieldError> {
+    match answer {
+        Ok(value) => or_memory(alloc, format!(in alloc; "{}", value.is_some())),
+        Err(error) => Err(error),
+    }
 }
 
-fn read_optional(alloc: Global, reader: &str, value: &Value) -> Result<String, FieldError> {
-    let top = Path::top(alloc);
-    let found = match reader {
-        "optional_text" => optional_text(alloc, value, &top, "f")?.is_some(),
-        "optional_label" => optional_dns_label(alloc, value, &top, "f")?.is_some(),
-        "optional_truth" => optional_truth(alloc, value, &top, "f")? == Some(true),
-        "optional_natural" => optional_natural(alloc, value, &top, "f", 1, 9)? == Some(9),
-        "optional_signed" => optional_signed(alloc, value, &top, "f")? == Some(-9),
-        "optional_list" => optional_list(alloc, value, &top, "f")?.is_some(),
-        "optional_short_list" => optional_short_list(alloc, value, &top, "f", 1)?.is_some(),
-        "optional_table" => optional_table(alloc, value, &top, "f")?.is_some(),
-        "optional_object" => optional_object(alloc, value, &top, "f")?.is_some(),
-        "object" => object(alloc, value, &top, "f")?.is_object(),
-        "value_table" => value_table(alloc, value, &top)?.len() == 1,
-        "value_object" => value_object(alloc, value, &top)?.is_object(),
-        _ => unset(alloc, value, &top, "f").is_ok(),
-    };
-    or_memory(alloc, format!(in alloc; "{found}"))
+/// How many items an answer has.
+fn counted(alloc: Global, answer: Result<&[Value], FieldError>) -> Result<String, FieldError> {
+    match answer {
+        Ok(items) => or_memory(alloc, format!(in alloc; "{}", items.len())),
+        Err(error) => Err(error),
+    }
+}
+
+/// How many members an answer has.
+fn sized(
+    alloc: Global,
+    answer: Result<&Map<String, Value>, FieldError>,
+) -> Result<String, FieldError> {
+    match answer {
+        Ok(members) => or_memory(alloc, format!(in alloc; "{}", members.len())),
+        Err(error) => Err(error),
+    }
+}
+
+/// The JSON text of an answer.
+fn written(alloc: Global, answer: Result<&Value, FieldError>) -> Result<String, FieldError> {
+    match answer {
+        Ok(value) => or_memory(alloc, value.to_string(alloc)),
+        Err(error) => Err(error),
+    }
+}
+
+/// The field `f` by the reader of that name.
+fn read_by(alloc: Global, top: &Path, reader: &str, value: &Value) -> Result<String, FieldError> {
+    match reader {
+        "field" => written(alloc, field(alloc, value, top, "f")),
+        "text" => text(alloc, value, top, "f"),
+        "whole" => printed(alloc, whole(alloc, value, top, "f")),
+        "truth" => printed(alloc, truth(alloc, value, top, "f")),
+        "list" => counted(alloc, list(alloc, value, top, "f")),
+        "short_list" => counted(alloc, short_list(alloc, value, top, "f", 2)),
+        "table" => sized(alloc, table(alloc, value, top, "f")),
+        "object" => written(alloc, object(alloc, value, top, "f")),
+        "natural" => printed(alloc, natural(alloc, value, top, "f", 1, 9)),
+        "signed" => printed(alloc, signed(alloc, value, top, "f")),
+        "value_text" => printed(alloc, value_text(alloc, value, top)),
+        "value_table" => sized(alloc, value_table(alloc, value, top)),
+        "value_object" => written(alloc, value_object(alloc, value, top)),
+        _ => read_name(alloc, top, reader, value),
+    }
+}
+
+fn read_name(alloc: Global, top: &Path, reader: &str, value: &Value) -> Result<String, FieldError> {
+    match reader {
+        "label" => printed(alloc, read_dns_label(alloc, value, top, "f")),
+        "subdomain" => printed(alloc, read_dns_subdomain(alloc, value, top, "f", 8)),
+        "pool" => printed(alloc, read_pool_name(alloc, value, top, "f")),
+        "key" => printed(alloc, label_of(alloc, top, "a-b")),
+        _ => read_optional(alloc, top, reader, value),
+    }
+}
+
+fn read_optional(
+    alloc: Global,
+    top: &Path,
+    reader: &str,
+    value: &Value,
+) -> Result<String, FieldError> {
+    match reader {
+        "optional_text" => there(alloc, optional_text(alloc, value, top, "f")),
+        "optional_label" => there(alloc, optional_dns_label(alloc, value, top, "f")),
+        "optional_truth" => there(alloc, optional_truth(alloc, value, top, "f")),
+        "optional_natural" => there(alloc, optional_natural(alloc, value, top, "f", 1, 9)),
+        "optional_signed" => there(alloc, optional_signed(alloc, value, top, "f")),
+        "optional_list" => there(alloc, optional_list(alloc, value, top, "f")),
+        "optional_short_list" => there(alloc, optional_short_list(alloc, value, top, "f", 1)),
+        "optional_table" => there(alloc, optional_table(alloc, value, top, "f")),
+        "optional_object" => there(alloc, optional_object(alloc, value, top, "f")),
+        _ => match unset(alloc, value, top, "f") {
+            Ok(()) => or_memory(alloc, String::from_str(alloc, "unset")),
+            Err(error) => Err(error),
+        },
+    }
 }
 
 #[test]
 fn fields_read_or_have_their_error(rt: HostRuntime) -> Result<(), Fail> {
     let alloc = rt.alloc();
+    let top = Path::top(alloc);
     for (reader, document, want) in [
         ("field", r#"{"f":[1,"a"]}"#, r#"[1,"a"]"#),
         ("field", r#"{"g":1}"#, "Missing f"),
@@ -144,13 +174,13 @@ fn fields_read_or_have_their_error(rt: HostRuntime) -> Result<(), Fail> {
         ("pool", r#"{"f":"a//c"}"#, "BadName f"),
         ("pool", r#"{}"#, "Missing f"),
         ("key", "{}", "a-b"),
-        ("value_text", r#"{"f":"x"}"#, "x"),
-        ("value_text", r#"{"f":1}"#, "WrongType "),
-        ("value_table", r#"{"f":1}"#, "true"),
+        ("value_text", r#""x""#, "x"),
+        ("value_text", "1", "WrongType "),
+        ("value_table", r#"{"f":1}"#, "1"),
         ("value_table", "[]", "WrongType "),
-        ("value_object", r#"{"f":1}"#, "true"),
+        ("value_object", r#"{"f":1}"#, r#"{"f":1}"#),
         ("value_object", "null", "Missing "),
-        ("object", r#"{"f":{}}"#, "true"),
+        ("object", r#"{"f":{}}"#, "{}"),
         ("object", r#"{"f":1}"#, "WrongType f"),
         ("optional_text", r#"{"f":"x"}"#, "true"),
         ("optional_text", r#"{"f":null}"#, "false"),
@@ -167,12 +197,12 @@ fn fields_read_or_have_their_error(rt: HostRuntime) -> Result<(), Fail> {
         ("optional_table", r#"{"f":{}}"#, "true"),
         ("optional_object", r#"{"f":{}}"#, "true"),
         ("optional_object", r#"{"f":1}"#, "WrongType f"),
-        ("unset", r#"{"f":[]}"#, "true"),
-        ("unset", r#"{"f":false}"#, "true"),
-        ("unset", r#"{"f":0}"#, "false"),
+        ("unset", r#"{"f":[]}"#, "unset"),
+        ("unset", r#"{"f":false}"#, "unset"),
+        ("unset", r#"{"f":0}"#, "NotSupported f"),
     ] {
         let value = Value::from_str(alloc, document)?;
-        let got = shown(alloc, read_by(alloc, reader, &value))?;
+        let got = shown(alloc, read_by(alloc, &top, reader, &value))?;
         assert_eq!(rt; got.as_str(), want, "{reader} of {document}");
     }
     Ok(())
