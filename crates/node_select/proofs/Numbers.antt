@@ -37,34 +37,38 @@ read_is bs (Ok x) Small z small limit to from some none h =
     ap Some h.1 ∙ sym (ap (option_and_then limit) (number_some bs h.0.0 h.0.1) ∙ some (to h.0.2))
 read_is bs (Err e) Small z small limit to from some none h =
     elim (cases_Bool (nat_lt 0 (length bs) && all_ascii_digits bs)) as (λ _. None ≡ option_and_then limit (number_of bs)) [
-      inl is ↦ elim (cases_Bool small) as (λ _. None ≡ option_and_then limit (number_of bs)) [
-        inl fits ↦ absurd (h ((and_parts _ _ is).1, ltb-true _ _ (and_parts _ _ is).0, from fits))
-      | inr over ↦ sym (ap (option_and_then limit) (number_some bs (and_parts _ _ is).1 (ltb-true _ _ (and_parts _ _ is).0)) ∙ none over) ]
-    | inr not ↦ sym (ap (option_and_then limit) (number_none bs not)) ]
+      | inl is ↦ elim (cases_Bool small) as (λ _. None ≡ option_and_then limit (number_of bs)) [
+        | inl fits ↦ absurd (h ((and_parts _ _ is).1, ltb-true _ _ (and_parts _ _ is).0, from fits))
+        | inr over ↦ sym (ap (option_and_then limit) (number_some bs (and_parts _ _ is).1 (ltb-true _ _ (and_parts _ _ is).0)) ∙ none over)
+      ]
+      | inr not ↦ sym (ap (option_and_then limit) (number_none bs not))
+    ]
 
 plain_is : {E : Type 0} (bs : List ℕ) (r : Result ℤ E) → Reads r bs (digits_value 10 bs < 2 ^ 63) (pos (digits_value 10 bs)) → result_ok r ≡ option_and_then positive (number_of bs)
 plain_is bs r h =
     read_is bs r (digits_value 10 bs < 2 ^ 63) (pos (digits_value 10 bs)) (nat_lt (digits_value 10 bs) (2 ^ 63)) positive
-      (lt-ltb _ _) (ltb-true _ _)
-      (if_true (nat_lt (digits_value 10 bs) (2 ^ 63)) (Some (pos (digits_value 10 bs))) None)
-      (if_false (nat_lt (digits_value 10 bs) (2 ^ 63)) (Some (pos (digits_value 10 bs))) None) h
+    (lt-ltb _ _) (ltb-true _ _)
+    (if_true (nat_lt (digits_value 10 bs) (2 ^ 63)) (Some (pos (digits_value 10 bs))) None)
+    (if_false (nat_lt (digits_value 10 bs) (2 ^ 63)) (Some (pos (digits_value 10 bs))) None) h
 
 minus_is : {E : Type 0} (bs : List ℕ) (r : Result ℤ E) → Reads r bs (digits_value 10 bs ≤ 2 ^ 63) (neg_ℤ (pos (digits_value 10 bs))) → result_ok r ≡ option_and_then negative (number_of bs)
 minus_is bs r h =
     read_is bs r (digits_value 10 bs ≤ 2 ^ 63) (neg_ℤ (pos (digits_value 10 bs))) (nat_le (digits_value 10 bs) (2 ^ 63)) negative
-      (le-leb _ _) (leb-true _ _)
-      (if_true (nat_le (digits_value 10 bs) (2 ^ 63)) (Some (neg_ℤ (pos (digits_value 10 bs)))) None)
-      (if_false (nat_le (digits_value 10 bs) (2 ^ 63)) (Some (neg_ℤ (pos (digits_value 10 bs)))) None) h
+    (le-leb _ _) (leb-true _ _)
+    (if_true (nat_le (digits_value 10 bs) (2 ^ 63)) (Some (neg_ℤ (pos (digits_value 10 bs)))) None)
+    (if_false (nat_le (digits_value 10 bs) (2 ^ 63)) (Some (neg_ℤ (pos (digits_value 10 bs)))) None) h
 
 pub whole_is : {E : Type 0} (bs : List ℕ) (r : Result ℤ E) → ParsesSigned w64 10 bs r → result_ok r ≡ whole_of bs
 whole_is {E} [] r h = plain_is [] r (parse_signed_plain own {E = E} w64 [] r h (λ e. omega (arith, e)) (λ e. omega (arith, e)))
 whole_is {E} (b ∷ bs) r h =
     (elim (b == 45) as (λ v. (b == 45) ≡ v →
-        result_ok r ≡ (if v then option_and_then negative (number_of bs) else (if b == 43 then option_and_then positive (number_of bs) else option_and_then positive (number_of (b ∷ bs))))) [
-      true ↦ λ minus. minus_is bs r (parse_signed_minus own {E = E} w64 (b ∷ bs) r h (eqb-true b 45 minus))
-    | false ↦ λ no_minus.
-        (elim (b == 43) as (λ v. (b == 43) ≡ v →
-            result_ok r ≡ (if v then option_and_then positive (number_of bs) else option_and_then positive (number_of (b ∷ bs)))) [
-          true ↦ λ plus. plain_is bs r (parse_signed_plus own {E = E} w64 (b ∷ bs) r h (eqb-true b 43 plus))
-        | false ↦ λ no_plus.
-            plain_is (b ∷ bs) r (parse_signed_plain own {E = E} w64 (b ∷ bs) r h (eqb-false b 43 no_plus) (eqb-false b 45 no_minus)) ]) refl ]) refl
+    result_ok r ≡ (if v then option_and_then negative (number_of bs) else (if b == 43 then option_and_then positive (number_of bs) else option_and_then positive (number_of (b ∷ bs))))) [
+      | true ↦ λ minus. minus_is bs r (parse_signed_minus own {E = E} w64 (b ∷ bs) r h (eqb-true b 45 minus))
+      | false ↦ λ no_minus.
+          (elim (b == 43) as (λ v. (b == 43) ≡ v →
+          result_ok r ≡ (if v then option_and_then positive (number_of bs) else option_and_then positive (number_of (b ∷ bs)))) [
+            | true ↦ λ plus. plain_is bs r (parse_signed_plus own {E = E} w64 (b ∷ bs) r h (eqb-true b 43 plus))
+            | false ↦ λ no_plus.
+                plain_is (b ∷ bs) r (parse_signed_plain own {E = E} w64 (b ∷ bs) r h (eqb-false b 43 no_plus) (eqb-false b 45 no_minus))
+          ]) refl
+    ]) refl
