@@ -1,179 +1,325 @@
 use crate::*;
 use dra_values::Text;
-use serde_json::Value;
+use serde_json::{Map, Value};
 use std::alloc::{AllocError, Global};
+use std::fmt::Display;
 use std::test::Fail;
 
 /// What a reader answers, as text: the value, or the word and the path of the error.
 fn shown(alloc: Global, answer: Result<String, FieldError>) -> Result<String, AllocError> {
     match answer {
         Ok(value) => Ok(value),
-        Err(error) => format!(in alloc; "{} {}", error.kind, error.path),
+        Err(error) => format!(in alloc; "{error}"),
     }
 }
 
-/// The field `f` by the reader of that name.
-fn read_by(alloc: Global, reader: &str, value: &Value) -> Result<String, FieldError> {
-    let top = Path::top(alloc);
+/// An answer's value, printed.
+fn printed<T: Display + Drop>(
+    alloc: Global,
+    answer: Result<T, FieldError>,
+) -> Result<String, FieldError> {
+    match answer {
+        Ok(value) => or_memory(alloc, format!(in alloc; "{value}")),
+        Err(error) => Err(error),
+    }
+}
+
+/// Whether an answer has a value.
+fn there<T: Drop>(
+    alloc: Global,
+    answer: Result<Option<T>, FieldError>,
+) -> Result<String, FieldError> {
+    match answer {
+        Ok(value) => or_memory(alloc, format!(in alloc; "{}", value.is_some())),
+        Err(error) => Err(error),
+    }
+}
+
+/// How many items an answer has.
+fn counted(alloc: Global, answer: Result<&[Value], FieldError>) -> Result<String, FieldError> {
+    match answer {
+        Ok(items) => or_memory(alloc, format!(in alloc; "{}", items.len())),
+        Err(error) => Err(error),
+    }
+}
+
+/// How many members an answer has.
+fn sized(
+    alloc: Global,
+    answer: Result<&Map<String, Value>, FieldError>,
+) -> Result<String, FieldError> {
+    match answer {
+        Ok(members) => or_memory(alloc, format!(in alloc; "{}", members.len())),
+        Err(error) => Err(error),
+    }
+}
+
+/// The JSON text of an answer.
+fn written(alloc: Global, answer: Result<&Value, FieldError>) -> Result<String, FieldError> {
+    match answer {
+        Ok(value) => or_memory(alloc, value.to_string(alloc)),
+        Err(error) => Err(error),
+    }
+}
+
+/// That nothing is there.
+fn nothing(alloc: Global, answer: Result<(), FieldError>) -> Result<String, FieldError> {
+    match answer {
+        Ok(()) => or_memory(alloc, String::from_str(alloc, "unset")),
+        Err(error) => Err(error),
+    }
+}
+
+/// The readers of a field.
+#[derive(Clone, Copy)]
+enum Reader {
+    Field,
+    Text,
+    Whole,
+    Truth,
+    List,
+    ShortList,
+    Table,
+    Object,
+    Natural,
+    Signed,
+    ValueText,
+    ValueTable,
+    ValueObject,
+    Label,
+    Subdomain,
+    Pool,
+    Key,
+    Place,
+    Optional(OptionalReader),
+}
+
+/// The readers of a field that may be missing.
+#[derive(Clone, Copy)]
+enum OptionalReader {
+    Text,
+    Label,
+    Truth,
+    Natural,
+    Signed,
+    List,
+    ShortList,
+    Table,
+    Object,
+    Unset,
+}
+
+/// The field `f` by that reader.
+fn read_by(alloc: Global, top: &Path, reader: Reader, value: &Value) -> Result<String, FieldError> {
     match reader {
-        "field" => {
-            let found = field(alloc, value, &top, "f")?;
-            or_memory(alloc, found.to_string(alloc))
-        }
-        "text" => text(alloc, value, &top, "f"),
-        "whole" => {
-            let number = whole(alloc, value, &top, "f")?;
-            or_memory(alloc, format!(in alloc; "{number}"))
-        }
-        "truth" => {
-            let truth = truth(alloc, value, &top, "f")?;
-            or_memory(alloc, format!(in alloc; "{truth}"))
-        }
-        "list" => {
-            let length = list(alloc, value, &top, "f")?.len();
-            or_memory(alloc, format!(in alloc; "{length}"))
-        }
-        "short_list" => {
-            let length = short_list(alloc, value, &top, "f", 2)?.len();
-            or_memory(alloc, format!(in alloc; "{length}"))
-        }
-        "table" => {
-            let length = table(alloc, value, &top, "f")?.len();
-            or_memory(alloc, format!(in alloc; "{length}"))
-        }
-        "natural" => {
-            let number = natural(alloc, value, &top, "f", 1, 9)?;
-            or_memory(alloc, format!(in alloc; "{number}"))
-        }
-        "signed" => {
-            let number = signed(alloc, value, &top, "f")?;
-            or_memory(alloc, format!(in alloc; "{number}"))
-        }
-        _ => read_name(alloc, reader, value),
+        Reader::Field => written(alloc, field(alloc, value, top, "f")),
+        Reader::Text => text(alloc, value, top, "f"),
+        Reader::Whole => printed(alloc, whole(alloc, value, top, "f")),
+        Reader::Truth => printed(alloc, truth(alloc, value, top, "f")),
+        Reader::List => counted(alloc, list(alloc, value, top, "f")),
+        Reader::ShortList => counted(alloc, short_list(alloc, value, top, "f", 2)),
+        Reader::Table => sized(alloc, table(alloc, value, top, "f")),
+        Reader::Object => written(alloc, object(alloc, value, top, "f")),
+        Reader::Natural => printed(alloc, natural(alloc, value, top, "f", 1, 9)),
+        Reader::Signed => printed(alloc, signed(alloc, value, top, "f")),
+        Reader::ValueText => printed(alloc, value_text(alloc, value, top)),
+        Reader::ValueTable => sized(alloc, value_table(alloc, value, top)),
+        Reader::ValueObject => written(alloc, value_object(alloc, value, top)),
+        Reader::Label => printed(alloc, read_dns_label(alloc, value, top, "f")),
+        Reader::Subdomain => printed(alloc, read_dns_subdomain(alloc, value, top, "f", 8)),
+        Reader::Pool => printed(alloc, read_pool_name(alloc, value, top, "f")),
+        Reader::Key => printed(alloc, label_of(alloc, top, "a-b")),
+        Reader::Place => printed(alloc, top.place(alloc, 7)),
+        Reader::Optional(reader) => read_optional(alloc, top, reader, value),
     }
 }
 
-fn read_name(alloc: Global, reader: &str, value: &Value) -> Result<String, FieldError> {
-    let top = Path::top(alloc);
-    let name = match reader {
-        "label" => read_dns_label(alloc, value, &top, "f")?,
-        "subdomain" => read_dns_subdomain(alloc, value, &top, "f", 8)?,
-        "pool" => read_pool_name(alloc, value, &top, "f")?,
-        "key" => label_of(alloc, &top, "a-b")?,
-        "value_text" => value_text(alloc, field(alloc, value, &top, "f")?, &top)?,
-        _ => return read_optional(alloc, reader, value),
-    };
-    or_memory(alloc, format!(in alloc; "{name}"))
-}
-
-fn read_optional(alloc: Global, reader: &str, value: &Value) -> Result<String, FieldError> {
-    let top = Path::top(alloc);
-    let found = match reader {
-        "optional_text" => optional_text(alloc, value, &top, "f")?.is_some(),
-        "optional_label" => optional_dns_label(alloc, value, &top, "f")?.is_some(),
-        "optional_truth" => optional_truth(alloc, value, &top, "f")? == Some(true),
-        "optional_natural" => optional_natural(alloc, value, &top, "f", 1, 9)? == Some(9),
-        "optional_signed" => optional_signed(alloc, value, &top, "f")? == Some(-9),
-        "optional_list" => optional_list(alloc, value, &top, "f")?.is_some(),
-        "optional_short_list" => optional_short_list(alloc, value, &top, "f", 1)?.is_some(),
-        "optional_table" => optional_table(alloc, value, &top, "f")?.is_some(),
-        "optional_object" => optional_object(alloc, value, &top, "f")?.is_some(),
-        "object" => object(alloc, value, &top, "f")?.is_object(),
-        "value_table" => value_table(alloc, value, &top)?.len() == 1,
-        "value_object" => value_object(alloc, value, &top)?.is_object(),
-        _ => unset(alloc, value, &top, "f").is_ok(),
-    };
-    or_memory(alloc, format!(in alloc; "{found}"))
+fn read_optional(
+    alloc: Global,
+    top: &Path,
+    reader: OptionalReader,
+    value: &Value,
+) -> Result<String, FieldError> {
+    match reader {
+        OptionalReader::Text => there(alloc, optional_text(alloc, value, top, "f")),
+        OptionalReader::Label => there(alloc, optional_dns_label(alloc, value, top, "f")),
+        OptionalReader::Truth => there(alloc, optional_truth(alloc, value, top, "f")),
+        OptionalReader::Natural => there(alloc, optional_natural(alloc, value, top, "f", 1, 9)),
+        OptionalReader::Signed => there(alloc, optional_signed(alloc, value, top, "f")),
+        OptionalReader::List => there(alloc, optional_list(alloc, value, top, "f")),
+        OptionalReader::ShortList => there(alloc, optional_short_list(alloc, value, top, "f", 1)),
+        OptionalReader::Table => there(alloc, optional_table(alloc, value, top, "f")),
+        OptionalReader::Object => there(alloc, optional_object(alloc, value, top, "f")),
+        OptionalReader::Unset => nothing(alloc, unset(alloc, value, top, "f")),
+    }
 }
 
 #[test]
 fn fields_read_or_have_their_error(rt: HostRuntime) -> Result<(), Fail> {
     let alloc = rt.alloc();
+    let top = Path::top(alloc);
     for (reader, document, want) in [
-        ("field", r#"{"f":[1,"a"]}"#, r#"[1,"a"]"#),
-        ("field", r#"{"g":1}"#, "Missing f"),
-        ("field", r#"{"f":null}"#, "Missing f"),
-        ("field", "7", "Missing f"),
-        ("text", r#"{"f":"a"}"#, "a"),
-        ("text", r#"{}"#, "Missing f"),
-        ("text", r#"{"f":1}"#, "WrongType f"),
+        (Reader::Field, r#"{"f":[1,"a"]}"#, r#"[1,"a"]"#),
+        (Reader::Field, r#"{"g":1}"#, "Missing f"),
+        (Reader::Field, r#"{"f":null}"#, "Missing f"),
+        (Reader::Field, "7", "Missing f"),
+        (Reader::Text, r#"{"f":"a"}"#, "a"),
+        (Reader::Text, r#"{}"#, "Missing f"),
+        (Reader::Text, r#"{"f":1}"#, "WrongType f"),
         (
-            "whole",
+            Reader::Whole,
             r#"{"f":18446744073709551615}"#,
             "18446744073709551615",
         ),
         (
-            "whole",
+            Reader::Whole,
             r#"{"f":-9223372036854775808}"#,
             "-9223372036854775808",
         ),
-        ("whole", r#"{"f":18446744073709551616}"#, "WrongType f"),
-        ("whole", r#"{"f":1.5}"#, "WrongType f"),
-        ("whole", r#"{"f":-0}"#, "WrongType f"),
-        ("whole", r#"{"f":"1"}"#, "WrongType f"),
-        ("whole", r#"{"f":null}"#, "Missing f"),
-        ("truth", r#"{"f":false}"#, "false"),
-        ("truth", r#"{"f":0}"#, "WrongType f"),
-        ("truth", r#"{}"#, "Missing f"),
-        ("list", r#"{"f":[null,1,2]}"#, "3"),
-        ("list", r#"{"f":{}}"#, "WrongType f"),
-        ("list", r#"{}"#, "Missing f"),
-        ("short_list", r#"{"f":[1,2]}"#, "2"),
-        ("short_list", r#"{"f":[1,2,3]}"#, "TooMany f"),
-        ("table", r#"{"f":{"a":1,"b":null}}"#, "2"),
-        ("table", r#"{"f":[]}"#, "WrongType f"),
-        ("table", r#"{}"#, "Missing f"),
-        ("natural", r#"{"f":9}"#, "9"),
-        ("natural", r#"{"f":1}"#, "1"),
-        ("natural", r#"{"f":0}"#, "OutOfRange f"),
-        ("natural", r#"{"f":10}"#, "OutOfRange f"),
-        ("natural", r#"{"f":-1}"#, "OutOfRange f"),
         (
-            "signed",
+            Reader::Whole,
+            r#"{"f":18446744073709551616}"#,
+            "WrongType f",
+        ),
+        (Reader::Whole, r#"{"f":1.5}"#, "WrongType f"),
+        (Reader::Whole, r#"{"f":-0}"#, "WrongType f"),
+        (Reader::Whole, r#"{"f":"1"}"#, "WrongType f"),
+        (Reader::Whole, r#"{"f":null}"#, "Missing f"),
+        (Reader::Truth, r#"{"f":false}"#, "false"),
+        (Reader::Truth, r#"{"f":0}"#, "WrongType f"),
+        (Reader::Truth, r#"{}"#, "Missing f"),
+        (Reader::List, r#"{"f":[null,1,2]}"#, "3"),
+        (Reader::List, r#"{"f":{}}"#, "WrongType f"),
+        (Reader::List, r#"{}"#, "Missing f"),
+        (Reader::ShortList, r#"{"f":[1,2]}"#, "2"),
+        (Reader::ShortList, r#"{"f":[1,2,3]}"#, "TooMany f"),
+        (Reader::Table, r#"{"f":{"a":1,"b":null}}"#, "2"),
+        (Reader::Table, r#"{"f":[]}"#, "WrongType f"),
+        (Reader::Table, r#"{}"#, "Missing f"),
+        (Reader::Natural, r#"{"f":9}"#, "9"),
+        (Reader::Natural, r#"{"f":1}"#, "1"),
+        (Reader::Natural, r#"{"f":0}"#, "OutOfRange f"),
+        (Reader::Natural, r#"{"f":10}"#, "OutOfRange f"),
+        (Reader::Natural, r#"{"f":-1}"#, "OutOfRange f"),
+        (
+            Reader::Signed,
             r#"{"f":9223372036854775807}"#,
             "9223372036854775807",
         ),
-        ("signed", r#"{"f":9223372036854775808}"#, "OutOfRange f"),
-        ("label", r#"{"f":"a-1"}"#, "a-1"),
-        ("label", r#"{"f":"A"}"#, "BadName f"),
-        ("label", r#"{"f":3}"#, "WrongType f"),
-        ("subdomain", r#"{"f":"a.b-c.d"}"#, "a.b-c.d"),
-        ("subdomain", r#"{"f":"a..b"}"#, "BadName f"),
-        ("subdomain", r#"{"f":"abc-.defg"}"#, "TooLong f"),
-        ("pool", r#"{"f":"a.b/c"}"#, "a.b/c"),
-        ("pool", r#"{"f":"a//c"}"#, "BadName f"),
-        ("pool", r#"{}"#, "Missing f"),
-        ("key", "{}", "a-b"),
-        ("value_text", r#"{"f":"x"}"#, "x"),
-        ("value_text", r#"{"f":1}"#, "WrongType "),
-        ("value_table", r#"{"f":1}"#, "true"),
-        ("value_table", "[]", "WrongType "),
-        ("value_object", r#"{"f":1}"#, "true"),
-        ("value_object", "null", "Missing "),
-        ("object", r#"{"f":{}}"#, "true"),
-        ("object", r#"{"f":1}"#, "WrongType f"),
-        ("optional_text", r#"{"f":"x"}"#, "true"),
-        ("optional_text", r#"{"f":null}"#, "false"),
-        ("optional_text", r#"{}"#, "false"),
-        ("optional_text", r#"{"f":[]}"#, "WrongType f"),
-        ("optional_label", r#"{"f":"x"}"#, "true"),
-        ("optional_truth", r#"{"f":true}"#, "true"),
-        ("optional_natural", r#"{"f":9}"#, "true"),
-        ("optional_natural", r#"{"f":10}"#, "OutOfRange f"),
-        ("optional_signed", r#"{"f":-9}"#, "true"),
-        ("optional_list", r#"{"f":[]}"#, "true"),
-        ("optional_short_list", r#"{"f":[1]}"#, "true"),
-        ("optional_short_list", r#"{"f":[1,2]}"#, "TooMany f"),
-        ("optional_table", r#"{"f":{}}"#, "true"),
-        ("optional_object", r#"{"f":{}}"#, "true"),
-        ("optional_object", r#"{"f":1}"#, "WrongType f"),
-        ("unset", r#"{"f":[]}"#, "true"),
-        ("unset", r#"{"f":false}"#, "true"),
-        ("unset", r#"{"f":0}"#, "false"),
+        (
+            Reader::Signed,
+            r#"{"f":9223372036854775808}"#,
+            "OutOfRange f",
+        ),
+        (Reader::Label, r#"{"f":"a-1"}"#, "a-1"),
+        (Reader::Label, r#"{"f":"A"}"#, "BadName f"),
+        (Reader::Label, r#"{"f":3}"#, "WrongType f"),
+        (Reader::Subdomain, r#"{"f":"a.b-c.d"}"#, "a.b-c.d"),
+        (Reader::Subdomain, r#"{"f":"a..b"}"#, "BadName f"),
+        (Reader::Subdomain, r#"{"f":"abc-.defg"}"#, "TooLong f"),
+        (Reader::Pool, r#"{"f":"a.b/c"}"#, "a.b/c"),
+        (Reader::Pool, r#"{"f":"a//c"}"#, "BadName f"),
+        (Reader::Pool, r#"{}"#, "Missing f"),
+        (Reader::Key, "{}", "a-b"),
+        (Reader::Place, "{}", "[7]"),
+        (Reader::ValueText, r#""x""#, "x"),
+        (Reader::ValueText, "1", "WrongType "),
+        (Reader::ValueTable, r#"{"f":1}"#, "1"),
+        (Reader::ValueTable, "[]", "WrongType "),
+        (Reader::ValueObject, r#"{"f":1}"#, r#"{"f":1}"#),
+        (Reader::ValueObject, "null", "Missing "),
+        (Reader::Object, r#"{"f":{}}"#, "{}"),
+        (Reader::Object, r#"{"f":1}"#, "WrongType f"),
+        (
+            Reader::Optional(OptionalReader::Text),
+            r#"{"f":"x"}"#,
+            "true",
+        ),
+        (
+            Reader::Optional(OptionalReader::Text),
+            r#"{"f":null}"#,
+            "false",
+        ),
+        (Reader::Optional(OptionalReader::Text), r#"{}"#, "false"),
+        (
+            Reader::Optional(OptionalReader::Text),
+            r#"{"f":[]}"#,
+            "WrongType f",
+        ),
+        (
+            Reader::Optional(OptionalReader::Label),
+            r#"{"f":"x"}"#,
+            "true",
+        ),
+        (
+            Reader::Optional(OptionalReader::Truth),
+            r#"{"f":true}"#,
+            "true",
+        ),
+        (
+            Reader::Optional(OptionalReader::Natural),
+            r#"{"f":9}"#,
+            "true",
+        ),
+        (
+            Reader::Optional(OptionalReader::Natural),
+            r#"{"f":10}"#,
+            "OutOfRange f",
+        ),
+        (
+            Reader::Optional(OptionalReader::Signed),
+            r#"{"f":-9}"#,
+            "true",
+        ),
+        (
+            Reader::Optional(OptionalReader::List),
+            r#"{"f":[]}"#,
+            "true",
+        ),
+        (
+            Reader::Optional(OptionalReader::ShortList),
+            r#"{"f":[1]}"#,
+            "true",
+        ),
+        (
+            Reader::Optional(OptionalReader::ShortList),
+            r#"{"f":[1,2]}"#,
+            "TooMany f",
+        ),
+        (
+            Reader::Optional(OptionalReader::Table),
+            r#"{"f":{}}"#,
+            "true",
+        ),
+        (
+            Reader::Optional(OptionalReader::Object),
+            r#"{"f":{}}"#,
+            "true",
+        ),
+        (
+            Reader::Optional(OptionalReader::Object),
+            r#"{"f":1}"#,
+            "WrongType f",
+        ),
+        (
+            Reader::Optional(OptionalReader::Unset),
+            r#"{"f":[]}"#,
+            "unset",
+        ),
+        (
+            Reader::Optional(OptionalReader::Unset),
+            r#"{"f":false}"#,
+            "unset",
+        ),
+        (
+            Reader::Optional(OptionalReader::Unset),
+            r#"{"f":0}"#,
+            "NotSupported f",
+        ),
     ] {
         let value = Value::from_str(alloc, document)?;
-        let got = shown(alloc, read_by(alloc, reader, &value))?;
-        assert_eq!(rt; got.as_str(), want, "{reader} of {document}");
+        let got = shown(alloc, read_by(alloc, &top, reader, &value))?;
+        assert_eq!(rt; got.as_str(), want, "{document}");
     }
     Ok(())
 }
@@ -364,23 +510,25 @@ fn metadata_reads_in_order(rt: HostRuntime) -> Result<(), Fail> {
     Ok(())
 }
 
-#[test]
-fn paths_and_names_print(rt: HostRuntime) -> Result<(), Fail> {
-    let alloc = rt.alloc();
-    let path = Path::top(alloc).member(alloc, "a")?.member(alloc, "b")?;
-    let path = path.place(alloc, 0)?.key(alloc, "key")?;
-    let error = FieldError::of_field(alloc, &path, "f", Kind::Selector(Stage::Parse)).copy(alloc)?;
-    let text = format!(in alloc; "{error}")?;
-    assert_eq!(rt; text.as_str(), "Selector.Parse a.b[0][key].f");
-    let again = FieldError::at(alloc, &path.copy(alloc)?, Kind::Doubled);
-    let text = format!(in alloc; "{again}")?;
-    assert_eq!(rt; text.as_str(), "Doubled a.b[0][key]");
-    let device = DeviceId {
+fn device(alloc: Global) -> Result<DeviceId, AllocError> {
+    Ok(DeviceId {
         driver: Text::from_str(alloc, "d")?,
         pool: Text::from_str(alloc, "p/q")?,
         device: Text::from_str(alloc, "x")?,
-    };
-    let text = format!(in alloc; "{}", device.copy(alloc)?)?;
-    assert_eq!(rt; text.as_str(), "d/p/q/x");
+    })
+}
+
+fn printed_device(alloc: Global) -> Result<String, AllocError> {
+    let device = device(alloc)?;
+    format!(in alloc; "{device}")
+}
+
+#[test]
+fn words_and_names_print(rt: HostRuntime) -> Result<(), Fail> {
+    let alloc = rt.alloc();
+    let word = format!(in alloc; "{}", Kind::Selector(Stage::Parse))?;
+    assert_eq!(rt; word.as_str(), "Selector.Parse");
+    let name = printed_device(alloc)?;
+    assert_eq!(rt; name.as_str(), "d/p/q/x");
     Ok(())
 }

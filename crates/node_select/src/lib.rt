@@ -1,0 +1,11 @@
+//! Node selectors as data, and which nodes they select.
+#![tactic(auto)]
+
+mod number;
+mod requirement;
+mod selector;
+#[cfg(test)]
+mod tests;
+
+pub use requirement::{Requirement, Test};
+pub use selector::Selector;
