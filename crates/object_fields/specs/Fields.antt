@@ -84,9 +84,13 @@ value_at path d = some_or (error_at path Missing) (not_null d)
 abbrev pub text_value : List Step → Data → Result (List ℕ) FieldError
 text_value path d = value_at path d >>= λ v. some_or (error_at path WrongType) (as_str v)
 
--- a value that is an object, and its members
+-- the members of a value that is an object
 abbrev pub table_value : List Step → Data → Result Members FieldError
 table_value path d = value_at path d >>= λ v. some_or (error_at path WrongType) (as_object v)
+
+-- a value that is an object
+abbrev pub object_value : List Step → Data → Result Data FieldError
+object_value path d = table_value path d >>= λ ms. Ok (object ms)
 
 -- ---- a field: the member of that name of what stands at the path
 
@@ -162,10 +166,14 @@ signed_at path name d = whole_at path name d >>= below_two_to_63 (field_error pa
 
 -- ---- names
 
--- A text of at most so many bytes that passes the test. Its length is looked at first.
+-- A text of at most so many bytes that is a name, as `right` says. Its length is looked at first.
+abbrev pub judged : List Step → ℕ → Bool → List ℕ → Result (List ℕ) FieldError
+judged path most right text =
+    if nat_lt most (length text) then Err (error_at path TooLong) else (if right then Ok text else Err (error_at path BadName))
+
+-- a text of at most so many bytes that passes the test
 abbrev pub name_in : List Step → ℕ → (List ℕ → Bool) → List ℕ → Result (List ℕ) FieldError
-name_in path most test text =
-    if nat_lt most (length text) then Err (error_at path TooLong) else (if test text then Ok text else Err (error_at path BadName))
+name_in path most test text = judged path most (test text) text
 
 abbrev pub name_at : ℕ → (List ℕ → Bool) → List Step → List ℕ → Data → Result (List ℕ) FieldError
 name_at most test path name d = text_at path name d >>= name_in (path ++ Member name ∷ []) most test
