@@ -9,7 +9,8 @@ use Rattle.serde_json.specs.Data.{Data, Members, no_members, member}
 use Rattle.object_fields.specs.Names.{between}
 use Rattle.object_fields.specs.Fields.{dns_label_at, dns_subdomain_at, field_error, object_at, optional_at, some_or, table_at, text_at, text_value, ◌>>=◌}
 use Rattle.object_fields.specs.declared.path.Step.{Step}
-use Rattle.object_fields.specs.declared.path.Step.TheVariants.{Member, Key}
+use Rattle.object_fields.specs.declared.path.Step.TheVariants as step
+use Rattle.object_fields.specs.declared.key.Key.{Key}
 use Rattle.object_fields.specs.declared.kind.Kind.TheVariants.{WrongType}
 use Rattle.object_fields.specs.declared.error.FieldError.{FieldError}
 use Rattle.object_fields.specs.declared.meta.Scope.{Scope}
@@ -26,11 +27,17 @@ namespace_at Namespaced path d =
     optional_at dns_label_at path (codes "namespace") d >>= λ namespace. Ok (unwrap_or namespace (codes "default"))
 namespace_at Cluster path d = Ok []
 
+-- the name, then the namespace
+abbrev pub key_at : Scope → List Step → Data → Result Key FieldError
+key_at scope path d =
+    dns_subdomain_at name_most path (codes "name") d >>= λ name. namespace_at scope path d >>= λ namespace.
+    Ok (record { namespace = namespace; name = name })
+
 -- The labels with those of the members put in, at their keys. Each is a text.
 abbrev pub labels_with : List Step → List (List ℕ × List ℕ) → Members → Result (List (List ℕ × List ℕ)) FieldError
 labels_with path labels no_members = Ok labels
 labels_with path labels (member key d ms) =
-    text_value (path ++ Key key ∷ []) d >>= λ text. labels_with path (insert_entry (slice_cmp nat_cmp) labels key text) ms
+    text_value (path ++ step.Key key ∷ []) d >>= λ text. labels_with path (insert_entry (slice_cmp nat_cmp) labels key text) ms
 
 abbrev pub labels_of : List Step → Option Members → Result (List (List ℕ × List ℕ)) FieldError
 labels_of path None = Ok []
@@ -38,7 +45,7 @@ labels_of path (Some ms) = labels_with path [] ms
 
 abbrev pub labels_at : List Step → Data → Result (List (List ℕ × List ℕ)) FieldError
 labels_at path d =
-    optional_at table_at path (codes "labels") d >>= labels_of (path ++ Member (codes "labels") ∷ [])
+    optional_at table_at path (codes "labels") d >>= labels_of (path ++ step.Member (codes "labels") ∷ [])
 
 -- decimal digits with no 0 before another
 abbrev pub is_digit : ℕ → Bool
@@ -72,13 +79,10 @@ version_at path d = optional_at text_at path (codes "resourceVersion") d >>= ver
 -- name, namespace, labels and version, in this order
 abbrev pub members_at : Scope → List Step → Data → Result ObjectMeta FieldError
 members_at scope path d =
-    dns_subdomain_at name_most path (codes "name") d >>= λ name.
-    namespace_at scope path d >>= λ namespace.
-    labels_at path d >>= λ labels.
-    version_at path d >>= λ version.
-    Ok (record { key = record { namespace = namespace; name = name }; labels = labels; version = version })
+    key_at scope path d >>= λ key. labels_at path d >>= λ labels. version_at path d >>= λ version.
+    Ok (record { key = key; labels = labels; version = version })
 
 -- the metadata of the object that a document is
 abbrev pub meta_at : Scope → Data → Result ObjectMeta FieldError
 meta_at scope d =
-    object_at [] (codes "metadata") d >>= members_at scope (Member (codes "metadata") ∷ [])
+    object_at [] (codes "metadata") d >>= members_at scope (step.Member (codes "metadata") ∷ [])

@@ -1,6 +1,6 @@
 -- Qualified names of attributes and capacities (API reference of resource.k8s.io/v1).
 use Rattle.std.specs.Prelude.{ℕ, ◌==◌, nat_lt, ◌&&◌, ◌||◌, Bool, false, List, [], ◌∷◌, length, Option, Some, None, Result, Ok, Err, if◌then◌else◌}
-use Rattle.std.specs.List.{list_all}
+use Rattle.std.specs.List.{after_first, before_first, list_all, position_or_len}
 use Rattle.object_fields.specs.Names.{between, is_dns_name}
 use Rattle.object_fields.specs.Fields.{error_at, name_in, ◌>>=◌}
 use Rattle.object_fields.specs.declared.path.Step.{Step}
@@ -32,13 +32,9 @@ abbrev pub id_most : ℕ
 id_most = 32
 
 -- what stands before and behind the first such byte
-abbrev pub with_first : ℕ → Option (List ℕ × List ℕ) → Option (List ℕ × List ℕ)
-with_first b None = None
-with_first b (Some p) = Some (b ∷ p.0, p.1)
-
 abbrev pub cut_at : ℕ → List ℕ → Option (List ℕ × List ℕ)
-cut_at cut [] = None
-cut_at cut (b ∷ bs) = if b == cut then Some ([], bs) else with_first b (cut_at cut bs)
+cut_at cut s =
+    if nat_lt (position_or_len (λ b. b == cut) s) (length s) then Some (before_first (λ b. b == cut) s, after_first (λ b. b == cut) s) else None
 
 -- `domain/id`, cut at the first `/`; the lengths are looked at first
 abbrev pub domain_and_id : List Step → List ℕ → List ℕ → Result QualName FieldError

@@ -12,6 +12,7 @@ use serde_json::{Map, Value};
 use std::alloc::Global;
 
 /// A list of at most `most` items, borrowed. Missing, then WrongType, then TooMany.
+#[tactic(auto, using(crate::proofs::Lengths::items_length_view))]
 pub fn short_list<'a>(
     alloc: Global,
     object: &'a Value,

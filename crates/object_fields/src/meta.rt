@@ -50,27 +50,34 @@ impl ObjectMeta {
         let top = Path::top(alloc);
         let meta = object_field(alloc, document, &top, "metadata")?;
         let path = top.member(alloc, "metadata")?;
-        let name = read_dns_subdomain(alloc, meta, &path, "name", NAME_MOST)?;
-        let namespace = namespace(alloc, meta, &path, scope)?;
-        let labels = labels(alloc, meta, &path)?;
-        let version = version(alloc, meta, &path)?;
-        let key = Key { namespace, name };
-        Ok(ObjectMeta {
-            key,
-            labels,
-            version,
-        })
+        members(alloc, meta, &path, scope)
     }
 }
 
 ghost use Rattle.object_fields.specs.Meta as spec;
 
-fn namespace(
-    alloc: Global,
-    meta: &Value,
-    path: &Path,
-    scope: Scope,
-) -> Result<Text, FieldError>
+fn members(alloc: Global, meta: &Value, path: &Path, scope: Scope) -> Result<ObjectMeta, FieldError>
+    ensures { Reads result (spec.members_at scope path.now (view meta.now)) }
+{
+    let key = key(alloc, meta, path, scope)?;
+    let labels = labels(alloc, meta, path)?;
+    let version = version(alloc, meta, path)?;
+    Ok(ObjectMeta {
+        key,
+        labels,
+        version,
+    })
+}
+
+fn key(alloc: Global, meta: &Value, path: &Path, scope: Scope) -> Result<Key, FieldError>
+    ensures { Reads result (spec.key_at scope path.now (view meta.now)) }
+{
+    let name = read_dns_subdomain(alloc, meta, path, "name", NAME_MOST)?;
+    let namespace = namespace(alloc, meta, path, scope)?;
+    Ok(Key { namespace, name })
+}
+
+fn namespace(alloc: Global, meta: &Value, path: &Path, scope: Scope) -> Result<Text, FieldError>
     ensures { Reads result (spec.namespace_at scope path.now (view meta.now)) }
 {
     match scope {
@@ -130,12 +137,7 @@ fn version_number(alloc: Global, path: &Path, text: &str) -> Result<Option<u64>,
     }
     match decimal(text) {
         Some(number) => Ok(Some(number)),
-        None => Err(FieldError::of_field(
-            alloc,
-            path,
-            "resourceVersion",
-            Kind::WrongType,
-        )),
+        None => Err(FieldError::of_field(alloc, path, "resourceVersion", Kind::WrongType)),
     }
 }
 

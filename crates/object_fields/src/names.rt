@@ -26,33 +26,44 @@ pub fn dns_subdomain(text: &str, most: usize) -> bool
 }
 
 /// Whether the text is a DNS subdomain of any length. Takes no memory.
+#[tactic(auto, using(crate::proofs::Scan::goes_by_points))]
 pub fn dns_name(text: &str) -> bool
     ensures { result ≡ is_dns_name text.now }
 {
-    joined(text.as_bytes(), false)
+    joined(text.as_bytes(), Cuts::Points)
 }
 
 /// Whether the text is one or more DNS subdomains joined by `/`, of any length. Takes no memory.
+#[tactic(auto, using(crate::proofs::Scan::goes_by_slashes))]
 pub fn pool_name(text: &str) -> bool
     ensures { result ≡ is_pool_name text.now }
 {
-    joined(text.as_bytes(), true)
+    joined(text.as_bytes(), Cuts::PointsAndSlashes)
 }
 
-/// Whether the bytes are a part of a DNS name: it has no point and no slash.
+/// Whether the bytes are a part of a DNS name.
+#[tactic(auto, using(crate::proofs::Scan::goes_whole))]
 fn dns_part(text: &[u8]) -> bool
     ensures { result ≡ is_dns_part text.now }
 {
-    !text.contains(&b'.') && joined(text, false)
+    joined(text, Cuts::Nowhere)
 }
 
-/// Whether the bytes are parts joined by `.`, and with `slashes` by `/` too.
-fn joined(text: &[u8], slashes: bool) -> bool
-    ensures { result ≡ goes_on slashes 46 text.now }
+/// The bytes that stand between the parts of a name.
+#[derive(Clone, Copy)]
+enum Cuts {
+    Nowhere,
+    Points,
+    PointsAndSlashes,
+}
+
+/// Whether the bytes are parts with a cut between each two.
+fn joined(text: &[u8], cuts: Cuts) -> bool
+    ensures { result ≡ goes_on (is_cut cuts) 46 text.now }
 {
     let mut before = b'.';
     for byte in text {
-        if !follows(before, *byte, slashes) {
+        if !follows(before, *byte, cuts) {
             return false;
         }
         before = *byte;
@@ -60,21 +71,23 @@ fn joined(text: &[u8], slashes: bool) -> bool
     lower_or_digit(before)
 }
 
-fn follows(before: u8, byte: u8, slashes: bool) -> bool
-    ensures { result ≡ may_follow slashes before byte }
+/// Whether the byte may stand behind that before it.
+fn follows(before: u8, byte: u8, cuts: Cuts) -> bool
+    ensures { result ≡ may_follow (is_cut cuts) before byte }
 {
-    match byte {
-        b'-' => !cut(before, slashes),
-        b'.' => lower_or_digit(before),
-        b'/' => slashes && lower_or_digit(before),
-        _ => lower_or_digit(byte),
-    }
+    lower_or_digit(byte)
+        || (byte == b'-' && (lower_or_digit(before) || before == b'-'))
+        || (cut(byte, cuts) && lower_or_digit(before))
 }
 
-fn cut(byte: u8, slashes: bool) -> bool
-    ensures { result ≡ is_cut slashes byte }
+fn cut(byte: u8, cuts: Cuts) -> bool
+    ensures { result ≡ is_cut cuts byte }
 {
-    byte == b'.' || (slashes && byte == b'/')
+    match cuts {
+        Cuts::Nowhere => false,
+        Cuts::Points => byte == b'.',
+        Cuts::PointsAndSlashes => byte == b'.' || byte == b'/',
+    }
 }
 
 fn lower_or_digit(byte: u8) -> bool

@@ -3,8 +3,8 @@ ghost use Rattle.object_fields.specs.Fields.{Reads};
 
 use crate::error::{FieldError, or_memory};
 use crate::kind::Kind;
-use crate::naming::named;
 use crate::names::dns_name;
+use crate::naming::named;
 use crate::path::Path;
 use dra_values::{Duplicate, Text};
 use std::alloc::{AllocError, Global};
