@@ -1,26 +1,42 @@
 use crate::ResourceClaim;
+use object_fields::FieldError;
 use serde_json::Value;
 use std::alloc::{AllocError, Global};
 use std::test::Fail;
 
-/// What the reader answers, as text: the fields, `not built`, or the word and the path of the error.
+/// What the reader answers to a document, as text.
 fn shown(alloc: Global, document: &str) -> Result<String, Fail> {
     let value = Value::from_str(alloc, document)?;
-    match ResourceClaim::read(alloc, &value) {
-        Ok(Some(claim)) => Ok(claim_text(alloc, &claim)?),
-        Ok(None) => Ok(String::from_str(alloc, "not built")?),
-        Err(error) => Ok(format!(in alloc; "{error}")?),
+    let answer = ResourceClaim::read(alloc, &value);
+    Ok(answer_text(alloc, &answer)?)
+}
+
+/// The fields, `not built`, or the word and the path of the error.
+fn answer_text(
+    alloc: Global,
+    answer: &Result<Option<ResourceClaim>, FieldError>,
+) -> Result<String, AllocError> {
+    match answer {
+        Ok(Some(claim)) => copied_text(alloc, claim),
+        Ok(None) => String::from_str(alloc, "not built"),
+        Err(error) => format!(in alloc; "{error}"),
     }
 }
 
+fn copied_text(alloc: Global, claim: &ResourceClaim) -> Result<String, AllocError> {
+    let copy = claim.copy(alloc)?;
+    claim_text(alloc, &copy)
+}
+
 fn claim_text(alloc: Global, claim: &ResourceClaim) -> Result<String, AllocError> {
-    let claim = claim.copy(alloc)?;
-    let mut requests = String::new(alloc);
+    let mut text = format!(in alloc; "{}", claim.key)?;
     for request in claim.requests.as_slice() {
-        let text = format!(in alloc; " {}:{}", request.name, request.exactly.class)?;
-        requests.push_str(text.as_str())?;
+        text.push(' ')?;
+        text.push_str(request.name.as_str())?;
+        text.push(':')?;
+        text.push_str(request.exactly.class.as_str())?;
     }
-    format!(in alloc; "{}{requests}", claim.key)
+    Ok(text)
 }
 
 #[test]

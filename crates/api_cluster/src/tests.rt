@@ -1,44 +1,67 @@
 use crate::{DeviceClass, Node, Pod};
+use object_fields::FieldError;
 use serde_json::Value;
 use std::alloc::{AllocError, Global};
 use std::test::Fail;
 
-/// What the reader of that kind answers, as text: the fields, `not built`, or the word and the path
-/// of the error.
-fn shown(alloc: Global, kind: &str, document: &str) -> Result<String, Fail> {
-    let value = Value::from_str(alloc, document)?;
-    let found = match kind {
-        "Node" => Node::read(alloc, &value).map(|node| node.map(|node| node_text(alloc, &node))),
-        "Class" => {
-            DeviceClass::read(alloc, &value).map(|class| class.map(|class| class_text(
-                alloc, &class,
-            )))
-        }
-        _ => Pod::read(alloc, &value).map(|pod| pod.map(|pod| pod_text(alloc, &pod))),
-    };
-    match found {
-        Ok(Some(text)) => Ok(text?),
-        Ok(None) => Ok(String::from_str(alloc, "not built")?),
-        Err(error) => Ok(format!(in alloc; "{error}")?),
+/// `not built`, or the word and the path of the error.
+fn failure(alloc: Global, error: Option<&FieldError>) -> Result<String, AllocError> {
+    match error {
+        Some(error) => format!(in alloc; "{error}"),
+        None => String::from_str(alloc, "not built"),
     }
 }
 
-fn node_text(alloc: Global, node: &Node) -> Result<String, AllocError> {
-    format!(in alloc; "{}", node.copy(alloc)?.name)
+fn node(alloc: Global, value: &Value) -> Result<String, AllocError> {
+    match Node::read(alloc, value) {
+        Ok(Some(node)) => Ok(node.copy(alloc)?.name.into_string()),
+        Ok(None) => failure(alloc, None),
+        Err(error) => failure(alloc, Some(&error)),
+    }
 }
 
-fn class_text(alloc: Global, class: &DeviceClass) -> Result<String, AllocError> {
-    format!(in alloc; "{}", class.copy(alloc)?.name)
+fn class(alloc: Global, value: &Value) -> Result<String, AllocError> {
+    match DeviceClass::read(alloc, value) {
+        Ok(Some(class)) => Ok(class.copy(alloc)?.name.into_string()),
+        Ok(None) => failure(alloc, None),
+        Err(error) => failure(alloc, Some(&error)),
+    }
+}
+
+fn pod(alloc: Global, value: &Value) -> Result<String, AllocError> {
+    match Pod::read(alloc, value) {
+        Ok(Some(pod)) => copied_text(alloc, &pod),
+        Ok(None) => failure(alloc, None),
+        Err(error) => failure(alloc, Some(&error)),
+    }
+}
+
+fn copied_text(alloc: Global, pod: &Pod) -> Result<String, AllocError> {
+    let copy = pod.copy(alloc)?;
+    pod_text(alloc, &copy)
 }
 
 fn pod_text(alloc: Global, pod: &Pod) -> Result<String, AllocError> {
-    let pod = pod.copy(alloc)?;
-    let mut claims = String::new(alloc);
+    let mut text = format!(in alloc; "{}", pod.key)?;
     for claim in pod.claims.as_slice() {
-        let entry = format!(in alloc; " {}={}", claim.name, claim.claim)?;
-        claims.push_str(entry.as_str())?;
+        text.push(' ')?;
+        text.push_str(claim.name.as_str())?;
+        text.push('=')?;
+        text.push_str(claim.claim.as_str())?;
     }
-    format!(in alloc; "{}{claims}", pod.key)
+    Ok(text)
+}
+
+/// What the reader of that kind answers to a document, as text: the fields, `not built`, or the
+/// word and the path of the error.
+fn shown(alloc: Global, kind: &str, document: &str) -> Result<String, Fail> {
+    let value = Value::from_str(alloc, document)?;
+    let text = match kind {
+        "Node" => node(alloc, &value),
+        "Class" => class(alloc, &value),
+        _ => pod(alloc, &value),
+    };
+    Ok(text?)
 }
 
 #[test]

@@ -1,30 +1,46 @@
-use crate::ResourceSlice;
+use crate::{Pool, ResourceSlice};
+use object_fields::FieldError;
 use serde_json::Value;
 use std::alloc::{AllocError, Global};
 use std::test::Fail;
 
-/// What the reader answers, as text: the fields, `not built`, or the word and the path of the error.
+/// What the reader answers to a document, as text.
 fn shown(alloc: Global, document: &str) -> Result<String, Fail> {
     let value = Value::from_str(alloc, document)?;
-    match ResourceSlice::read(alloc, &value) {
-        Ok(Some(slice)) => Ok(slice_text(alloc, &slice)?),
-        Ok(None) => Ok(String::from_str(alloc, "not built")?),
-        Err(error) => Ok(format!(in alloc; "{error}")?),
+    let answer = ResourceSlice::read(alloc, &value);
+    Ok(answer_text(alloc, &answer)?)
+}
+
+/// The fields, `not built`, or the word and the path of the error.
+fn answer_text(
+    alloc: Global,
+    answer: &Result<Option<ResourceSlice>, FieldError>,
+) -> Result<String, AllocError> {
+    match answer {
+        Ok(Some(slice)) => copied_text(alloc, slice),
+        Ok(None) => String::from_str(alloc, "not built"),
+        Err(error) => format!(in alloc; "{error}"),
     }
 }
 
+fn copied_text(alloc: Global, slice: &ResourceSlice) -> Result<String, AllocError> {
+    let copy = slice.copy(alloc)?;
+    slice_text(alloc, &copy)
+}
+
 fn slice_text(alloc: Global, slice: &ResourceSlice) -> Result<String, AllocError> {
-    let slice = slice.copy(alloc)?;
-    let pool = slice.pool.copy(alloc)?;
-    let mut devices = String::new(alloc);
+    let pool = pool_text(alloc, &slice.pool)?;
+    let mut text = format!(in alloc; "{} {} {pool} {}", slice.name, slice.driver, slice.node)?;
     for device in slice.devices.as_slice() {
-        devices.push(' ')?;
-        devices.push_str(device.name.as_str())?;
+        text.push(' ')?;
+        text.push_str(device.name.as_str())?;
     }
-    format!(in alloc;
-        "{} {} {} {} {} {}{devices}",
-        slice.name, slice.driver, pool.name, pool.generation, pool.slices, slice.node
-    )
+    Ok(text)
+}
+
+fn pool_text(alloc: Global, pool: &Pool) -> Result<String, AllocError> {
+    let copy = pool.copy(alloc)?;
+    format!(in alloc; "{} {} {}", copy.name, copy.generation, copy.slices)
 }
 
 /// `a` so many times, in quotes.
