@@ -1,0 +1,4 @@
+pub mod Form
+pub mod Nodes
+pub mod Classes
+pub mod Pods

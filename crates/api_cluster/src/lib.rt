@@ -1,6 +1,12 @@
 //! Nodes, DeviceClasses and Pods, as far as their fields say where devices may go.
 #![tactic(auto)]
 
+mod class;
+mod form;
+mod node;
+mod pod;
+#[cfg(test)]
+mod tests;
 mod types;
 
 pub use types::{DeviceClass, Node, Pod, PodResourceClaim};
