@@ -1,0 +1,13 @@
+//! The rules of an allocation: which devices a node has, which of them a claim may be given, and
+//! what a plan for a pod is.
+#![tactic(auto)]
+
+mod object;
+mod order;
+mod plan;
+mod pool;
+mod state;
+
+pub use object::Object;
+pub use plan::{Cause, DeviceResult, Grant, Known, KnownClaim, Passed, Plan, Verdict};
+pub use state::{ClaimState, Granted, Phase, PodState, State, Stored, Use};
