@@ -2,6 +2,7 @@
 //! what a plan for a pod is.
 #![tactic(auto)]
 
+mod free;
 mod object;
 mod order;
 mod plan;
