@@ -3,12 +3,14 @@
 #![tactic(auto)]
 
 mod free;
+mod laws;
 mod object;
 mod order;
 mod plan;
 mod pool;
 mod state;
 
+pub use laws::{plan_holds, unsat_is_true, walk_is_allocations};
 pub use object::Object;
 pub use plan::{Cause, DeviceResult, Grant, Known, KnownClaim, Passed, Plan, Verdict};
 pub use state::{ClaimState, Granted, Phase, PodState, State, Stored, Use};
