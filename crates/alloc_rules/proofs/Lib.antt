@@ -5,3 +5,4 @@ pub mod Picked
 pub mod Places
 pub mod Allocations
 pub mod Walks
+pub mod Wanted

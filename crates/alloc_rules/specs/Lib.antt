@@ -5,3 +5,4 @@ pub mod Claims
 pub mod Rules
 pub mod Allocation
 pub mod Plans
+pub mod Fits

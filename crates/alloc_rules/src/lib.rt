@@ -2,6 +2,7 @@
 //! what a plan for a pod is.
 #![tactic(auto)]
 
+mod fit;
 mod free;
 mod laws;
 mod object;
@@ -10,6 +11,7 @@ mod plan;
 mod pool;
 mod state;
 
+pub use fit::{first_fit, Fit, NodeFit};
 pub use laws::{plan_holds, unsat_is_true, walk_is_allocations};
 pub use object::Object;
 pub use plan::{Cause, DeviceResult, Grant, Known, KnownClaim, Passed, Plan, Verdict};
