@@ -6,3 +6,5 @@ pub mod Places
 pub mod Allocations
 pub mod Walks
 pub mod Wanted
+pub mod Bridge
+pub mod Decided

@@ -1,13 +1,16 @@
 -- The one claim of a pod of the form that is built.
-use Rattle.std.proofs.Common.{ℕ, ◌≡◌, ◌∙◌, List, [], ◌∷◌, Bool, true, false, ◌&&◌, Option, None, Some, map, ◌++◌, refl, sym, ap}
+use Rattle.std.proofs.Common.{ℕ, ◌≡◌, ◌≤◌, ◌==◌, ◌∙◌, nat_lt, length, get_or, arith, length-append, List, [], ◌∷◌, Bool, true, false, ◌&&◌, Option, None, Some, map, ◌++◌, refl, sym, ap}
 use Rattle.std.specs.List.{find, slice_get}
 use Rattle.std.specs.Option.{is_none, option_to_list}
-use Rattle.std.proofs.lemmas.Bool.{and_parts}
+use Rattle.std.proofs.lemmas.Bool.{and_parts, eqb-true}
+use Rattle.std.proofs.lemmas.List.{length-map}
 use Rattle.object_fields.specs.declared.key.DeviceId.{DeviceId}
 use Rattle.object_fields.specs.declared.key.Key.{Key}
 use Rattle.api_claim.specs.declared.types.DeviceRequest.{DeviceRequest}
 use Rattle.api_cluster.specs.declared.types.Pod.{Pod}
 use Rattle.alloc_rules.specs.declared.fit.Fit.TheVariants as fit
+use Rattle.alloc_rules.specs.declared.plan.DeviceResult.{DeviceResult}
+use Rattle.alloc_rules.specs.declared.plan.Grant.{Grant}
 use Rattle.alloc_rules.specs.declared.state.ClaimState.{ClaimState}
 use Rattle.alloc_rules.specs.declared.state.Granted.{Granted}
 use Rattle.alloc_rules.specs.declared.state.Phase.{Phase}
@@ -16,8 +19,8 @@ use Rattle.alloc_rules.specs.declared.state.PodState.{PodState}
 use Rattle.alloc_rules.specs.declared.state.State.{State}
 use Rattle.alloc_rules.specs.Names.{at_key}
 use Rattle.alloc_rules.specs.Pools.{is_free}
-use Rattle.alloc_rules.specs.Claims.{Slot, add_ungranted, add_wanted, claim_built, claim_keys, claims_built, first_places, is_idle, pod_built, schedule_built, slots_of, wanted, wanted_of}
-use Rattle.alloc_rules.specs.Rules.{is_met, results_for}
+use Rattle.alloc_rules.specs.Claims.{Slot, add_ungranted, add_wanted, claim_built, claim_keys, claims_built, first_places, is_idle, most_users, pod_built, schedule_built, slots_of, wanted, wanted_of}
+use Rattle.alloc_rules.specs.Rules.{grants_for, is_met, results_for}
 use Rattle.alloc_rules.specs.Fits.{fit_with, request_due, fits_by, fits_for, fits_of}
 
 find_never : {X : Type 0} (b : Bool) (f : X → Bool) (xs : List X) → b ≡ false → find (λ x. b && f x) xs ≡ None
@@ -94,3 +97,38 @@ fits_there s pod p e = ap (fits_by s) e
 pub no_results : (rs : List DeviceRequest) → results_for rs [] ≡ []
 no_results [] = refl
 no_results (r ∷ rs) = refl
+
+pub results_first : (rs : List DeviceRequest) (r : DeviceRequest) (d : DeviceId) → 1 ≤ length rs → r ≡ get_or rs 0 r → record { name = r.name; device = d; admin = false } ∷ [] ≡ results_for rs (d ∷ [])
+results_first [] r d h e = absurd (omega arith)
+results_first (x ∷ xs) r d h e =
+    let same : r ≡ x = e in
+    ap (λ q. record { name = q.name; device = d; admin = false } ∷ []) same ∙ ap (λ l. record { name = x.name; device = d; admin = false } ∷ l) (sym (no_results xs))
+
+pub no_grants : (s : State) (pod : Pod) (k : Option Key) (ds : List DeviceId) (gs : List Grant) → gs ≡ [] → option_to_list k ≡ claim_keys pod → k ≡ None → gs ≡ grants_for (wanted s pod) ds
+no_grants s pod k ds gs n e f = n ∙ ap (λ cs. grants_for cs ds) (wanted_none s pod k e f)
+
+pub one_grants : (s : State) (pod : Pod) (key : Key) (ds : List DeviceId) → OneClaim s pod key → grants_for (add_wanted key (at_key s.claims key) []) ds ≡ grants_for (wanted s pod) ds
+one_grants s pod key ds o = ap (λ cs. grants_for cs ds) (sym o.is_wanted)
+
+short_of : (k : Key) (c : ClaimState) (g : Option Granted) → is_none g ≡ true → length c.claim.object.requests ≡ 1 → length (slots_of (add_ungranted k c g [])) ≤ 1
+unfolding slots_of
+short_of k c None e h = simp (length-append, length-map) (omega (arith, h))
+short_of k c (Some g) e h = absurd (cc)
+
+short_at : (k : Key) (o : Option ClaimState) → claim_built o ≡ true → length (slots_of (add_wanted k o [])) ≤ 1
+short_at k None e = absurd (cc)
+short_at k (Some c) e =
+    let a = and_parts (is_none c.grant) (nat_lt (length c.users) most_users && (length c.claim.object.requests == 1)) e in
+    let b = and_parts (nat_lt (length c.users) most_users) (length c.claim.object.requests == 1) a.1 in
+    short_of k c c.grant a.0 (eqb-true (length c.claim.object.requests) 1 b.1)
+
+short_by : (s : State) (ks : List Key) → claims_built s ks ≡ true → length (slots_of (wanted_of s (first_places [] ks))) ≤ 1
+unfolding slots_of
+short_by s [] h = omega arith
+short_by s (k ∷ []) h = short_at k (at_key s.claims k) h
+short_by s (k ∷ l ∷ ks) h = absurd (cc)
+
+-- at most one result is due
+pub one_slot : (s : State) (pod : Pod) → claims_built s (claim_keys pod) ≡ true → length (slots_of (wanted s pod)) ≤ 1
+unfolding wanted
+one_slot s pod h = short_by s (claim_keys pod) h

@@ -6,3 +6,4 @@ pub mod Rules
 pub mod Allocation
 pub mod Plans
 pub mod Fits
+pub mod Decisions
