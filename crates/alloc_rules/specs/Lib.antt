@@ -1,0 +1,9 @@
+pub mod Names
+pub mod State
+pub mod Pools
+pub mod Claims
+pub mod Rules
+pub mod Allocation
+pub mod Plans
+pub mod Fits
+pub mod Decisions

@@ -1,0 +1,123 @@
+-- Pools, and the devices of a node.
+use Rattle.std.specs.Prelude.{ℕ, ◌+◌, ◌==◌, List, [], ◌∷◌, Bool, false, not, ◌&&◌, ◌||◌, Option, None, Some, map, filter, length, max, if◌then◌else◌}
+use Rattle.std.specs.List.{flat_map, list_any, list_all}
+use Rattle.std.specs.Ordering.{ordering_then}
+use Rattle.std.specs.declared.cmp.Ordering.{Ordering}
+use Rattle.std.specs.BTreeSet.{insert_key}
+use Rattle.object_fields.specs.declared.key.DeviceId.{DeviceId}
+use Rattle.api_slice.specs.declared.types.ResourceSlice.{ResourceSlice}
+use Rattle.api_slice.specs.declared.types.Device.{Device}
+use Rattle.alloc_rules.specs.declared.order.SlicePlace.{SlicePlace}
+use Rattle.alloc_rules.specs.declared.state.State.{State}
+use Rattle.alloc_rules.specs.declared.state.Stored.{Stored}
+use Rattle.alloc_rules.specs.declared.state.Granted.{Granted}
+use Rattle.alloc_rules.specs.declared.plan.DeviceResult.{DeviceResult}
+use Rattle.alloc_rules.specs.Names.{text_cmp, text_eq, device_eq, at_name}
+
+-- stored objects, by name
+abbrev pub Named : Type 0 → Type 0
+Named T = List (List ℕ × Stored T)
+
+-- the slices of a pool
+abbrev pub slices_of : List ℕ → List ℕ → Named ResourceSlice → List ResourceSlice
+slices_of driver pool [] = []
+slices_of driver pool (e ∷ es) =
+    let x = e.1.object in
+    if text_eq x.driver driver && text_eq x.pool.name pool then x ∷ slices_of driver pool es else slices_of driver pool es
+
+abbrev pub highest : List ResourceSlice → ℕ
+highest [] = 0
+highest (x ∷ xs) = max x.pool.generation (highest xs)
+
+-- those of one generation
+abbrev pub of_generation : ℕ → List ResourceSlice → List ResourceSlice
+of_generation n xs = filter (λ x. x.pool.generation == n) xs
+
+-- the slices of a pool that have its highest generation
+unfoldable pub pool_of : Named ResourceSlice → List ℕ → List ℕ → List ResourceSlice
+pool_of all driver pool = let xs = slices_of driver pool all in of_generation (highest xs) xs
+
+-- how many slices each says that the pool has
+abbrev pub counts_of : List ResourceSlice → List ℕ
+counts_of xs = map (λ x. x.pool.slices) xs
+
+-- there are as many as each says
+abbrev pub is_complete : List ℕ → Bool
+is_complete counts = list_all (λ n. n == length counts) counts
+
+-- two say different numbers
+abbrev pub counts_differ : List ℕ → Bool
+counts_differ counts = list_any (λ n. list_any (λ m. not (n == m)) counts) counts
+
+abbrev pub device_names : ResourceSlice → List (List ℕ)
+device_names x = map (λ d. d.name) x.devices
+
+abbrev pub has_twice : List (List ℕ) → Bool
+has_twice [] = false
+has_twice (n ∷ ns) = list_any (λ m. text_eq m n) ns || has_twice ns
+
+-- two disagree on the number, or a device name comes twice
+abbrev pub is_invalid : List ResourceSlice → Bool
+is_invalid xs = counts_differ (counts_of xs) || has_twice (flat_map device_names xs)
+
+unfoldable pub is_usable : List ResourceSlice → Bool
+is_usable xs = is_complete (counts_of xs) && not (is_invalid xs)
+
+-- the slice has the highest generation of its pool, and the pool is usable
+unfoldable pub is_used : Named ResourceSlice → ResourceSlice → Bool
+is_used all x =
+    (x.pool.generation == highest (slices_of x.driver x.pool.name all)) && is_usable (pool_of all x.driver x.pool.name)
+
+-- by driver, then by pool, then by slice
+abbrev pub place_cmp : SlicePlace → SlicePlace → Ordering
+place_cmp a b = ordering_then (text_cmp a.driver b.driver) (ordering_then (text_cmp a.pool b.pool) (text_cmp a.slice b.slice))
+
+abbrev pub place_of : ResourceSlice → SlicePlace
+place_of x = record { driver = x.driver; pool = x.pool.name; slice = x.name }
+
+-- the places of the used ones among the slices, each put where it stands in order
+abbrev pub placed : Named ResourceSlice → Named ResourceSlice → List SlicePlace → List SlicePlace
+placed all [] places = places
+placed all (e ∷ es) places =
+    placed all es (if is_used all e.1.object then insert_key place_cmp places (place_of e.1.object) else places)
+
+-- the slices of the usable pools, in the order of driver, pool and slice
+unfoldable pub used_places : State → List SlicePlace
+used_places s = placed s.slices s.slices []
+
+abbrev pub id_of : ResourceSlice → Device → DeviceId
+id_of x d = record { driver = x.driver; pool = x.pool.name; device = d.name }
+
+abbrev pub ids_for : List ℕ → Option (Stored ResourceSlice) → List DeviceId
+ids_for node None = []
+ids_for node (Some e) = if text_eq e.object.node node then map (id_of e.object) e.object.devices else []
+
+-- the devices of the slice at a place, where it is visible to the node
+abbrev pub devices_at : State → List ℕ → SlicePlace → List DeviceId
+devices_at s node p = ids_for node (at_name s.slices p.slice)
+
+-- all devices visible to the node in usable pools, in order
+unfoldable pub devices_on : State → List ℕ → List DeviceId
+devices_on s node = flat_map (devices_at s node) (used_places s)
+
+-- the devices of results without admin access
+abbrev pub devices_held : List DeviceResult → List DeviceId
+devices_held [] = []
+devices_held (r ∷ rs) = if r.admin then devices_held rs else r.device ∷ devices_held rs
+
+abbrev pub held_by : Option Granted → List DeviceId
+held_by None = []
+held_by (Some g) = devices_held g.results
+
+-- the devices that claims hold, whether or not a slice still has them
+unfoldable pub held : State → List DeviceId
+held s = flat_map (λ e. held_by e.1.grant) s.claims
+
+-- no claim holds the device
+unfoldable pub is_free : State → DeviceId → Bool
+is_free s d = not (list_any (λ h. device_eq h d) (held s))
+
+-- how many devices all slices have
+abbrev pub device_count : Named ResourceSlice → ℕ
+device_count [] = 0
+device_count (e ∷ es) = length e.1.object.devices + device_count es

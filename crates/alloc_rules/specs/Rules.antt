@@ -1,0 +1,83 @@
+-- Which devices may stand for which results, and the search's problem.
+use Rattle.std.specs.Prelude.{ℕ, List, [], ◌∷◌, ◌++◌, Bool, true, false, not, ◌&&◌, Option, None, Some, is_some, map, length, drop, slice_get}
+use Rattle.std.specs.List.{list_any}
+use Rattle.walk.specs.Walk.{Problem, Item, Open, walk}
+use Rattle.walk.specs.Outcome.{Outcome, outcome}
+use Rattle.object_fields.specs.declared.key.DeviceId.{DeviceId}
+use Rattle.api_claim.specs.declared.types.ResourceClaim.{ResourceClaim}
+use Rattle.api_claim.specs.declared.types.DeviceRequest.{DeviceRequest}
+use Rattle.api_cluster.specs.declared.types.Pod.{Pod}
+use Rattle.alloc_rules.specs.declared.state.State.{State}
+use Rattle.alloc_rules.specs.declared.plan.Grant.{Grant}
+use Rattle.alloc_rules.specs.declared.plan.DeviceResult.{DeviceResult}
+use Rattle.alloc_rules.specs.Names.{device_eq, at_name}
+use Rattle.alloc_rules.specs.Pools.{devices_on, is_free}
+use Rattle.alloc_rules.specs.Claims.{Slot, slots_of, wanted}
+
+-- the class of the request is there; without selectors each device then meets the request
+abbrev pub is_met : State → DeviceRequest → Bool
+is_met s r = is_some (at_name s.classes r.exactly.class)
+
+-- the device meets the slot's request, and no claim holds it
+abbrev pub fits : State → Option DeviceId → Option Slot → Bool
+fits s None slot = false
+fits s (Some d) None = false
+fits s (Some d) (Some slot) = is_met s slot.request && is_free s d
+
+abbrev pub same_device : Option DeviceId → Option DeviceId → Bool
+same_device None b = false
+same_device (Some a) None = false
+same_device (Some a) (Some b) = device_eq a b
+
+-- the device at a position may stand for the next slot, after the positions before it
+abbrev pub stands : State → List DeviceId → List Slot → List ℕ → ℕ → Bool
+stands s devices slots before x =
+    fits s (slice_get devices x) (slice_get slots (length before)) && not (list_any (λ y. same_device (slice_get devices y) (slice_get devices x)) before)
+
+-- each position against those before it
+abbrev pub each_after : (List ℕ → ℕ → Bool) → List ℕ → List ℕ → Bool
+each_after test before [] = true
+each_after test before (x ∷ xs) = test before x && each_after test (before ++ x ∷ []) xs
+
+-- the devices at the positions may stand for the first slots
+unfoldable pub is_good : State → List DeviceId → List Slot → List ℕ → Bool
+is_good s devices slots l = each_after (stands s devices slots) [] l
+
+-- the one way in which a request with `exactly` is met
+abbrev pub one_option : Slot → ℕ
+one_option slot = 1
+
+unfoldable pub problem_of : State → List ResourceClaim → List ℕ → Problem
+problem_of s claims node = record {
+  options = map one_option (slots_of claims);
+  devices = length (devices_on s node);
+  shape = λ c. Open (length (slots_of claims));
+  good = λ c l. is_good s (devices_on s node) (slots_of claims) l;
+}
+
+-- the walk of a node for a pod
+unfoldable pub walk_on : State → Pod → List ℕ → List Item
+walk_on s pod node = walk (problem_of s (wanted s pod) node)
+
+-- what a search of a node for a pod answers within a budget
+unfoldable pub outcome_on : State → Pod → List ℕ → ℕ → Outcome
+outcome_on s pod node budget = outcome budget (walk_on s pod node)
+
+abbrev pub add_device : Option DeviceId → List DeviceId → List DeviceId
+add_device None ds = ds
+add_device (Some d) ds = d ∷ ds
+
+-- the devices at the positions
+abbrev pub devices_picked : List DeviceId → List ℕ → List DeviceId
+devices_picked devices [] = []
+devices_picked devices (x ∷ xs) = add_device (slice_get devices x) (devices_picked devices xs)
+
+abbrev pub results_for : List DeviceRequest → List DeviceId → List DeviceResult
+results_for [] ds = []
+results_for (r ∷ rs) [] = []
+results_for (r ∷ rs) (d ∷ ds) = record { name = r.name; device = d; admin = false } ∷ results_for rs ds
+
+-- the devices granted to the claims in the order of their requests
+abbrev pub grants_for : List ResourceClaim → List DeviceId → List Grant
+grants_for [] ds = []
+grants_for (c ∷ cs) ds = record { claim = c.key; results = results_for c.requests ds } ∷ grants_for cs (drop (length c.requests) ds)

@@ -1,0 +1,20 @@
+//! The rules of an allocation: which devices a node has, which of them a claim may be given, and
+//! what a plan for a pod is.
+#![tactic(auto)]
+
+mod decision;
+mod fit;
+mod free;
+mod laws;
+mod object;
+mod order;
+mod plan;
+mod pool;
+mod state;
+
+pub use decision::{Decision, decide};
+pub use fit::{Fit, NodeFit, first_fit};
+pub use laws::{plan_holds, unsat_is_true, walk_is_allocations};
+pub use object::Object;
+pub use plan::{Cause, DeviceResult, Grant, Known, KnownClaim, Passed, Plan, Verdict};
+pub use state::{ClaimState, Granted, Phase, PodState, State, Stored, Use};

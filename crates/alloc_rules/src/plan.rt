@@ -1,0 +1,162 @@
+ghost use Rattle.std.specs.Prelude.{◌≡◌, IfOk};
+
+use dra_values::{Duplicate, Seq, Text};
+use object_fields::{DeviceId, Key};
+use std::alloc::{AllocError, Global};
+
+/// A device that was picked for a request of a claim.
+#[derive(Drop)]
+pub struct DeviceResult {
+    /// The request's name.
+    pub name: Text,
+    pub device: DeviceId,
+    /// Whether it was picked with admin access, which neither excludes other claims nor is excluded.
+    pub admin: bool,
+}
+
+/// What is to be granted to one claim.
+#[derive(Drop)]
+pub struct Grant {
+    pub claim: Key,
+    /// In the order of the claim's requests.
+    pub results: Seq<DeviceResult>,
+}
+
+/// Why a node wasn't taken.
+#[derive(Drop)]
+pub enum Cause {
+    /// It has no allocation for the pod.
+    Unsat,
+}
+
+/// A node that wasn't taken.
+#[derive(Drop)]
+pub struct Passed {
+    pub node: Text,
+    pub cause: Cause,
+}
+
+/// What a plan knew of a claim.
+#[derive(Drop)]
+pub struct KnownClaim {
+    pub claim: Key,
+    pub uid: u64,
+    /// The node of the grant that the claim had, if it had one.
+    pub node: Option<Text>,
+}
+
+/// What a plan knew of the pod and its claims.
+#[derive(Drop)]
+pub struct Known {
+    /// The pod's uid.
+    pub pod: u64,
+    pub claims: Seq<KnownClaim>,
+}
+
+/// What a search found for a pod at a place of the history.
+#[derive(Drop)]
+pub struct Plan {
+    /// The number of entries that stood in the history.
+    pub at: u64,
+    pub node: Text,
+    /// The nodes before this one in the order of names.
+    pub passed: Seq<Passed>,
+    /// One for each claim of the pod that had no grant.
+    pub grants: Seq<Grant>,
+    /// The claims of the pod that had a grant.
+    pub joins: Seq<Key>,
+    pub known: Known,
+}
+
+/// That a pod can't be scheduled at a place of the history: a cause for each node.
+#[derive(Drop)]
+pub struct Verdict {
+    /// The number of entries that stood in the history.
+    pub at: u64,
+    /// Each node, in the order of names.
+    pub nodes: Seq<Passed>,
+}
+
+impl Duplicate for DeviceResult {
+    fn duplicate(&self, alloc: Global) -> Result<DeviceResult, AllocError> {
+        Ok(DeviceResult {
+            name: self.name.copy(alloc)?,
+            device: self.device.copy(alloc)?,
+            admin: self.admin,
+        })
+    }
+}
+
+impl Duplicate for Grant {
+    fn duplicate(&self, alloc: Global) -> Result<Grant, AllocError> {
+        Ok(Grant {
+            claim: self.claim.copy(alloc)?,
+            results: self.results.copy(alloc)?,
+        })
+    }
+}
+
+impl Cause {
+    /// An equal cause.
+    pub fn copy(&self) -> Cause
+        ensures { result ≡ self.now }
+    {
+        match self {
+            Cause::Unsat => Cause::Unsat,
+        }
+    }
+}
+
+impl Duplicate for Passed {
+    fn duplicate(&self, alloc: Global) -> Result<Passed, AllocError> {
+        Ok(Passed {
+            node: self.node.copy(alloc)?,
+            cause: self.cause.copy(),
+        })
+    }
+}
+
+impl Duplicate for KnownClaim {
+    fn duplicate(&self, alloc: Global) -> Result<KnownClaim, AllocError> {
+        let node = match &self.node {
+            None => None,
+            Some(node) => Some(node.copy(alloc)?),
+        };
+        Ok(KnownClaim {
+            claim: self.claim.copy(alloc)?,
+            uid: self.uid,
+            node,
+        })
+    }
+}
+
+impl Plan {
+    /// An equal plan.
+    pub fn copy(&self, alloc: Global) -> Result<Plan, AllocError>
+        ensures { IfOk result (λ copy. copy ≡ self.now) }
+    {
+        Ok(Plan {
+            at: self.at,
+            node: self.node.copy(alloc)?,
+            passed: self.passed.copy(alloc)?,
+            grants: self.grants.copy(alloc)?,
+            joins: self.joins.copy(alloc)?,
+            known: Known {
+                pod: self.known.pod,
+                claims: self.known.claims.copy(alloc)?,
+            },
+        })
+    }
+}
+
+impl Verdict {
+    /// An equal verdict.
+    pub fn copy(&self, alloc: Global) -> Result<Verdict, AllocError>
+        ensures { IfOk result (λ copy. copy ≡ self.now) }
+    {
+        Ok(Verdict {
+            at: self.at,
+            nodes: self.nodes.copy(alloc)?,
+        })
+    }
+}
