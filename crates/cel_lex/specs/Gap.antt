@@ -1,5 +1,6 @@
 -- Blanks and comments.
-use Rattle.std.specs.Prelude.{ℕ, ◌+◌, List, [], ◌∷◌, if◌then◌else◌, ◌==◌, ◌&&◌, not, Bool, true, false}
+use Rattle.std.specs.Prelude.{ℕ, ◌+◌, List, [], ◌∷◌, if◌then◌else◌, ◌==◌, ◌&&◌, not, drop, Bool, true, false}
+use Rattle.std.specs.List.{prefix_len}
 use Rattle.cel_lex.specs.Bytes.{is_blank, is_line_end, begins_with}
 
 -- how many bytes at the front are blanks and comments; the truth value says that a comment is open, which ends with its line
@@ -13,3 +14,10 @@ gap_from false (c ∷ cs) =
 
 abbrev pub gap_of : List ℕ → ℕ
 gap_of bs = gap_from false bs
+
+-- how many bytes a comment at the front and the blanks behind it have
+abbrev pub line_of : List ℕ → ℕ
+line_of bs = prefix_len (λ c. not (is_line_end c)) bs
+
+abbrev pub comment_of : List ℕ → ℕ
+comment_of bs = line_of bs + prefix_len is_blank (drop (line_of bs) bs)

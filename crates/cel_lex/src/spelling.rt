@@ -50,7 +50,7 @@ impl<'a> Spelling<'a> {
                 rest: "",
                 quotes: Quotes {
                     mark: b'"',
-                    count: 1,
+                    triple: false,
                     bytes: false,
                     raw: true,
                     len: 0,
@@ -78,8 +78,9 @@ impl<'a> Spelling<'a> {
                 Some(Piece::Plain(&rest[..1]))
             }
             Part::Escaped(escape) => {
+                let character = escape.character;
                 self.rest = &rest[escape.len..];
-                Some(Piece::Escaped(escape.character))
+                Some(Piece::Escaped(character))
             }
             Part::Close | Part::Wrong | Part::Cut => None,
         }
@@ -94,6 +95,7 @@ fn plain_len(mark: u8, text: &[u8]) -> usize
     text.iter().take_while(|byte| !is_special(mark, **byte)).count()
 }
 
+#[tactic(auto, unfolding(crate::specs::Strings::is_special))]
 fn is_special(mark: u8, byte: u8) -> bool
     ensures { result ≡ is_special mark byte }
 {
