@@ -126,7 +126,6 @@ unfolding number_form
 number_cut bs h = by_test (begins_hex bs) refl
   where
     by_test : (b : Bool) → begins_hex bs ≡ b → IsCut bs (number_form bs).len
-    unfolding number_form
     by_test true e =
         let digit = and-right _ _ e in
         let some = begins_some is_ascii_hexdigit (drop 2 bs) digit in
@@ -145,13 +144,16 @@ pub signed_cut : (bs : List ℕ) → begins_signed bs ≡ true → IsCut bs (sig
 signed_cut bs h = by_kind (is_int (number_form (drop 1 bs)).kind) refl
   where
     number : begins_number (drop 1 bs) ≡ true
-    number = let digit = and-right _ _ h in rw digit refl
+    number = let digit : begins is_ascii_digit (drop 1 bs) ≡ true = and-right (begins_with 45 bs) (begins is_ascii_digit (drop 1 bs)) h in rw digit refl
     by_kind : (b : Bool) → is_int (number_form (drop 1 bs)).kind ≡ b → IsCut bs (signed_form (number_form (drop 1 bs))).len
     by_kind true e = rw e (IsCut-behind bs 1 _ (begins_some _ bs (and-left _ _ h)) (number_cut (drop 1 bs) number))
     by_kind false e = rw e (IsCut-one (λ c. c == 45) bs (λ c. mark_ascii 45 c (omega arith)) (and-left _ _ h))
 
 single_ascii : (c : ℕ) (k : TokenKind) → single_of c ≡ Some k → c < 128
 single_ascii c k h = chosen (c == 33) _ _ (Some k) (λ t _. mark_ascii 33 c (omega arith) t) (λ _ r0. chosen (c == 60) _ _ (Some k) (λ t _. mark_ascii 60 c (omega arith) t) (λ _ r1. chosen (c == 62) _ _ (Some k) (λ t _. mark_ascii 62 c (omega arith) t) (λ _ r2. chosen (c == 43) _ _ (Some k) (λ t _. mark_ascii 43 c (omega arith) t) (λ _ r3. chosen (c == 45) _ _ (Some k) (λ t _. mark_ascii 45 c (omega arith) t) (λ _ r4. chosen (c == 42) _ _ (Some k) (λ t _. mark_ascii 42 c (omega arith) t) (λ _ r5. chosen (c == 47) _ _ (Some k) (λ t _. mark_ascii 47 c (omega arith) t) (λ _ r6. chosen (c == 37) _ _ (Some k) (λ t _. mark_ascii 37 c (omega arith) t) (λ _ r7. chosen (c == 40) _ _ (Some k) (λ t _. mark_ascii 40 c (omega arith) t) (λ _ r8. chosen (c == 41) _ _ (Some k) (λ t _. mark_ascii 41 c (omega arith) t) (λ _ r9. chosen (c == 91) _ _ (Some k) (λ t _. mark_ascii 91 c (omega arith) t) (λ _ r10. chosen (c == 93) _ _ (Some k) (λ t _. mark_ascii 93 c (omega arith) t) (λ _ r11. chosen (c == 123) _ _ (Some k) (λ t _. mark_ascii 123 c (omega arith) t) (λ _ r12. chosen (c == 125) _ _ (Some k) (λ t _. mark_ascii 125 c (omega arith) t) (λ _ r13. chosen (c == 44) _ _ (Some k) (λ t _. mark_ascii 44 c (omega arith) t) (λ _ r14. chosen (c == 46) _ _ (Some k) (λ t _. mark_ascii 46 c (omega arith) t) (λ _ r15. chosen (c == 58) _ _ (Some k) (λ t _. mark_ascii 58 c (omega arith) t) (λ _ r16. chosen (c == 63) _ _ (Some k) (λ t _. mark_ascii 63 c (omega arith) t) (λ _ r17. cc) r16) r15) r14) r13) r12) r11) r10) r9) r8) r7) r6) r5) r4) r3) r2) r1) r0) h
+
+pair_first : (c d : ℕ) (k : TokenKind) → pair_of c d ≡ Some k → c < 128
+pair_first c d k h = chosen (c == 124 && d == 124) _ _ (Some k) (λ t _. mark_ascii 124 c (omega arith) (and-left _ _ t)) (λ _ r0. chosen (c == 38 && d == 38) _ _ (Some k) (λ t _. mark_ascii 38 c (omega arith) (and-left _ _ t)) (λ _ r1. chosen (c == 61 && d == 61) _ _ (Some k) (λ t _. mark_ascii 61 c (omega arith) (and-left _ _ t)) (λ _ r2. chosen (c == 33 && d == 61) _ _ (Some k) (λ t _. mark_ascii 33 c (omega arith) (and-left _ _ t)) (λ _ r3. chosen (c == 60 && d == 61) _ _ (Some k) (λ t _. mark_ascii 60 c (omega arith) (and-left _ _ t)) (λ _ r4. chosen (c == 62 && d == 61) _ _ (Some k) (λ t _. mark_ascii 62 c (omega arith) (and-left _ _ t)) (λ _ r5. cc) r4) r3) r2) r1) r0) h
 
 pair_ascii : (c d : ℕ) (k : TokenKind) → pair_of c d ≡ Some k → d < 128
 pair_ascii c d k h = chosen (c == 124 && d == 124) _ _ (Some k) (λ t _. mark_ascii 124 d (omega arith) (and-right _ _ t)) (λ _ r0. chosen (c == 38 && d == 38) _ _ (Some k) (λ t _. mark_ascii 38 d (omega arith) (and-right _ _ t)) (λ _ r1. chosen (c == 61 && d == 61) _ _ (Some k) (λ t _. mark_ascii 61 d (omega arith) (and-right _ _ t)) (λ _ r2. chosen (c == 33 && d == 61) _ _ (Some k) (λ t _. mark_ascii 61 d (omega arith) (and-right _ _ t)) (λ _ r3. chosen (c == 60 && d == 61) _ _ (Some k) (λ t _. mark_ascii 61 d (omega arith) (and-right _ _ t)) (λ _ r4. chosen (c == 62 && d == 61) _ _ (Some k) (λ t _. mark_ascii 61 d (omega arith) (and-right _ _ t)) (λ _ r5. cc) r4) r3) r2) r1) r0) h
@@ -169,3 +171,37 @@ unfolding mark_of
 mark_cut [] f h = cc
 mark_cut (c ∷ []) f h = one_cut c [] f (single_of c) refl h
 mark_cut (c ∷ d ∷ cs) f h = two_cut c d cs f (pair_of c d) refl h
+
+-- the first byte of a token is ASCII
+pub begins_ascii : (p : ℕ → Bool) (bs : List ℕ) → ((x : ℕ) → p x ≡ true → x < 128) → begins p bs ≡ true → get_or bs 0 0 < 128
+begins_ascii p [] ascii h = cc
+begins_ascii p (c ∷ cs) ascii h = ascii c h
+
+one_first : (c : ℕ) (f : Form) (k : Option TokenKind) → single_of c ≡ k → mark_form 1 k ≡ Some f → c < 128
+one_first c f None h q = cc
+one_first c f (Some k) h q = single_ascii c k h
+
+two_first : (c d : ℕ) (f : Form) (k : Option TokenKind) → pair_of c d ≡ k → longer k (mark_form 1 (single_of c)) ≡ Some f → c < 128
+two_first c d f None h q = one_first c f (single_of c) refl q
+two_first c d f (Some k) h q = pair_first c d k h
+
+pub mark_first : (bs : List ℕ) (f : Form) → mark_of bs ≡ Some f → get_or bs 0 0 < 128
+unfolding mark_of
+mark_first [] f h = cc
+mark_first (c ∷ []) f h = one_first c f (single_of c) refl h
+mark_first (c ∷ d ∷ cs) f h = two_first c d f (pair_of c d) refl h
+
+pub word_first : (bs : List ℕ) → begins is_word_start bs ≡ true → get_or bs 0 0 < 128
+word_first bs h = begins_ascii is_word bs word_ascii (begins_word bs h)
+
+pub number_first : (bs : List ℕ) → begins_number bs ≡ true → get_or bs 0 0 < 128
+number_first bs h = by_test (begins is_ascii_digit bs) refl h
+  where
+    by_test : (b : Bool) → begins is_ascii_digit bs ≡ b → begins_number bs ≡ true → get_or bs 0 0 < 128
+    by_test true e h2 = begins_ascii is_ascii_digit bs digit_ascii e
+    by_test false e h2 =
+        let point : (begins_with 46 bs && begins is_ascii_digit (drop 1 bs)) ≡ true = rw e at h2 in
+        begins_ascii (λ c. c == 46) bs (λ c. mark_ascii 46 c (omega arith)) (and-left _ _ point)
+
+pub signed_first : (bs : List ℕ) → begins_signed bs ≡ true → get_or bs 0 0 < 128
+signed_first bs h = begins_ascii (λ c. c == 45) bs (λ c. mark_ascii 45 c (omega arith)) (and-left _ _ h)

@@ -1,6 +1,10 @@
 pub mod CutLaws
 pub mod Cuts
+pub mod EndLaws
 pub mod GapLaws
+pub mod LexLaws
 pub mod NumberLaws
+pub mod OpeningLaws
+pub mod QuoteLaws
 pub mod StringLaws
 pub mod Tests

@@ -1,4 +1,4 @@
-ghost use Rattle.std.specs.Prelude.{◌≡◌, ◌≤◌, ◌+◌, ◌<◌, ◌^◌, length};
+ghost use Rattle.std.specs.Prelude.{◌≡◌, ◌≤◌, ◌+◌, ◌<◌, ◌^◌, length, IfSome};
 ghost use Rattle.cel_lex.specs.Strings.{quotes_of, opening_of, count_of};
 
 use crate::bytes::is_quote;
@@ -17,7 +17,9 @@ pub struct Quotes {
 /// How the string at the front begins.
 #[tactic(auto, unfolding(crate::specs::Strings::opening_of))]
 pub fn opening(text: &[u8]) -> Option<Quotes>
-    ensures { result ≡ opening_of text.now }
+    ensures exact { result ≡ opening_of text.now }
+    ensures ascii { IfSome result (λ q. q.mark < 128) }
+    ensures within { IfSome result (λ q. q.len ≤ length text.now) }
 {
     match text {
         [b'b' | b'B', b'r' | b'R', rest @ ..] => quotes_after(true, true, 2, rest),
@@ -27,9 +29,12 @@ pub fn opening(text: &[u8]) -> Option<Quotes>
     }
 }
 
+#[tactic(auto, using(crate::proofs::QuoteLaws::quote_ascii))]
 fn quotes_after(bytes: bool, raw: bool, before: usize, text: &[u8]) -> Option<Quotes>
     requires { before ≤ 2 }
-    ensures { result ≡ quotes_of bytes raw before text.now }
+    ensures exact { result ≡ quotes_of bytes raw before text.now }
+    ensures ascii { IfSome result (λ q. q.mark < 128) }
+    ensures within { IfSome result (λ q. q.len ≤ before + length text.now) }
 {
     match text {
         [mark, second, third, ..] if is_quote(*mark) && second == mark && third == mark => {

@@ -44,6 +44,7 @@ impl<'a> Tokens<'a> {
     /// The next token, or why none can be read: the fault that is met first from the left. None at
     /// the end of the text, and after a fault. A minus directly before a whole number belongs to
     /// it where an operand is due.
+    #[tactic(auto, using(crate::proofs::EndLaws::cut_end, crate::proofs::LexLaws::rest_step))]
     pub fn next(&mut self) -> Option<Result<Token<'a>, LexError>>
         ensures exact { seen result ≡ next_of self.old }
         ensures moves { self.new ≡ after self.old (next_of self.old) }
