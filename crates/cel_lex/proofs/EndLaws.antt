@@ -1,5 +1,8 @@
 -- Where tokens end.
 use Rattle.std.proofs.Common.{◌≡◌, ℕ, zero, suc, ◌+◌, ◌-◌, ◌<◌, ◌≤◌, Bool, true, false, List, [], ◌∷◌, drop, length, get_or, if◌then◌else◌, ◌&&◌, arith, refl, sym, ap, ◌∙◌, subst, Option, Some, None, Result, Ok, Err}
+use Rattle.std.specs.Str.{IsCharBoundary, IsUtf8}
+use Rattle.std.proofs.lemmas.Str.{IsCharBoundary-after_ascii, IsCharBoundary-before_ascii}
+use Rattle.std.proofs.lemmas.List.{length-drop, get_or-drop}
 use Rattle.cel_lex.proofs.Tests.{chosen, and-left, and-right}
 use Rattle.cel_lex.proofs.Cuts.{IsCut, IsCut-behind}
 use Rattle.cel_lex.proofs.CutLaws.{word_cut, number_cut, signed_cut, mark_cut, word_first, number_first, signed_first, mark_first}
@@ -81,3 +84,17 @@ opened_begins due from bs (Some q) cut h e = opens_first bs q h
 pub cut_begins : (due : Bool) (from : ℕ) (bs : List ℕ) (cut : Cut) → cut_of due from bs ≡ Ok cut → get_or bs 0 0 < 128
 unfolding cut_of
 cut_begins due from bs cut h = opened_begins due from bs (opening_of bs) cut refl h
+
+-- the end of a cut is a character's boundary
+pub end_boundary : (src : List ℕ) (start end : ℕ) → IsUtf8 src → EndsAt (drop start src) start end → (end ≤ length src) × IsCharBoundary src end
+end_boundary src start end u e =
+    let within : end ≤ length src = omega (arith, e.on, e.cut.within, length-drop start src, e.cut.some) in
+    let at : start + (end - start - 1) ≡ end - 1 = omega (arith, e.on) in
+    let back : end - 1 + 1 ≡ end = omega (arith, e.on) in
+    let last : get_or src (end - 1) 0 < 128 = subst (λ (b : ℕ). b < 128) (get_or-drop start src (end - start - 1) 0 ∙ ap (λ i. get_or src i 0) at) e.cut.last in
+    (within, subst (IsCharBoundary src) back (IsCharBoundary-after_ascii src (end - 1) u (omega (arith, e.on)) last))
+
+pub start_boundary : (src : List ℕ) (start : ℕ) → start < length src → get_or (drop start src) 0 0 < 128 → IsCharBoundary src start
+start_boundary src start within first =
+    let at : start + 0 ≡ start = omega arith in
+    IsCharBoundary-before_ascii src start within (subst (λ (b : ℕ). b < 128) (get_or-drop start src 0 0 ∙ ap (λ i. get_or src i 0) at) first)

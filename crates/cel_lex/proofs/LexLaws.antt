@@ -1,6 +1,7 @@
 -- The tokens of a text are the next one and those of what is left.
 use Rattle.std.proofs.Common.{◌≡◌, ℕ, slice_range, zero, suc, ◌+◌, ◌-◌, ◌<◌, ◌≤◌, Bool, true, false, List, [], ◌∷◌, drop, take, length, get_or, if◌then◌else◌, ◌&&◌, ◌==◌, not, arith, refl, sym, ap, ◌∙◌, subst, Option, Some, None, Result, Ok, Err}
 use Rattle.std.proofs.lemmas.List.{length-drop, drop-drop}
+use Rattle.cel_lex.proofs.Cuts.{slice_rest}
 use Rattle.cel_lex.proofs.OpeningLaws.{EndsAt}
 use Rattle.cel_lex.proofs.EndLaws.{cut_end}
 use Rattle.cel_lex.specs.Bytes.{is_blank, is_line_end, begins_with}
@@ -113,3 +114,17 @@ next_is p start r f s within e =
     let there = from_some p start (drop start p.source) r (omega (arith, length-drop start p.source)) e in
     let from : next_from p (start_of p) (drop (start_of p) p.source) ≡ read_cut p.source start r = subst (λ (i : ℕ). next_from p i (drop i p.source) ≡ read_cut p.source start r) s there in
     rw f from
+
+end_from : (p : Place) (start : ℕ) (bs : List ℕ) → length bs ≡ 0 → next_from p start bs ≡ End
+end_from p start [] e = refl
+end_from p start (c ∷ cs) e = absurd (omega arith)
+
+pub next_end : (p : Place) (start : ℕ) → p.failed ≡ false → start ≡ start_of p → length p.source ≤ start → next_of p ≡ End
+next_end p start f s within =
+    let there = end_from p start (drop start p.source) (omega (arith, length-drop start p.source)) in
+    let from : next_from p (start_of p) (drop (start_of p) p.source) ≡ End = subst (λ (i : ℕ). next_from p i (drop i p.source) ≡ End) s there in
+    rw f from
+
+-- where the next token begins, by the gap in the slice from a place on
+pub start_is : (src bytes : List ℕ) (at gap : ℕ) → bytes ≡ src → gap ≡ gap_of (take (length bytes - at) (drop at bytes)) → at + gap ≡ at + gap_of (drop at src)
+start_is src bytes at gap e h = ap (λ (g : ℕ). at + g) (h ∙ ap gap_of (slice_rest bytes at) ∙ ap (λ (bs : List ℕ). gap_of (drop at bs)) e)

@@ -6,5 +6,6 @@ pub mod LexLaws
 pub mod NumberLaws
 pub mod OpeningLaws
 pub mod QuoteLaws
+pub mod SpellLaws
 pub mod StringLaws
 pub mod Tests

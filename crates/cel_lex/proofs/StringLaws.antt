@@ -187,7 +187,7 @@ pub record EndAt (q : Quotes) (from inside : ℕ) (src : List ℕ) (at : ℕ) : 
 pub EndAt-start : (q : Quotes) (from inside : ℕ) (src : List ℕ) → inside ≤ length src → EndAt q from inside src inside
 EndAt-start q from inside src h = record { within = h; same = refl }
 
-some_left : (q : Quotes) (bs : List ℕ) (p : Part) → part_of q bs ≡ p → (p ≡ Cut → ⊥) → 0 < length bs
+pub some_left : (q : Quotes) (bs : List ℕ) (p : Part) → part_of q bs ≡ p → (p ≡ Cut → ⊥) → 0 < length bs
 some_left q [] p h goes = absurd (goes (end_empty q p h))
 some_left q (c ∷ cs) p h goes = omega arith
 

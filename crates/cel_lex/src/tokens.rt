@@ -44,7 +44,6 @@ impl<'a> Tokens<'a> {
     /// The next token, or why none can be read: the fault that is met first from the left. None at
     /// the end of the text, and after a fault. A minus directly before a whole number belongs to
     /// it where an operand is due.
-    #[tactic(auto, using(crate::proofs::EndLaws::cut_end, crate::proofs::LexLaws::rest_step))]
     pub fn next(&mut self) -> Option<Result<Token<'a>, LexError>>
         ensures exact { seen result ≡ next_of self.old }
         ensures moves { self.new ≡ after self.old (next_of self.old) }
@@ -54,11 +53,12 @@ impl<'a> Tokens<'a> {
             return None;
         }
         let source = self.source;
-        let start = self.at + gap_len(&source.as_bytes()[self.at..]);
-        if start == source.len() {
+        let bytes = source.as_bytes();
+        let start = self.at + gap_len(&bytes[self.at..]);
+        if start == bytes.len() {
             return None;
         }
-        match cut_at(source.as_bytes(), start, self.due) {
+        match cut_at(bytes, start, self.due) {
             Ok(cut) => {
                 self.at = cut.end;
                 self.due = due_after(cut.kind);
