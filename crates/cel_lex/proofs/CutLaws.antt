@@ -145,6 +145,7 @@ signed_cut bs h = by_kind (is_int (number_form (drop 1 bs)).kind) refl
   where
     number : begins_number (drop 1 bs) ≡ true
     number = let digit : begins is_ascii_digit (drop 1 bs) ≡ true = and-right (begins_with 45 bs) (begins is_ascii_digit (drop 1 bs)) h in rw digit refl
+
     by_kind : (b : Bool) → is_int (number_form (drop 1 bs)).kind ≡ b → IsCut bs (signed_form (number_form (drop 1 bs))).len
     by_kind true e = rw e (IsCut-behind bs 1 _ (begins_some _ bs (and-left _ _ h)) (number_cut (drop 1 bs) number))
     by_kind false e = rw e (IsCut-one (λ c. c == 45) bs (λ c. mark_ascii 45 c (omega arith)) (and-left _ _ h))

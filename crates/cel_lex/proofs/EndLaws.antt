@@ -34,12 +34,12 @@ plain_end : (due : Bool) (from : ℕ) (bs : List ℕ) (cut : Cut) → cut_plain 
 unfolding cut_plain
 plain_end due from bs cut h =
     chosen (begins is_word_start bs) _ _ (Ok cut)
-        (λ t r. form_end from bs (word_form bs) cut (word_cut bs t) r)
-        (λ _ r. chosen (begins_number bs) _ _ (Ok cut)
-            (λ t r1. fitting_end from bs (number_form bs) cut (number_cut bs t) r1)
-            (λ _ r1. chosen (due && begins_signed bs) _ _ (Ok cut)
-                (λ t r2. fitting_end from bs _ cut (signed_cut bs (and-right _ _ t)) r2)
-                (λ _ r2. mark_end from bs (mark_of bs) cut refl r2) r1) r) h
+    (λ t r. form_end from bs (word_form bs) cut (word_cut bs t) r)
+    (λ _ r. chosen (begins_number bs) _ _ (Ok cut)
+    (λ t r1. fitting_end from bs (number_form bs) cut (number_cut bs t) r1)
+    (λ _ r1. chosen (due && begins_signed bs) _ _ (Ok cut)
+    (λ t r2. fitting_end from bs _ cut (signed_cut bs (and-right _ _ t)) r2)
+    (λ _ r2. mark_end from bs (mark_of bs) cut refl r2) r1) r) h
 
 string_cut : (from : ℕ) (bs : List ℕ) (q : Quotes) (r : Result ℕ LexError) (cut : Cut) → opening_of bs ≡ Some q → string_end q from (from + q.len) 0 (drop q.len bs) ≡ r → cut_string q r ≡ Ok cut → EndsAt bs from cut.end
 string_cut from bs q (Err x) cut h e s = cc
@@ -70,12 +70,12 @@ plain_begins : (due : Bool) (from : ℕ) (bs : List ℕ) (cut : Cut) → cut_pla
 unfolding cut_plain
 plain_begins due from bs cut h =
     chosen (begins is_word_start bs) _ _ (Ok cut)
-        (λ t r. word_first bs t)
-        (λ _ r. chosen (begins_number bs) _ _ (Ok cut)
-            (λ t r1. number_first bs t)
-            (λ _ r1. chosen (due && begins_signed bs) _ _ (Ok cut)
-                (λ t r2. signed_first bs (and-right _ _ t))
-                (λ _ r2. mark_begins from bs (mark_of bs) cut refl r2) r1) r) h
+    (λ t r. word_first bs t)
+    (λ _ r. chosen (begins_number bs) _ _ (Ok cut)
+    (λ t r1. number_first bs t)
+    (λ _ r1. chosen (due && begins_signed bs) _ _ (Ok cut)
+    (λ t r2. signed_first bs (and-right _ _ t))
+    (λ _ r2. mark_begins from bs (mark_of bs) cut refl r2) r1) r) h
 
 opened_begins : (due : Bool) (from : ℕ) (bs : List ℕ) (o : Option Quotes) (cut : Cut) → opening_of bs ≡ o → cut_opened due from bs o ≡ Ok cut → get_or bs 0 0 < 128
 opened_begins due from bs None cut h e = plain_begins due from bs cut e

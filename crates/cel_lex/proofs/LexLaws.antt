@@ -62,9 +62,9 @@ lex_cut at c due cs cut g e =
     let ends = cut_end due at (c ∷ cs) cut e in
     let on : at + (cut.end - at) ≡ cut.end = omega (arith, ends.on) in
     lex_is at c due cs 0 g
-        ∙ ap (here at c due cs) e
-        ∙ ap (with_token (record { kind = cut.kind; start = at; end = cut.end; text = take (cut.end - at) (c ∷ cs) }))
-            (lex_on at (cut.end - at) c (due_after cut.kind) cs (omega (arith, ends.on)) ∙ ap (λ (a : ℕ). lex_from a 0 (due_after cut.kind) (drop (cut.end - at) (c ∷ cs))) on)
+    ∙ ap (here at c due cs) e
+    ∙ ap (with_token (record { kind = cut.kind; start = at; end = cut.end; text = take (cut.end - at) (c ∷ cs) }))
+    (lex_on at (cut.end - at) c (due_after cut.kind) cs (omega (arith, ends.on)) ∙ ap (λ (a : ℕ). lex_from a 0 (due_after cut.kind) (drop (cut.end - at) (c ∷ cs))) on)
 
 lex_fault : (at c : ℕ) (due : Bool) (cs : List ℕ) (x : LexError) → gap_of (c ∷ cs) ≡ 0 → cut_of due at (c ∷ cs) ≡ Err x → lex_from at 0 due (c ∷ cs) ≡ record { tokens = []; error = Some x }
 lex_fault at c due cs x g e = lex_is at c due cs 0 g ∙ ap (here at c due cs) e
@@ -78,8 +78,8 @@ by_cut src at start c due cs (Ok cut) there g e =
     let text : take (cut.end - start) (c ∷ cs) ≡ slice_range src start cut.end = ap (take (cut.end - start)) (sym there) in
     let rest : drop (cut.end - start) (c ∷ cs) ≡ drop cut.end src = ap (drop (cut.end - start)) (sym there) ∙ drop-drop (cut.end - start) start src ∙ ap (λ (a : ℕ). drop a src) on in
     lex_cut start c due cs cut g e
-        ∙ ap (λ (t : List ℕ). with_token (record { kind = cut.kind; start = start; end = cut.end; text = t }) (lex_from cut.end 0 (due_after cut.kind) (drop (cut.end - start) (c ∷ cs)))) text
-        ∙ ap (λ (bs : List ℕ). with_token (record { kind = cut.kind; start = start; end = cut.end; text = slice_range src start cut.end }) (lex_from cut.end 0 (due_after cut.kind) bs)) rest
+    ∙ ap (λ (t : List ℕ). with_token (record { kind = cut.kind; start = start; end = cut.end; text = t }) (lex_from cut.end 0 (due_after cut.kind) (drop (cut.end - start) (c ∷ cs)))) text
+    ∙ ap (λ (bs : List ℕ). with_token (record { kind = cut.kind; start = start; end = cut.end; text = slice_range src start cut.end }) (lex_from cut.end 0 (due_after cut.kind) bs)) rest
 
 by_rest : (src : List ℕ) (at start : ℕ) (due : Bool) (bs : List ℕ) → drop start src ≡ bs → gap_of bs ≡ 0
     → lex_from start 0 due bs ≡ first_of (next_from (record { source = src; at = at; due = due; failed = false }) start bs) (rest_of (after (record { source = src; at = at; due = due; failed = false }) (next_from (record { source = src; at = at; due = due; failed = false }) start bs)))
@@ -96,7 +96,7 @@ step_by src at due false =
     let bs = drop at src in
     let there : drop (gap_of bs) bs ≡ drop (at + gap_of bs) src = drop-drop (gap_of bs) at src in
     lex_gap at due bs ∙ ap (lex_from (at + gap_of bs) 0 due) there
-        ∙ by_rest src at (at + gap_of bs) due (drop (at + gap_of bs) src) refl (ap gap_of (sym there) ∙ no_gap false bs)
+    ∙ by_rest src at (at + gap_of bs) due (drop (at + gap_of bs) src) refl (ap gap_of (sym there) ∙ no_gap false bs)
 
 pub rest_step : (p : Place) → rest_of p ≡ first_of (next_of p) (rest_of (after p (next_of p)))
 rest_step p = step_by p.source p.at p.due p.failed

@@ -1,7 +1,9 @@
+pub mod BorrowLaws
 pub mod CutLaws
 pub mod Cuts
 pub mod EndLaws
 pub mod GapLaws
+pub mod GapMeaning
 pub mod LexLaws
 pub mod NumberLaws
 pub mod OpeningLaws

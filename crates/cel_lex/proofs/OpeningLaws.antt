@@ -26,8 +26,8 @@ quotes_open : (bytes raw : Bool) (before : ℕ) (bs : List ℕ) (q : Quotes) →
 quotes_open bytes raw before [] q h = cc
 quotes_open bytes raw before (c ∷ cs) q h =
     chosen (is_quote c) _ None (Some q)
-        (λ quote r. by_count (begins_with c cs && begins_with c (drop 1 cs)) refl quote r)
-        (λ _ r. cc) h
+    (λ quote r. by_count (begins_with c cs && begins_with c (drop 1 cs)) refl quote r)
+    (λ _ r. cc) h
   where
     by_count : (b : Bool) → (begins_with c cs && begins_with c (drop 1 cs)) ≡ b → is_quote c ≡ true
         → Some (if b then record { mark = c; triple = true; bytes = bytes; raw = raw; len = before + 3 } else record { mark = c; triple = false; bytes = bytes; raw = raw; len = before + 1 }) ≡ Some q
@@ -66,12 +66,12 @@ pub opens : (bs : List ℕ) (q : Quotes) → opening_of bs ≡ Some q → IsOpen
 unfolding opening_of
 opens bs q h =
     chosen (begins is_bytes_mark bs) _ _ (Some q)
-        (λ b r. chosen (begins is_raw_mark (drop 1 bs)) _ _ (Some q)
-            (λ b2 r2. prefixed bs 2 q (omega (arith, begins_some _ (drop 1 bs) b2, length-drop 1 bs)) (quotes_open true true 2 (drop 2 bs) q r2))
-            (λ _ r2. prefixed bs 1 q (begins_some _ bs b) (quotes_open true false 1 (drop 1 bs) q r2)) r)
-        (λ _ r. chosen (begins is_raw_mark bs) _ _ (Some q)
-            (λ b2 r2. prefixed bs 1 q (begins_some _ bs b2) (quotes_open false true 1 (drop 1 bs) q r2))
-            (λ _ r2. quotes_open false false 0 bs q r2) r) h
+    (λ b r. chosen (begins is_raw_mark (drop 1 bs)) _ _ (Some q)
+    (λ b2 r2. prefixed bs 2 q (omega (arith, begins_some _ (drop 1 bs) b2, length-drop 1 bs)) (quotes_open true true 2 (drop 2 bs) q r2))
+    (λ _ r2. prefixed bs 1 q (begins_some _ bs b) (quotes_open true false 1 (drop 1 bs) q r2)) r)
+    (λ _ r. chosen (begins is_raw_mark bs) _ _ (Some q)
+    (λ b2 r2. prefixed bs 1 q (begins_some _ bs b2) (quotes_open false true 1 (drop 1 bs) q r2))
+    (λ _ r2. quotes_open false false 0 bs q r2) r) h
 
 -- a string ends at a cut of what is read
 pub record EndsAt (bs : List ℕ) (at end : ℕ) : Type 0 where
@@ -119,7 +119,7 @@ pub opens_first : (bs : List ℕ) (q : Quotes) → opening_of bs ≡ Some q → 
 unfolding opening_of
 opens_first bs q h =
     chosen (begins is_bytes_mark bs) _ _ (Some q)
-        (λ b _. begins_ascii is_bytes_mark bs bytes_mark_ascii b)
-        (λ _ r. chosen (begins is_raw_mark bs) _ _ (Some q)
-            (λ b _. begins_ascii is_raw_mark bs raw_mark_ascii b)
-            (λ _ r2. quotes_first bs q r2) r) h
+    (λ b _. begins_ascii is_bytes_mark bs bytes_mark_ascii b)
+    (λ _ r. chosen (begins is_raw_mark bs) _ _ (Some q)
+    (λ b _. begins_ascii is_raw_mark bs raw_mark_ascii b)
+    (λ _ r2. quotes_first bs q r2) r) h

@@ -1,5 +1,5 @@
 -- What strings spell.
-use Rattle.std.proofs.Common.{◌≡◌, ℕ, zero, suc, ◌+◌, ◌-◌, ◌<◌, ◌≤◌, Bool, true, false, List, [], ◌∷◌, ◌++◌, drop, take, length, get_or, if◌then◌else◌, ◌&&◌, ◌||◌, ◌==◌, not, arith, refl, sym, ap, ◌∙◌, subst, Option, Some, None, length-append}
+use Rattle.std.proofs.Common.{◌≡◌, ℕ, slice_range, zero, suc, ◌+◌, ◌-◌, ◌<◌, ◌≤◌, Bool, true, false, List, [], ◌∷◌, ◌++◌, drop, take, length, get_or, if◌then◌else◌, ◌&&◌, ◌||◌, ◌==◌, ◌⊎◌, inl, inr, not, arith, refl, sym, ap, ◌∙◌, subst, Option, Some, None, length-append}
 use Rattle.std.specs.List.{prefix_len}
 use Rattle.std.specs.Char.{encode_utf8}
 use Rattle.std.specs.Str.{IsCharBoundary, IsUtf8}
@@ -90,6 +90,7 @@ run_boundary mark bs small = (prefix_len-le-length (plain mark) bs, λ more big.
     was_special : (b : Bool) → not b ≡ false → b ≡ true
     was_special true h = refl
     was_special false h = cc
+
     stop : prefix_len (plain mark) bs < length bs → 128 ≤ get_or bs (prefix_len (plain mark) bs) 0 → ⊥
     stop more big =
         let low = special_ascii mark _ small (was_special _ (prefix_len_stops (plain mark) bs 0 more)) in
@@ -126,3 +127,26 @@ shorter_by old piece new e some = omega (arith, simp length-append at (ap length
 
 pub encode_some : (c : ℕ) → 0 < length (encode_utf8 c)
 encode_some c = omega (arith, length-encode c, (len_utf8_bounds c).0)
+
+slice_front : (src : List ℕ) (n : ℕ) → slice_range src 0 n ≡ take n src
+slice_front src n = let whole : n - 0 ≡ n = omega arith in ap (λ (m : ℕ). take m src) whole
+
+-- what was left is a piece of the text and what is left behind it
+pub front_of : (q : Quotes) (src old front rest : List ℕ) (n : ℕ) → spells q 0 src ≡ old → spells q 0 src ≡ take n src ++ spells q 0 (drop n src) → front ≡ slice_range src 0 n → rest ≡ drop n src → old ≡ front ++ spells q 0 rest
+front_of q src old front rest n was run f r =
+    sym was ∙ run ∙ ap (λ (t : List ℕ). t ++ spells q 0 (drop n src)) (sym (f ∙ slice_front src n)) ∙ ap (λ (t : List ℕ). front ++ spells q 0 t) (sym r)
+
+pub run_of : (q : Quotes) (src bytes : List ℕ) (n : ℕ) → bytes ≡ src → n ≡ prefix_len (plain q.mark) bytes → n ≡ prefix_len (plain q.mark) src
+run_of q src bytes n e h = h ∙ ap (prefix_len (plain q.mark)) e
+
+pub part_of_same : (q : Quotes) (src bytes : List ℕ) (p : Part) → bytes ≡ src → p ≡ part_of q bytes → part_of q src ≡ p
+part_of_same q src bytes p e h = sym (h ∙ ap (part_of q) e)
+
+nothing_spelled : (p : Part) → (p ≡ Close) ⊎ ((p ≡ Wrong) ⊎ (p ≡ Cut)) → (c : ℕ) (later : List ℕ) → spelled c p later ≡ []
+nothing_spelled p (inl e) c later = rw e refl
+nothing_spelled p (inr (inl e)) c later = rw e refl
+nothing_spelled p (inr (inr e)) c later = rw e refl
+
+-- at the closing quotes and at a fault nothing more is spelled
+pub over_at : (q : Quotes) (src bytes old : List ℕ) (p : Part) → bytes ≡ src → p ≡ part_of q bytes → (p ≡ Close) ⊎ ((p ≡ Wrong) ⊎ (p ≡ Cut)) → spells q 0 src ≡ old → old ≡ []
+over_at q src bytes old p e h ends was = sym was ∙ spells-none q src p (h ∙ ap (part_of q) e) (nothing_spelled p ends)

@@ -51,18 +51,18 @@ pub record IsCoded (count before : ℕ) (bs : List ℕ) (e : Escape) : Type 0 wh
 coded_fits : (radix count before : ℕ) (bs : List ℕ) (e : Escape) → radix ≤ 36 → 0 < count → coded radix count before bs ≡ Some e → IsCoded count before bs e
 coded_fits radix count before bs e r some h =
     chosen (nat_le count (length bs)) _ None (Some e)
-        (λ t q.
-            let within : count ≤ length bs = grind (arith, nat_tests) in
-            let s = scalar_len (before + count) e (number_of radix (take count bs)) q in
-            let all = digits_pass radix s.0 (take count bs) s.1 in
-            let len : length (take count bs) ≡ count = simp length-take (omega arith) in
-            let digit = passes_at (λ c. is_digit c radix) (take count bs) (count - 1) _ refl (omega arith) all in
-            record {
-              len = s.2;
-              within = within;
-              last = subst (λ (b : ℕ). b < 128) (get_or-take count bs (count - 1) 0 (omega arith)) (digit_ascii radix _ r digit);
-            })
-        (λ _ q. cc) h
+    (λ t q.
+    let within : count ≤ length bs = grind (arith, nat_tests) in
+    let s = scalar_len (before + count) e (number_of radix (take count bs)) q in
+    let all = digits_pass radix s.0 (take count bs) s.1 in
+    let len : length (take count bs) ≡ count = simp length-take (omega arith) in
+    let digit = passes_at (λ c. is_digit c radix) (take count bs) (count - 1) _ refl (omega arith) all in
+    record {
+      len = s.2;
+      within = within;
+      last = subst (λ (b : ℕ). b < 128) (get_or-take count bs (count - 1) 0 (omega arith)) (digit_ascii radix _ r digit);
+    })
+    (λ _ q. cc) h
 
 from_letters : (c : ℕ) (cs : List ℕ) (e : Escape) (count : ℕ) → 0 < count → IsCoded count 2 cs e → IsEscape (c ∷ cs) e
 from_letters c cs e zero h code = absurd (omega arith)
@@ -80,14 +80,14 @@ from_octal bs e code =
 by_number : (c : ℕ) (cs : List ℕ) (e : Escape) → coded_escape c cs ≡ Some e → IsEscape (c ∷ cs) e
 by_number c cs e h =
     chosen (c == 120 || c == 88) _ _ (Some e)
-        (λ _ q. from_letters c cs e 2 (omega arith) (coded_fits 16 2 2 cs e (omega arith) (omega arith) q))
-        (λ _ r. chosen (c == 117) _ _ (Some e)
-            (λ _ q. from_letters c cs e 4 (omega arith) (coded_fits 16 4 2 cs e (omega arith) (omega arith) q))
-            (λ _ r2. chosen (c == 85) _ _ (Some e)
-                (λ _ q. from_letters c cs e 8 (omega arith) (coded_fits 16 8 2 cs e (omega arith) (omega arith) q))
-                (λ _ r3. chosen (nat_le 48 c && nat_le c 51) _ None (Some e)
-                    (λ _ q. from_octal (c ∷ cs) e (coded_fits 8 3 1 (c ∷ cs) e (omega arith) (omega arith) q))
-                    (λ _ q. cc) r3) r2) r) h
+    (λ _ q. from_letters c cs e 2 (omega arith) (coded_fits 16 2 2 cs e (omega arith) (omega arith) q))
+    (λ _ r. chosen (c == 117) _ _ (Some e)
+    (λ _ q. from_letters c cs e 4 (omega arith) (coded_fits 16 4 2 cs e (omega arith) (omega arith) q))
+    (λ _ r2. chosen (c == 85) _ _ (Some e)
+    (λ _ q. from_letters c cs e 8 (omega arith) (coded_fits 16 8 2 cs e (omega arith) (omega arith) q))
+    (λ _ r3. chosen (nat_le 48 c && nat_le c 51) _ None (Some e)
+    (λ _ q. from_octal (c ∷ cs) e (coded_fits 8 3 1 (c ∷ cs) e (omega arith) (omega arith) q))
+    (λ _ q. cc) r3) r2) r) h
 
 by_name : (c : ℕ) (cs : List ℕ) (e : Escape) (n : Option ℕ) → named c ≡ n → named_or n (coded_escape c cs) ≡ Some e → IsEscape (c ∷ cs) e
 by_name c cs e (Some x) h q =
@@ -122,24 +122,24 @@ unfolding part_of
 escaped_fits q [] e h = cc
 escaped_fits q (c ∷ cs) e h =
     chosen (closes q (c ∷ cs)) Close _ (Escaped e)
-        (λ _ r. cc)
-        (λ _ r. chosen (not q.triple && is_line_end c) Cut _ (Escaped e)
-            (λ _ r1. cc)
-            (λ _ r1. chosen (c == 92 && not q.raw) _ Plain (Escaped e)
-                (λ _ r2. from_escape e cs (escape_of cs) refl r2)
-                (λ _ r2. cc) r1) r) h
+    (λ _ r. cc)
+    (λ _ r. chosen (not q.triple && is_line_end c) Cut _ (Escaped e)
+    (λ _ r1. cc)
+    (λ _ r1. chosen (c == 92 && not q.raw) _ Plain (Escaped e)
+    (λ _ r2. from_escape e cs (escape_of cs) refl r2)
+    (λ _ r2. cc) r1) r) h
 
 pub closed_by : (q : Quotes) (bs : List ℕ) → part_of q bs ≡ Close → closes q bs ≡ true
 unfolding part_of
 closed_by q [] h = cc
 closed_by q (c ∷ cs) h =
     chosen (closes q (c ∷ cs)) Close _ Close
-        (λ t _. t)
-        (λ _ r. chosen (not q.triple && is_line_end c) Cut _ Close
-            (λ _ r1. cc)
-            (λ _ r1. chosen (c == 92 && not q.raw) _ Plain Close
-                (λ _ r2. from_none (escape_of cs) r2)
-                (λ _ r2. cc) r1) r) h
+    (λ t _. t)
+    (λ _ r. chosen (not q.triple && is_line_end c) Cut _ Close
+    (λ _ r1. cc)
+    (λ _ r1. chosen (c == 92 && not q.raw) _ Plain Close
+    (λ _ r2. from_none (escape_of cs) r2)
+    (λ _ r2. cc) r1) r) h
   where
     from_none : {Q : Type 0} (o : Option Escape) → part_of_escape o ≡ Close → Q
     from_none None r = cc
@@ -244,4 +244,5 @@ size_within q bs e h =
     omega (arith, left, (escaped_fits q bs e h).within, length-drop 1 bs)
 
 pub ruleset part_laws = (size_within)
+
 pub ruleset end_laws = (EndAt-start, EndAt-plain, EndAt-escaped, end-close, end-wrong, end-cut, closes_within)

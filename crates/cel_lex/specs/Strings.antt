@@ -17,8 +17,8 @@ quotes_of bytes raw before [] = None
 quotes_of bytes raw before (q ∷ cs) =
     if is_quote q
     then Some (if begins_with q cs && begins_with q (drop 1 cs)
-        then record { mark = q; triple = true; bytes = bytes; raw = raw; len = before + 3 }
-        else record { mark = q; triple = false; bytes = bytes; raw = raw; len = before + 1 })
+    then record { mark = q; triple = true; bytes = bytes; raw = raw; len = before + 3 }
+    else record { mark = q; triple = false; bytes = bytes; raw = raw; len = before + 1 })
     else None
 
 abbrev pub is_bytes_mark : ℕ → Bool

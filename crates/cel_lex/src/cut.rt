@@ -5,9 +5,9 @@ ghost use Rattle.cel_lex.specs.Bytes.{is_word, is_word_start, begins};
 ghost use Rattle.cel_lex.specs.Lexis.{cut_of, cut_plain, word_kind, keyword_of, is_reserved, short_words, middle_words, long_words, word_form, fits, fitting, signed_form, begins_number, begins_signed, mark_of, pair_of, single_of, bracket_of, string_kind, due_after};
 
 use crate::bytes::{begins_digit, begins_with, is_word, is_word_start};
-use crate::number::{int_value_of, number_form, whole_value, Form};
+use crate::number::{Form, int_value_of, number_form, whole_value};
 use crate::part::string_end;
-use crate::quotes::{opening, Quotes};
+use crate::quotes::{Quotes, opening};
 use crate::token::{LexError, TokenKind};
 
 /// A token at a place: what it is, and the offset of the byte after its last.

@@ -67,7 +67,9 @@ pub fn number(radix: u32, digits: &[u8]) -> Option<u64>
     let mut value: u64 = 0;
     for byte in digits {
         let digit = (*byte as char).to_digit(radix)?;
-        value = value.checked_mul(u64::from(radix))?.checked_add(u64::from(digit))?;
+        value = value
+            .checked_mul(u64::from(radix))?
+            .checked_add(u64::from(digit))?;
     }
     Some(value)
 }
@@ -185,5 +187,7 @@ fn hex_len(text: &[u8]) -> usize
     ensures count { result ≡ prefix_len is_ascii_hexdigit text.now }
     ensures within { result ≤ length text.now }
 {
-    text.iter().take_while(|byte| byte.is_ascii_hexdigit()).count()
+    text.iter()
+        .take_while(|byte| byte.is_ascii_hexdigit())
+        .count()
 }

@@ -2,8 +2,8 @@ ghost use Rattle.std.specs.Prelude.{◌≡◌, ◌≤◌, length, drop};
 ghost use Rattle.cel_lex.specs.Strings.{closes, part_of, size_of, string_end};
 
 use crate::bytes::{begins_with, is_line_end};
-use crate::escape::{read_escape, Escape};
-use crate::quotes::{count, Quotes};
+use crate::escape::{Escape, read_escape};
+use crate::quotes::{Quotes, count};
 use crate::token::LexError;
 
 /// What stands at a place in the content of a string.
@@ -52,7 +52,12 @@ fn closes(quotes: Quotes, text: &[u8]) -> bool
 
 /// Where the string ends that begins at `from` and whose content begins at `inside`.
 #[tactic(auto, using(crate::proofs::StringLaws::end_laws))]
-pub fn string_end(source: &[u8], from: usize, inside: usize, quotes: Quotes) -> Result<usize, LexError>
+pub fn string_end(
+    source: &[u8],
+    from: usize,
+    inside: usize,
+    quotes: Quotes,
+) -> Result<usize, LexError>
     requires { inside ≤ length source.now }
     ensures { result ≡ string_end quotes from inside 0 (drop inside source.now) }
 {

@@ -1,11 +1,10 @@
 ghost use Rattle.std.specs.Prelude.{◌≡◌, ◌≤◌, true, false};
-ghost use Rattle.cel_lex.specs.Tokens.{seen, next_of, after, rest_of, first_of, lex_of};
-
-use std::marker::Model;
+ghost use Rattle.cel_lex.specs.Tokens.{seen, next_of, after, rest_of, first_of, lex_of, IfRead, IsBorrowed};
 
 use crate::cut::{cut_at, due_after};
 use crate::gap::gap_len;
 use crate::token::{LexError, Span, Token};
+use std::marker::Model;
 
 /// Reads the tokens of a text from the left.
 #[derive(Drop)]
@@ -47,6 +46,7 @@ impl<'a> Tokens<'a> {
     pub fn next(&mut self) -> Option<Result<Token<'a>, LexError>>
         ensures exact { seen result ≡ next_of self.old }
         ensures moves { self.new ≡ after self.old (next_of self.old) }
+        ensures borrowed { IfRead (seen result) (IsBorrowed self.old) }
         ensures rest { rest_of self.old ≡ first_of (seen result) (rest_of self.new) }
     {
         if self.failed {

@@ -2,12 +2,13 @@ use Rattle.std.proofs.Common.{◌≡◌, ℕ, ◌+◌, ◌-◌, ◌<◌, ◌≤�
 use Rattle.std.proofs.lemmas.List.{length-drop, length-take}
 use Rattle.std.specs.Str.{IsCharBoundary}
 use Rattle.cel_lex.proofs.EndLaws.{cut_end, cut_begins, end_boundary, start_boundary}
+use Rattle.cel_lex.proofs.BorrowLaws.{borrowed_by}
 use Rattle.cel_lex.proofs.LexLaws.{next_is, next_end, rest_by, start_is}
 use Rattle.cel_lex.proofs.OpeningLaws.{EndsAt}
 use Rattle.cel_lex.specs.Gap.{gap_of}
 use Rattle.cel_lex.specs.Lexis.{cut_of, due_after}
 use Rattle.cel_lex.specs.Place.{Place}
-use Rattle.cel_lex.specs.Tokens.{Lexeme, Next, Read, Fault, End, nothing, rest_of, next_of, after, first_of, read_cut, start_of}
+use Rattle.cel_lex.specs.Tokens.{Lexeme, IsBorrowed, Next, Read, Fault, End, nothing, rest_of, next_of, after, first_of, read_cut, start_of}
 use Rattle.cel_lex.specs.declared.cut.Cut.{Cut}
 use Rattle.cel_lex.specs.declared.token.LexError.{LexError}
 use Rattle.cel_lex.proofs.tokens.Tokens.next.Goals as goal
@@ -28,7 +29,7 @@ found_cut : (src bytes : List ℕ) (at gap : ℕ) (due failed : Bool) (made r : 
     → made ≡ cut_of due (at + gap) (drop (at + gap) bytes) → made ≡ r → next_of (record { source = src; at = at; due = due; failed = failed }) ≡ read_cut src (at + gap) r
 found_cut src bytes at gap due failed made r e g f within cut is =
     next_is (record { source = src; at = at; due = due; failed = failed }) (at + gap) r f (start_is src bytes at gap e g) (omega (arith, within, ap length e))
-        (ap (λ (bs : List ℕ). cut_of due (at + gap) (drop (at + gap) bs)) (sym e) ∙ sym cut ∙ is)
+    (ap (λ (bs : List ℕ). cut_of due (at + gap) (drop (at + gap) bs)) (sym e) ∙ sym cut ∙ is)
 
 abbrev place : List ℕ → ℕ → Bool → Bool → Place
 place src at due failed = record { source = src; at = at; due = due; failed = failed }
@@ -58,7 +59,7 @@ returns-in-Err-clause-rest c =
     let within = gap_within c.as_bytes-bytes.result.now c.self.inside.at c.gap_len.result (omega (arith, c.self.invariant, ap length c.as_bytes-bytes.ensures.value)) c.gap_len.ensures.within c.if-start-bytes.false in
     let next = found_cut c.self.inside.source.now c.as_bytes-bytes.result.now c.self.inside.at c.gap_len.result c.self.inside.due c.self.inside.failed c.cut_at.result (Err c.in-Err.error) c.as_bytes-bytes.ensures.value c.gap_len.ensures.count c.if-self.false within c.cut_at.ensures c.in-Err.is in
     subst (λ (p : Place). rest_of p ≡ record { tokens = []; error = Some c.in-Err.error }) c.self.view_is
-        (rest_by q (place c.self.inside.source.now c.self.inside.at c.self.inside.due true) (Fault c.in-Err.error) (sym next) (ap (after q) (sym next)))
+    (rest_by q (place c.self.inside.source.now c.self.inside.at c.self.inside.due true) (Fault c.in-Err.error) (sym next) (ap (after q) (sym next)))
 
 -- where the token that was cut ends
 ends_at : (bytes : List ℕ) (at : ℕ) (due : Bool) (made : Result Cut LexError) (cut : Cut) → made ≡ cut_of due at (drop at bytes) → made ≡ Ok cut → EndsAt (drop at bytes) at cut.end
@@ -93,4 +94,15 @@ returns-in-Ok-clause-rest c =
     let exact : Read token ≡ next_of q = ap (λ (t : List ℕ). Read (record { kind = c.in-Ok.cut.kind; start = start; end = c.in-Ok.cut.end; text = t })) c.range.ensures.value ∙ sym next in
     let moves : place src c.in-Ok.cut.end c.due_after-self-inside.result c.self.inside.failed ≡ after q (next_of q) = ap (λ (d : Bool). place src c.in-Ok.cut.end d c.self.inside.failed) c.due_after-self-inside.ensures ∙ ap (after q) (sym next) in
     subst (λ (p : Place). rest_of p ≡ first_of (Read token) (rest_of (place src c.in-Ok.cut.end c.due_after-self-inside.result c.self.inside.failed))) c.self.view_is
-        (rest_by q (place src c.in-Ok.cut.end c.due_after-self-inside.result c.self.inside.failed) (Read token) exact moves)
+    (rest_by q (place src c.in-Ok.cut.end c.due_after-self-inside.result c.self.inside.failed) (Read token) exact moves)
+
+pub returns-in-Ok-clause-borrowed : goal.returns-in-Ok-clause-borrowed
+returns-in-Ok-clause-borrowed c =
+    let src = c.self.inside.source.now in
+    let start = c.self.inside.at + c.gap_len.result in
+    let q = place src c.self.inside.at c.self.inside.due c.self.inside.failed in
+    let within = gap_within c.as_bytes-bytes.result.now c.self.inside.at c.gap_len.result (omega (arith, c.self.invariant, ap length c.as_bytes-bytes.ensures.value)) c.gap_len.ensures.within c.if-start-bytes.false in
+    let next = found_cut src c.as_bytes-bytes.result.now c.self.inside.at c.gap_len.result c.self.inside.due c.self.inside.failed c.cut_at.result (Ok c.in-Ok.cut) c.as_bytes-bytes.ensures.value c.gap_len.ensures.count c.if-self.false within c.cut_at.ensures c.in-Ok.is in
+    let token : Lexeme = record { kind = c.in-Ok.cut.kind; start = start; end = c.in-Ok.cut.end; text = c.range.result.now } in
+    let exact : Read token ≡ next_of q = ap (λ (t : List ℕ). Read (record { kind = c.in-Ok.cut.kind; start = start; end = c.in-Ok.cut.end; text = t })) c.range.ensures.value ∙ sym next in
+    subst (λ (p : Place). IsBorrowed p token) c.self.view_is (borrowed_by q token (sym exact))
