@@ -1,14 +1,13 @@
 -- What a token borrows.
-use Rattle.std.proofs.Common.{◌≡◌, ℕ, ◌+◌, ◌-◌, ◌<◌, ◌≤◌, Bool, true, false, List, [], ◌∷◌, drop, take, length, slice_range, arith, refl, sym, ap, ◌∙◌, subst, Result, Ok, Err}
-use Rattle.std.proofs.lemmas.List.{length-drop, drop-drop}
-use Rattle.cel_lex.proofs.Tests.{chosen}
+use Rattle.std.proofs.Common.{◌≡◌, ℕ, ◌-◌, ◌<◌, ◌≤◌, List, [], ◌∷◌, drop, take, length, slice_range, arith, refl, sym, ap, ◌∙◌, subst, Result, Ok, Err}
+use Rattle.std.proofs.lemmas.List.{length-drop}
+use Rattle.cel_lex.proofs.Choices.{chosen}
 use Rattle.cel_lex.proofs.EndLaws.{cut_end}
-use Rattle.cel_lex.proofs.OpeningLaws.{EndsAt}
 use Rattle.cel_lex.proofs.GapMeaning.{gap_means}
 use Rattle.cel_lex.specs.Gap.{gap_of, IsGap}
 use Rattle.cel_lex.specs.Lexis.{cut_of}
 use Rattle.cel_lex.specs.Place.{Place}
-use Rattle.cel_lex.specs.Tokens.{Lexeme, IsBorrowed, Next, Read, Fault, End, next_of, next_from, read_cut, start_of}
+use Rattle.cel_lex.specs.Tokens.{Lexeme, IsBorrowed, Read, End, next_of, next_from, read_cut, start_of}
 use Rattle.cel_lex.specs.declared.cut.Cut.{Cut}
 use Rattle.cel_lex.specs.declared.token.LexError.{LexError}
 

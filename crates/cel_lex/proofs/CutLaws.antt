@@ -1,15 +1,14 @@
 -- The bytes of a token.
-use Rattle.std.proofs.Common.{◌≡◌, ℕ, zero, suc, ◌+◌, ◌-◌, ◌<◌, ◌≤◌, Bool, true, false, List, [], ◌∷◌, drop, take, length, get_or, if◌then◌else◌, ◌&&◌, ◌||◌, ◌==◌, ◌⊎◌, inl, inr, not, arith, refl, sym, ap, ◌∙◌, subst, Option, Some, None, Result, Ok, Err}
+use Rattle.std.proofs.Common.{◌≡◌, ℕ, zero, suc, ◌+◌, ◌<◌, ◌≤◌, Bool, true, false, List, [], ◌∷◌, drop, length, get_or, ◌&&◌, ◌==◌, ◌⊎◌, inl, inr, arith, refl, subst, Option, Some, None}
 use Rattle.std.specs.List.{prefix_len}
 use Rattle.std.specs.Char.{is_ascii_digit, is_ascii_hexdigit}
 use Rattle.std.proofs.lemmas.List.{length-drop, drop-drop}
 use Rattle.std.proofs.lemmas.Bool.Decides.{nat_tests}
-use Rattle.cel_lex.proofs.Tests.{chosen, and-left, and-right}
+use Rattle.cel_lex.proofs.Choices.{chosen, and-left, and-right}
 use Rattle.cel_lex.proofs.Cuts.{IsCut, IsCut-run, IsCut-one, IsCut-behind, begins_some}
 use Rattle.cel_lex.specs.Bytes.{begins, begins_with, is_word, is_word_start}
 use Rattle.cel_lex.specs.Numbers.{begins_hex, fraction_len, sign_len, exponent_len, exponent_digits, exponent_mark, is_sign, unsigned_mark, behind_point, whole_form, decimal_form, number_form}
 use Rattle.cel_lex.specs.declared.token.TokenKind.{TokenKind}
-use Rattle.cel_lex.specs.declared.token.TokenKind.TheVariants as kind
 use Rattle.cel_lex.specs.declared.number.Form.{Form}
 use Rattle.cel_lex.specs.Lexis.{begins_number, begins_signed, signed_form, is_int, word_form, mark_of, mark_form, longer, pair_of, single_of}
 

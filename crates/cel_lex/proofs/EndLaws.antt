@@ -1,16 +1,16 @@
 -- Where tokens end.
-use Rattle.std.proofs.Common.{◌≡◌, ℕ, zero, suc, ◌+◌, ◌-◌, ◌<◌, ◌≤◌, Bool, true, false, List, [], ◌∷◌, drop, length, get_or, if◌then◌else◌, ◌&&◌, arith, refl, sym, ap, ◌∙◌, subst, Option, Some, None, Result, Ok, Err}
+use Rattle.std.proofs.Common.{◌≡◌, ℕ, ◌+◌, ◌-◌, ◌<◌, ◌≤◌, Bool, List, drop, length, get_or, ◌&&◌, arith, refl, ap, ◌∙◌, subst, Option, Some, None, Result, Ok, Err}
 use Rattle.std.specs.Str.{IsCharBoundary, IsUtf8}
 use Rattle.std.proofs.lemmas.Str.{IsCharBoundary-after_ascii, IsCharBoundary-before_ascii}
 use Rattle.std.proofs.lemmas.List.{length-drop, get_or-drop}
-use Rattle.cel_lex.proofs.Tests.{chosen, and-left, and-right}
+use Rattle.cel_lex.proofs.Choices.{chosen, and-right}
 use Rattle.cel_lex.proofs.Cuts.{IsCut, IsCut-behind}
 use Rattle.cel_lex.proofs.CutLaws.{word_cut, number_cut, signed_cut, mark_cut, word_first, number_first, signed_first, mark_first}
 use Rattle.cel_lex.proofs.OpeningLaws.{EndsAt, end_cut, opens, opens_first}
 use Rattle.cel_lex.specs.Bytes.{begins, is_word_start}
 use Rattle.cel_lex.specs.Numbers.{number_form}
 use Rattle.cel_lex.specs.Strings.{opening_of, string_end}
-use Rattle.cel_lex.specs.Lexis.{cut_of, cut_opened, cut_plain, cut_string, cut_mark, cut_as, fitting, fits, word_form, signed_form, begins_number, begins_signed, mark_of}
+use Rattle.cel_lex.specs.Lexis.{cut_of, cut_opened, cut_plain, cut_string, cut_mark, cut_as, fitting, fits, word_form, begins_number, begins_signed, mark_of}
 use Rattle.cel_lex.specs.declared.quotes.Quotes.{Quotes}
 use Rattle.cel_lex.specs.declared.number.Form.{Form}
 use Rattle.cel_lex.specs.declared.cut.Cut.{Cut}

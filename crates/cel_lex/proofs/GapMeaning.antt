@@ -1,8 +1,8 @@
 -- What a gap is made of.
-use Rattle.std.proofs.Common.{◌≡◌, ℕ, zero, suc, ◌+◌, ◌-◌, ◌<◌, ◌≤◌, Bool, true, false, List, [], ◌∷◌, ◌++◌, drop, take, length, if◌then◌else◌, ◌&&◌, ◌==◌, not, arith, refl, sym, ap, ◌∙◌, subst}
+use Rattle.std.proofs.Common.{◌≡◌, ℕ, suc, ◌+◌, ◌<◌, Bool, true, false, List, [], ◌∷◌, ◌++◌, take, length, ◌&&◌, ◌==◌, not, arith, refl, sym, ap, subst}
 use Rattle.std.specs.List.{list_all}
 use Rattle.std.proofs.lemmas.Bool.Decides.{nat_tests}
-use Rattle.cel_lex.proofs.Tests.{and-left, and-right}
+use Rattle.cel_lex.proofs.Choices.{and-left, and-right}
 use Rattle.cel_lex.specs.Bytes.{is_blank, is_line_end, begins_with}
 use Rattle.cel_lex.specs.Gap.{gap_of, gap_from, IsGap, empty, blank, comment}
 

@@ -1,14 +1,13 @@
 -- The tokens of a text are the next one and those of what is left.
-use Rattle.std.proofs.Common.{◌≡◌, ℕ, slice_range, zero, suc, ◌+◌, ◌-◌, ◌<◌, ◌≤◌, Bool, true, false, List, [], ◌∷◌, drop, take, length, get_or, if◌then◌else◌, ◌&&◌, ◌==◌, not, arith, refl, sym, ap, ◌∙◌, subst, Option, Some, None, Result, Ok, Err}
+use Rattle.std.proofs.Common.{◌≡◌, ℕ, slice_range, zero, suc, ◌+◌, ◌-◌, ◌<◌, ◌≤◌, Bool, true, false, List, [], ◌∷◌, drop, take, length, ◌&&◌, ◌==◌, not, arith, refl, sym, ap, ◌∙◌, subst, Some, Result, Ok, Err}
 use Rattle.std.proofs.lemmas.List.{length-drop, drop-drop}
 use Rattle.cel_lex.proofs.Cuts.{slice_rest}
-use Rattle.cel_lex.proofs.OpeningLaws.{EndsAt}
 use Rattle.cel_lex.proofs.EndLaws.{cut_end}
 use Rattle.cel_lex.specs.Bytes.{is_blank, is_line_end, begins_with}
 use Rattle.cel_lex.specs.Gap.{gap_of, gap_from}
 use Rattle.cel_lex.specs.Lexis.{cut_of, due_after}
 use Rattle.cel_lex.specs.Place.{Place}
-use Rattle.cel_lex.specs.Tokens.{Lexed, nothing, lex_from, with_token, with_cut, after_gap, rest_of, Next, Read, Fault, End, read_cut, next_from, start_of, next_of, after, first_of}
+use Rattle.cel_lex.specs.Tokens.{Lexed, lex_from, with_token, with_cut, after_gap, rest_of, Next, End, read_cut, next_from, start_of, next_of, after, first_of}
 use Rattle.cel_lex.specs.declared.cut.Cut.{Cut}
 use Rattle.cel_lex.specs.declared.token.LexError.{LexError}
 

@@ -1,4 +1,5 @@
 pub mod BorrowLaws
+pub mod Choices
 pub mod CutLaws
 pub mod Cuts
 pub mod EndLaws
@@ -10,4 +11,3 @@ pub mod OpeningLaws
 pub mod QuoteLaws
 pub mod SpellLaws
 pub mod StringLaws
-pub mod Tests

@@ -1,11 +1,11 @@
 -- How a string begins and where it ends.
-use Rattle.std.proofs.Common.{◌≡◌, ℕ, zero, suc, ◌+◌, ◌-◌, ◌<◌, ◌≤◌, Bool, true, false, List, [], ◌∷◌, drop, length, get_or, if◌then◌else◌, ◌&&◌, ◌==◌, arith, refl, sym, ap, ◌∙◌, subst, Option, Some, None, Result, Ok, Err}
+use Rattle.std.proofs.Common.{◌≡◌, ℕ, zero, suc, ◌+◌, ◌-◌, ◌<◌, ◌≤◌, Bool, true, false, List, [], ◌∷◌, drop, length, get_or, if◌then◌else◌, ◌&&◌, ◌==◌, arith, refl, subst, Some, None, Result, Ok}
 use Rattle.std.proofs.lemmas.List.{length-drop}
 use Rattle.std.proofs.lemmas.Bool.Decides.{nat_tests}
-use Rattle.cel_lex.proofs.Tests.{chosen, and-left, and-right}
+use Rattle.cel_lex.proofs.Choices.{chosen, and-left, and-right}
 use Rattle.cel_lex.proofs.Cuts.{IsCut, IsCut-one, IsCut-behind, begins_some}
 use Rattle.cel_lex.proofs.QuoteLaws.{quote_ascii}
-use Rattle.cel_lex.proofs.StringLaws.{closes_cut, escaped_fits}
+use Rattle.cel_lex.proofs.StringLaws.{closes_cut}
 use Rattle.cel_lex.specs.Bytes.{begins, begins_with, is_quote}
 use Rattle.cel_lex.specs.Strings.{quotes_of, opening_of, is_bytes_mark, is_raw_mark, string_end, end_of_part, part_of, size_of}
 use Rattle.cel_lex.specs.declared.quotes.Quotes.{Quotes}

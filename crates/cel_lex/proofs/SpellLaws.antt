@@ -1,17 +1,17 @@
 -- What strings spell.
-use Rattle.std.proofs.Common.{◌≡◌, ℕ, slice_range, zero, suc, ◌+◌, ◌-◌, ◌<◌, ◌≤◌, Bool, true, false, List, [], ◌∷◌, ◌++◌, drop, take, length, get_or, if◌then◌else◌, ◌&&◌, ◌||◌, ◌==◌, ◌⊎◌, inl, inr, not, arith, refl, sym, ap, ◌∙◌, subst, Option, Some, None, length-append}
+use Rattle.std.proofs.Common.{◌≡◌, ℕ, slice_range, zero, suc, ◌+◌, ◌-◌, ◌<◌, ◌≤◌, Bool, true, false, List, [], ◌∷◌, ◌++◌, drop, take, length, get_or, if◌then◌else◌, ◌&&◌, ◌||◌, ◌==◌, ◌⊎◌, inl, inr, not, arith, refl, sym, ap, ◌∙◌, subst, Some, length-append}
 use Rattle.std.specs.List.{prefix_len}
 use Rattle.std.specs.Char.{encode_utf8}
 use Rattle.std.specs.Str.{IsCharBoundary, IsUtf8}
 use Rattle.std.proofs.lemmas.Str.{IsCharBoundary-after_ascii, length-encode, len_utf8_bounds}
-use Rattle.std.proofs.lemmas.List.{length-drop, length-take, get_or-drop}
+use Rattle.std.proofs.lemmas.List.{get_or-drop}
 use Rattle.std.proofs.lemmas.List.Sums.{prefix_len-le-length, prefix_len_stops}
 use Rattle.std.proofs.lemmas.Bool.Decides.{nat_tests}
 use Rattle.cel_lex.proofs.Cuts.{IsCut}
-use Rattle.cel_lex.proofs.StringLaws.{spells-skip, escaped_fits, size_within, some_left, IsEscape}
+use Rattle.cel_lex.proofs.StringLaws.{spells-skip, escaped_fits, size_within, some_left}
 use Rattle.cel_lex.proofs.OpeningLaws.{opens}
-use Rattle.cel_lex.specs.Bytes.{is_line_end, begins_with}
-use Rattle.cel_lex.specs.Strings.{part_of, size_of, closes, spells, spelled, is_special, opening_of, part_of_escape}
+use Rattle.cel_lex.specs.Bytes.{is_line_end}
+use Rattle.cel_lex.specs.Strings.{part_of, spells, spelled, is_special, opening_of}
 use Rattle.cel_lex.specs.declared.quotes.Quotes.{Quotes}
 use Rattle.cel_lex.specs.declared.escape.Escape.{Escape}
 use Rattle.cel_lex.specs.declared.part.Part.{Part}

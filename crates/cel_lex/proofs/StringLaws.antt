@@ -1,22 +1,20 @@
 -- Where strings end and what they spell.
-use Rattle.std.proofs.Common.{◌≡◌, ℕ, zero, suc, ◌+◌, ◌-◌, ◌<◌, ◌≤◌, Bool, true, false, List, [], ◌∷◌, ◌++◌, drop, take, length, get_or, if◌then◌else◌, ◌&&◌, ◌||◌, ◌==◌, not, nat_lt, nat_le, arith, refl, sym, ap, ◌∙◌, subst, Option, Some, None, Result, Ok, Err}
-use Rattle.std.specs.List.{list_all, prefix_len}
-use Rattle.std.specs.Char.{is_digit, digit_value}
-use Rattle.std.specs.Str.{all_scalars}
+use Rattle.std.proofs.Common.{◌≡◌, ℕ, zero, suc, ◌+◌, ◌-◌, ◌<◌, ◌≤◌, Bool, true, false, List, [], ◌∷◌, drop, take, length, get_or, if◌then◌else◌, ◌&&◌, ◌||◌, ◌==◌, not, nat_le, arith, refl, sym, ap, ◌∙◌, subst, Option, Some, None, Ok, Err}
+use Rattle.std.specs.List.{list_all}
+use Rattle.std.specs.Char.{is_digit}
 use Rattle.std.specs.Str.Parse.{digits_value}
 use Rattle.std.proofs.lemmas.List.{length-drop, length-take, drop-drop, get_or-take, get_or-drop}
 use Rattle.std.proofs.lemmas.List.Folds.{list_all_at}
 use Rattle.std.proofs.lemmas.Bool.Decides.{nat_tests}
-use Rattle.cel_lex.proofs.Tests.{chosen, and-left, and-right}
+use Rattle.cel_lex.proofs.Choices.{chosen, and-left, and-right}
 use Rattle.cel_lex.proofs.Cuts.{IsCut}
-use Rattle.cel_lex.specs.Bytes.{begins, begins_with, is_quote, is_line_end}
+use Rattle.cel_lex.specs.Bytes.{begins_with, is_line_end}
 use Rattle.cel_lex.specs.Numbers.{number_of}
-use Rattle.cel_lex.specs.Strings.{string_end, end_of_part, part_of, size_of, count_of, closes, escape_of, named, coded, coded_escape, scalar_escape, named_or, part_of_escape, spells, spelled, is_special}
+use Rattle.cel_lex.specs.Strings.{string_end, part_of, count_of, closes, escape_of, named, coded, coded_escape, scalar_escape, named_or, part_of_escape, spells}
 use Rattle.cel_lex.specs.declared.quotes.Quotes.{Quotes}
 use Rattle.cel_lex.specs.declared.escape.Escape.{Escape}
 use Rattle.cel_lex.specs.declared.part.Part.{Part}
 use Rattle.cel_lex.specs.declared.part.Part.TheVariants.{Close, Plain, Escaped, Wrong, Cut}
-use Rattle.cel_lex.specs.declared.token.LexError.{LexError}
 use Rattle.cel_lex.specs.declared.token.LexError.TheVariants.{BadEscape, Unclosed}
 
 -- an escape stands behind a backslash in these bytes, and its last byte is ASCII

@@ -1,5 +1,5 @@
 -- Classes of bytes.
-use Rattle.std.specs.Prelude.{ℕ, List, [], ◌∷◌, drop, ◌==◌, ◌||◌, ◌&&◌, Bool, true, false}
+use Rattle.std.specs.Prelude.{ℕ, List, [], ◌∷◌, drop, ◌==◌, ◌||◌, ◌&&◌, Bool, false}
 use Rattle.std.specs.Char.{is_ascii_alphabetic, is_ascii_alphanumeric}
 
 -- line feed, return

@@ -1,10 +1,9 @@
 -- Numbers: their form, and the value of a whole number.
-use Rattle.std.specs.Prelude.{ℕ, zero, suc, ◌+◌, ◌-◌, ◌^◌, List, [], ◌∷◌, drop, take, length, if◌then◌else◌, ◌==◌, ◌||◌, ◌&&◌, nat_lt, nat_le, not, Bool, true, false, Option, Some, None, ℤ, pos, neg_ℤ}
+use Rattle.std.specs.Prelude.{ℕ, zero, suc, ◌+◌, ◌^◌, List, [], ◌∷◌, drop, if◌then◌else◌, ◌==◌, ◌||◌, ◌&&◌, nat_lt, nat_le, Bool, Option, Some, None, ℤ, pos, neg_ℤ}
 use Rattle.std.specs.List.{prefix_len, list_all}
 use Rattle.std.specs.Char.{is_ascii_digit, is_ascii_hexdigit, is_digit}
 use Rattle.std.specs.Str.Parse.{digits_value}
 use Rattle.cel_lex.specs.Bytes.{begins, begins_with}
-use Rattle.cel_lex.specs.declared.token.TokenKind.{TokenKind}
 use Rattle.cel_lex.specs.declared.token.TokenKind.TheVariants.{Int, Uint, Double}
 use Rattle.cel_lex.specs.declared.number.Form.{Form}
 

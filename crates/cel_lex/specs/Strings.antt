@@ -1,5 +1,5 @@
 -- Strings: their quotes, their escapes, where they end and what they spell.
-use Rattle.std.specs.Prelude.{ℕ, zero, suc, ◌+◌, ◌-◌, ◌^◌, List, [], ◌∷◌, ◌++◌, drop, take, length, if◌then◌else◌, ◌==◌, ◌||◌, ◌&&◌, nat_lt, nat_le, not, Bool, true, false, Option, Some, None, Result, Ok, Err}
+use Rattle.std.specs.Prelude.{ℕ, zero, suc, ◌+◌, ◌-◌, List, [], ◌∷◌, ◌++◌, drop, take, length, if◌then◌else◌, ◌==◌, ◌||◌, ◌&&◌, nat_le, not, Bool, true, false, Option, Some, None, Result, Ok, Err}
 use Rattle.std.specs.Char.{encode_utf8}
 use Rattle.std.specs.Str.{all_scalars}
 use Rattle.cel_lex.specs.Bytes.{is_quote, is_line_end, begins, begins_with}

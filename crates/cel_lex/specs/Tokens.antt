@@ -1,5 +1,5 @@
 -- The tokens of a text, and the one that comes next.
-use Rattle.std.specs.Prelude.{◌≡◌, ◌<◌, ◌≤◌, ℕ, zero, suc, ◌+◌, ◌-◌, List, [], ◌∷◌, length, drop, take, slice_range, Bool, true, false, if◌then◌else◌, Option, Some, None, Result, Ok, Err}
+use Rattle.std.specs.Prelude.{◌≡◌, ◌<◌, ◌≤◌, ℕ, zero, suc, ◌+◌, ◌-◌, List, [], ◌∷◌, length, drop, take, slice_range, Bool, true, if◌then◌else◌, Option, Some, None, Result, Ok, Err}
 use Rattle.cel_lex.specs.Gap.{gap_of, IsGap}
 use Rattle.cel_lex.specs.Lexis.{cut_of, due_after}
 use Rattle.cel_lex.specs.Place.{Place}

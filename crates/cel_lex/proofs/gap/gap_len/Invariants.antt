@@ -1,6 +1,4 @@
-use Rattle.std.proofs.Common.{◌≡◌, ◌+◌, ◌-◌, ◌≤◌, drop, length, false}
-use Rattle.cel_lex.specs.Bytes.{begins, is_blank}
-use Rattle.cel_lex.specs.Gap.{gap_of}
+use Rattle.std.proofs.Common.{◌-◌, length}
 use Rattle.cel_lex.proofs.GapLaws.{GapAt}
 use Rattle.cel_lex.proofs.gap.gap_len.Given as goal
 

@@ -1,6 +1,6 @@
-use Rattle.std.proofs.Common.{◌≡◌, ℕ, List, ◌-◌, ◌+◌, ◌≤◌, length, take, drop, arith, sym, ap, ◌∙◌}
+use Rattle.std.proofs.Common.{◌≡◌, ℕ, List, ◌-◌, length, take, drop, arith, sym, ap, ◌∙◌}
 use Rattle.cel_lex.proofs.Cuts.{slice_rest}
-use Rattle.cel_lex.proofs.StringLaws.{EndAt, EndAt-plain, EndAt-escaped, end-close, end-wrong, end-cut, escaped_fits}
+use Rattle.cel_lex.proofs.StringLaws.{EndAt-plain, EndAt-escaped, end-close, end-wrong, end-cut, escaped_fits}
 use Rattle.cel_lex.specs.Strings.{part_of}
 use Rattle.cel_lex.specs.declared.quotes.Quotes.{Quotes}
 use Rattle.cel_lex.specs.declared.part.Part.{Part}

@@ -1,11 +1,10 @@
-use Rattle.std.proofs.Common.{◌≡◌, ℕ, ◌+◌, ◌++◌, ◌<◌, ◌≤◌, List, length, take, drop, arith, sym, ap, ◌∙◌, subst, slice_range}
+use Rattle.std.proofs.Common.{◌≡◌, ℕ, ◌++◌, List, take, drop, arith, sym, ap, ◌∙◌, subst}
 use Rattle.std.specs.Char.{encode_utf8}
 use Rattle.std.specs.Str.{IsCharBoundary}
 use Rattle.cel_lex.proofs.StringLaws.{some_left}
-use Rattle.cel_lex.proofs.SpellLaws.{run_boundary, lone_boundary, escape_boundary, spells-run, spells-plain, spells-escaped, front_of, run_of, part_of_same, shorter_by, encode_some, over_at}
+use Rattle.cel_lex.proofs.SpellLaws.{run_boundary, lone_boundary, escape_boundary, spells-run, spells-escaped, front_of, run_of, part_of_same, shorter_by, encode_some, over_at}
 use Rattle.cel_lex.specs.Strings.{spells}
-use Rattle.cel_lex.specs.declared.part.Part.{Part}
-use Rattle.cel_lex.specs.declared.part.Part.TheVariants.{Close, Plain, Escaped, Wrong, Cut}
+use Rattle.cel_lex.specs.declared.part.Part.TheVariants.{Plain, Escaped}
 use Rattle.cel_lex.proofs.spelling.Spelling.next.Goals as goal
 
 pub range_from-self-inside-requires : goal.range_from-self-inside-requires

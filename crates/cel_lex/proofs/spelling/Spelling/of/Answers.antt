@@ -1,4 +1,4 @@
-use Rattle.std.proofs.Common.{◌≡◌, List, ℕ, sym, ◌∙◌, subst}
+use Rattle.std.proofs.Common.{List, ℕ, sym, subst}
 use Rattle.std.specs.Str.{IsCharBoundary}
 use Rattle.cel_lex.proofs.SpellLaws.{opening_boundary}
 use Rattle.cel_lex.proofs.spelling.Spelling.of.Goals as goal

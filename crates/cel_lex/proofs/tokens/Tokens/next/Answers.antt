@@ -1,4 +1,4 @@
-use Rattle.std.proofs.Common.{◌≡◌, ℕ, ◌+◌, ◌-◌, ◌<◌, ◌≤◌, Bool, true, false, List, [], length, take, drop, get_or, arith, sym, ap, ◌∙◌, subst, refl, Option, Some, None, Result, Ok, Err}
+use Rattle.std.proofs.Common.{◌≡◌, ℕ, ◌+◌, ◌-◌, ◌<◌, ◌≤◌, Bool, true, false, List, [], length, take, drop, arith, sym, ap, ◌∙◌, subst, Some, Result, Ok, Err}
 use Rattle.std.proofs.lemmas.List.{length-drop, length-take}
 use Rattle.std.specs.Str.{IsCharBoundary}
 use Rattle.cel_lex.proofs.EndLaws.{cut_end, cut_begins, end_boundary, start_boundary}
@@ -6,9 +6,9 @@ use Rattle.cel_lex.proofs.BorrowLaws.{borrowed_by}
 use Rattle.cel_lex.proofs.LexLaws.{next_is, next_end, rest_by, start_is}
 use Rattle.cel_lex.proofs.OpeningLaws.{EndsAt}
 use Rattle.cel_lex.specs.Gap.{gap_of}
-use Rattle.cel_lex.specs.Lexis.{cut_of, due_after}
+use Rattle.cel_lex.specs.Lexis.{cut_of}
 use Rattle.cel_lex.specs.Place.{Place}
-use Rattle.cel_lex.specs.Tokens.{Lexeme, IsBorrowed, Next, Read, Fault, End, nothing, rest_of, next_of, after, first_of, read_cut, start_of}
+use Rattle.cel_lex.specs.Tokens.{Lexeme, IsBorrowed, Read, Fault, End, nothing, rest_of, next_of, after, first_of, read_cut}
 use Rattle.cel_lex.specs.declared.cut.Cut.{Cut}
 use Rattle.cel_lex.specs.declared.token.LexError.{LexError}
 use Rattle.cel_lex.proofs.tokens.Tokens.next.Goals as goal
