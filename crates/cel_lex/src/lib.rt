@@ -18,3 +18,6 @@ pub use number::int_value;
 pub use spelling::{Piece, Spelling};
 pub use token::{LexError, Span, Token, TokenKind};
 pub use tokens::Tokens;
+
+#[cfg(test)]
+mod tests;
