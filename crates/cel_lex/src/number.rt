@@ -15,7 +15,7 @@ pub struct Form {
 
 /// The value of a whole number of 64 bits: decimal digits, or `0x` and hexadecimal digits, after
 /// at most one `-`. None where the text is no such number, or its value is below -2^63 or above
-/// 2^63 - 1. The text of each token of the kind `Int` has a value.
+/// 2^63 - 1.
 pub fn int_value(text: &str) -> Option<i64>
     ensures { result ≡ int_of text.now }
 {
