@@ -73,14 +73,17 @@ abbrev mutual
 abbrev pub tree_view : Tree → Ast
 tree_view t = Node t.span (kind_view t.kind)
 
--- trees in a list, and entries
-abbrev pub asts_of : List Tree → Asts
+-- trees one after another, and pairs of key and value
+abbrev pub asts_of : List Ast → Asts
 asts_of [] = End
-asts_of (t ∷ ts) = More (tree_view t) (asts_of ts)
+asts_of (t ∷ ts) = More t (asts_of ts)
 
-abbrev pub entries_of : List Entry → Entries
+abbrev pub entries_of : List (Ast × Ast) → Entries
 entries_of [] = NoEntry
-entries_of (e ∷ es) = Pair (tree_view e.key) (tree_view e.value) (entries_of es)
+entries_of (e ∷ es) = Pair e.0 e.1 (entries_of es)
+
+abbrev pub entry_view : Entry → Ast × Ast
+entry_view e = (tree_view e.key, tree_view e.value)
 
 abbrev pub span_of : Ast → Span
 span_of (Node span form) = span

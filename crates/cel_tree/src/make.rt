@@ -1,5 +1,5 @@
-ghost use Rattle.std.specs.Prelude.{◌≡◌, IfOk};
-ghost use Rattle.cel_tree.specs.Ast.{Node, Unary, Binary, Conditional, Member, Index, Call, Method, ListOf, MapOf, tree_view, kind_view, asts_of, entries_of};
+ghost use Rattle.std.specs.Prelude.{◌≡◌, IfOk, map};
+ghost use Rattle.cel_tree.specs.Ast.{Node, Unary, Binary, Conditional, Member, Index, Call, Method, ListOf, MapOf, tree_view, kind_view, asts_of, entries_of, entry_view};
 
 use crate::{BinaryOp, Entry, Kind, Span, Tree, UnaryOp};
 use dra_values::Text;
@@ -80,7 +80,7 @@ impl Tree {
     /// `function(arguments)`
     #[tactic(auto, using(crate::proofs::Rows::rows))]
     pub fn call(span: Span, function: Text, arguments: Vec<Tree>) -> Tree
-        ensures { tree_view result ≡ Node span (Call function (asts_of arguments.items)) }
+        ensures { tree_view result ≡ Node span (Call function (asts_of (map tree_view arguments.items))) }
     {
         Tree::new(span, Kind::Call(function, arguments))
     }
@@ -95,7 +95,7 @@ impl Tree {
         arguments: Vec<Tree>,
     ) -> Result<Tree, AllocError>
         ensures { IfOk result (λ t. tree_view t
-            ≡ Node span (Method (tree_view object) function (asts_of arguments.items))) }
+            ≡ Node span (Method (tree_view object) function (asts_of (map tree_view arguments.items)))) }
     {
         let object = Box::new(alloc, object)?;
         Ok(Tree::new(span, Kind::Method(object, function, arguments)))
@@ -103,14 +103,14 @@ impl Tree {
 
     #[tactic(auto, using(crate::proofs::Rows::rows))]
     pub fn list(span: Span, items: Vec<Tree>) -> Tree
-        ensures { tree_view result ≡ Node span (ListOf (asts_of items.items)) }
+        ensures { tree_view result ≡ Node span (ListOf (asts_of (map tree_view items.items))) }
     {
         Tree::new(span, Kind::List(items))
     }
 
     #[tactic(auto, using(crate::proofs::Rows::rows))]
     pub fn map(span: Span, entries: Vec<Entry>) -> Tree
-        ensures { tree_view result ≡ Node span (MapOf (entries_of entries.items)) }
+        ensures { tree_view result ≡ Node span (MapOf (entries_of (map entry_view entries.items))) }
     {
         Tree::new(span, Kind::Map(entries))
     }
