@@ -1,0 +1,8 @@
+use Rattle.std.specs.Prelude.{ℕ, List, Bool}
+
+-- a source, how far it is read, whether an operand is due there, and whether a fault was met
+pub record Place : Type 0 where
+  pub source : List ℕ
+  pub at : ℕ
+  pub due : Bool
+  pub failed : Bool

@@ -1,0 +1,66 @@
+ghost use Rattle.std.specs.Prelude.{◌≡◌, ◌≤◌, length, drop};
+ghost use Rattle.cel_lex.specs.Strings.{closes, part_of, string_end};
+
+use crate::bytes::{begins_with, is_line_end};
+use crate::escape::{read_escape, Escape};
+use crate::quotes::Quotes;
+use crate::token::LexError;
+
+/// What stands at a place in the content of a string.
+#[derive(Clone, Copy)]
+pub enum Part {
+    /// The closing quotes.
+    Close,
+    /// A byte that stands for itself.
+    Plain,
+    Escaped(Escape),
+    /// A backslash that begins no escape.
+    Wrong,
+    /// A line end where none may stand, or the end of the text.
+    Cut,
+}
+
+/// What the content of a string goes on with.
+pub fn part_at(quotes: Quotes, text: &[u8]) -> Part
+    ensures { result ≡ part_of quotes text.now }
+{
+    match text {
+        [] => Part::Cut,
+        _ if closes(quotes, text) => Part::Close,
+        [first, ..] if quotes.count == 1 && is_line_end(*first) => Part::Cut,
+        [b'\\', rest @ ..] if !quotes.raw => match read_escape(rest) {
+            Some(escape) => Part::Escaped(escape),
+            None => Part::Wrong,
+        },
+        _ => Part::Plain,
+    }
+}
+
+fn closes(quotes: Quotes, text: &[u8]) -> bool
+    ensures { result ≡ closes quotes text.now }
+{
+    match text {
+        [first, ..] if quotes.count == 1 => *first == quotes.mark,
+        [first, second, third, ..] => {
+            *first == quotes.mark && *second == quotes.mark && *third == quotes.mark
+        }
+        _ => false,
+    }
+}
+
+/// Where the string ends that begins at `from` and whose content begins at `inside`.
+pub fn string_end(source: &[u8], from: usize, inside: usize, quotes: Quotes) -> Result<usize, LexError>
+    requires { inside ≤ length source.now }
+    ensures { result ≡ string_end quotes from inside 0 (drop inside source.now) }
+{
+    let mut at = inside;
+    loop {
+        match part_at(quotes, &source[at..]) {
+            Part::Close => return Ok(at + quotes.count),
+            Part::Plain => at += 1,
+            Part::Escaped(escape) => at += escape.len,
+            Part::Wrong => return Err(LexError::BadEscape(at)),
+            Part::Cut => return Err(LexError::Unclosed(from)),
+        }
+    }
+}
