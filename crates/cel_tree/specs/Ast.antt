@@ -92,7 +92,7 @@ span_of (Node span form) = span
 -- and so are the arguments of a call and the object of a method.
 abbrev mutual
   pub depth : Ast → ℕ
-  depth (Node span form) = 1 + below form
+  depth (Node span form) = below form + 1
 
   pub below : Form → ℕ
   below (Literal' c) = 0
