@@ -1,5 +1,5 @@
 -- The token at the front of a text.
-use Rattle.std.specs.Prelude.{ℕ, ◌+◌, ◌-◌, List, [], ◌∷◌, drop, take, if◌then◌else◌, ◌==◌, ◌||◌, ◌&&◌, Bool, true, false, Option, Some, None, is_some, Result, Ok, Err, codes}
+use Rattle.std.specs.Prelude.{ℕ, ◌+◌, ◌-◌, List, [], ◌∷◌, drop, take, if◌then◌else◌, ◌==◌, ◌||◌, ◌&&◌, Bool, true, false, Option, Some, None, is_some, unwrap_or, Result, Ok, Err, codes}
 use Rattle.std.specs.List.{prefix_len, list_any}
 use Rattle.std.specs.Char.{is_ascii_digit}
 use Rattle.std.specs.Str.{bytes_eq}
@@ -15,22 +15,31 @@ use Rattle.cel_lex.specs.declared.token.LexError.{LexError}
 use Rattle.cel_lex.specs.declared.token.LexError.TheVariants.{BadChar, BadNumber}
 
 -- the words that no variable and no function may have as its name
-abbrev pub reserved : List (List ℕ)
-reserved =
-    codes "as" ∷ codes "break" ∷ codes "const" ∷ codes "continue" ∷ codes "else" ∷ codes "for" ∷ codes "function" ∷ codes "if" ∷ codes "import"
-    ∷ codes "let" ∷ codes "loop" ∷ codes "namespace" ∷ codes "package" ∷ codes "return" ∷ codes "var" ∷ codes "void" ∷ codes "while" ∷ []
+abbrev pub short_words : List (List ℕ)
+short_words = codes "as" ∷ codes "if" ∷ codes "for" ∷ codes "let" ∷ codes "var" ∷ []
+
+abbrev pub middle_words : List (List ℕ)
+middle_words = codes "else" ∷ codes "loop" ∷ codes "void" ∷ codes "break" ∷ codes "const" ∷ codes "while" ∷ []
+
+abbrev pub long_words : List (List ℕ)
+long_words = codes "import" ∷ codes "return" ∷ codes "package" ∷ codes "continue" ∷ codes "function" ∷ codes "namespace" ∷ []
+
+abbrev pub is_reserved : List ℕ → Bool
+is_reserved word = list_any (bytes_eq word) short_words || list_any (bytes_eq word) middle_words || list_any (bytes_eq word) long_words
+
+abbrev pub keyword_of : List ℕ → Option TokenKind
+keyword_of word =
+    if bytes_eq word (codes "false") then Some kind.False
+    else (if bytes_eq word (codes "in") then Some kind.In
+    else (if bytes_eq word (codes "null") then Some kind.Null
+    else (if bytes_eq word (codes "true") then Some kind.True
+    else None)))
 
 abbrev pub word_kind : List ℕ → TokenKind
-word_kind word =
-    if bytes_eq word (codes "false") then kind.False
-    else (if bytes_eq word (codes "in") then kind.In
-    else (if bytes_eq word (codes "null") then kind.Null
-    else (if bytes_eq word (codes "true") then kind.True
-    else (if list_any (bytes_eq word) reserved then kind.Reserved
-    else kind.Ident))))
+word_kind word = unwrap_or (keyword_of word) (if is_reserved word then kind.Reserved else kind.Ident)
 
 -- the value of a whole number at the front fits in 64 bits
-abbrev pub fits : TokenKind → ℕ → List ℕ → Bool
+unfoldable pub fits : TokenKind → ℕ → List ℕ → Bool
 fits kind.Int n bs = is_some (int_of (take n bs))
 fits kind.Uint n bs = is_some (whole_of (take (n - 1) bs))
 fits k n bs = true
@@ -104,7 +113,7 @@ longer None other = other
 longer (Some k) other = Some (record { kind = k; len = 2 })
 
 -- an operator or a bracket at the front, the longer first
-abbrev pub mark_of : List ℕ → Option Form
+unfoldable pub mark_of : List ℕ → Option Form
 mark_of [] = None
 mark_of (c ∷ []) = mark_form 1 (single_of c)
 mark_of (c ∷ d ∷ cs) = longer (pair_of c d) (mark_form 1 (single_of c))
@@ -113,7 +122,7 @@ abbrev pub cut_mark : ℕ → Option Form → Result Cut LexError
 cut_mark from None = Err (BadChar from)
 cut_mark from (Some f) = cut_as from f
 
-abbrev pub word_form : List ℕ → Form
+unfoldable pub word_form : List ℕ → Form
 word_form bs = record { kind = word_kind (take (prefix_len is_word bs) bs); len = prefix_len is_word bs }
 
 -- a digit, or a point and a digit
@@ -125,7 +134,7 @@ abbrev pub begins_signed : List ℕ → Bool
 begins_signed bs = begins_with 45 bs && begins is_ascii_digit (drop 1 bs)
 
 -- the token that a text begins with that is no string: a word, a number with its sign where an operand is due, or a mark
-abbrev pub cut_plain : Bool → ℕ → List ℕ → Result Cut LexError
+unfoldable pub cut_plain : Bool → ℕ → List ℕ → Result Cut LexError
 cut_plain due from bs =
     if begins is_word_start bs then cut_as from (word_form bs)
     else (if begins_number bs then fitting from bs (number_form bs)
@@ -137,23 +146,30 @@ cut_opened due from bs None = cut_plain due from bs
 cut_opened due from bs (Some q) = cut_string q (string_end q from (from + q.len) 0 (drop q.len bs))
 
 -- the kind and the end of the token that begins at `from` with these bytes, or why there is none
-abbrev pub cut_of : Bool → ℕ → List ℕ → Result Cut LexError
+unfoldable pub cut_of : Bool → ℕ → List ℕ → Result Cut LexError
 cut_of due from bs = cut_opened due from bs (opening_of bs)
 
 -- an operand is due after a token of this kind: an operator, `in`, an opening bracket, `,`, `?` or `:`
 abbrev pub due_after : TokenKind → Bool
-due_after kind.Ident = false
-due_after kind.False = false
-due_after kind.Null = false
-due_after kind.True = false
-due_after kind.Reserved = false
-due_after kind.Int = false
-due_after kind.Double = false
-due_after kind.Uint = false
-due_after kind.Str = false
-due_after kind.Bytes = false
-due_after kind.Dot = false
-due_after kind.RightParen = false
-due_after kind.RightBracket = false
-due_after kind.RightBrace = false
-due_after k = true
+due_after kind.OrOr = true
+due_after kind.AndAnd = true
+due_after kind.Lt = true
+due_after kind.Le = true
+due_after kind.Ge = true
+due_after kind.Gt = true
+due_after kind.EqEq = true
+due_after kind.NotEq = true
+due_after kind.In = true
+due_after kind.Plus = true
+due_after kind.Minus = true
+due_after kind.Star = true
+due_after kind.Slash = true
+due_after kind.Percent = true
+due_after kind.Not = true
+due_after kind.LeftParen = true
+due_after kind.LeftBracket = true
+due_after kind.LeftBrace = true
+due_after kind.Comma = true
+due_after kind.Question = true
+due_after kind.Colon = true
+due_after k = false

@@ -1,5 +1,5 @@
 -- Numbers: their form, and the value of a whole number.
-use Rattle.std.specs.Prelude.{ℕ, ◌+◌, ◌-◌, ◌^◌, List, [], ◌∷◌, drop, take, length, if◌then◌else◌, ◌==◌, ◌||◌, ◌&&◌, nat_lt, nat_le, not, Bool, true, false, Option, Some, None, ℤ, pos, neg_ℤ}
+use Rattle.std.specs.Prelude.{ℕ, zero, suc, ◌+◌, ◌-◌, ◌^◌, List, [], ◌∷◌, drop, take, length, if◌then◌else◌, ◌==◌, ◌||◌, ◌&&◌, nat_lt, nat_le, not, Bool, true, false, Option, Some, None, ℤ, pos, neg_ℤ}
 use Rattle.std.specs.List.{prefix_len, list_all}
 use Rattle.std.specs.Char.{is_ascii_digit, is_ascii_hexdigit, is_digit}
 use Rattle.std.specs.Str.Parse.{digits_value}
@@ -53,7 +53,8 @@ abbrev pub exponent_digits : ℕ → List ℕ → ℕ
 exponent_digits before bs = if begins is_ascii_digit bs then before + prefix_len is_ascii_digit bs else 0
 
 abbrev pub exponent_len : List ℕ → ℕ
-exponent_len bs = if begins exponent_mark bs then exponent_digits (1 + sign_len (drop 1 bs)) (drop (1 + sign_len (drop 1 bs)) bs) else 0
+exponent_len [] = 0
+exponent_len (c ∷ cs) = if exponent_mark c then exponent_digits (1 + sign_len cs) (drop (sign_len cs) cs) else 0
 
 -- `u` or `U`
 abbrev pub unsigned_mark : ℕ → Bool
@@ -72,7 +73,7 @@ abbrev pub behind_point : List ℕ → ℕ
 behind_point bs = fraction_len bs + exponent_len (drop (fraction_len bs) bs)
 
 -- what kind of number the text begins with, and how many bytes it has
-abbrev pub number_form : List ℕ → Form
+unfoldable pub number_form : List ℕ → Form
 number_form bs =
     if begins_hex bs then whole_form (2 + prefix_len is_ascii_hexdigit (drop 2 bs)) (drop (2 + prefix_len is_ascii_hexdigit (drop 2 bs)) bs)
     else decimal_form (prefix_len is_ascii_digit bs) (behind_point (drop (prefix_len is_ascii_digit bs) bs)) (drop (prefix_len is_ascii_digit bs) bs)

@@ -17,8 +17,8 @@ quotes_of bytes raw before [] = None
 quotes_of bytes raw before (q ∷ cs) =
     if is_quote q
     then Some (if begins_with q cs && begins_with q (drop 1 cs)
-        then record { mark = q; count = 3; bytes = bytes; raw = raw; len = before + 3 }
-        else record { mark = q; count = 1; bytes = bytes; raw = raw; len = before + 1 })
+    then record { mark = q; triple = true; bytes = bytes; raw = raw; len = before + 3 }
+    else record { mark = q; triple = false; bytes = bytes; raw = raw; len = before + 1 })
     else None
 
 abbrev pub is_bytes_mark : ℕ → Bool
@@ -28,7 +28,7 @@ abbrev pub is_raw_mark : ℕ → Bool
 is_raw_mark c = c == 114 || c == 82
 
 -- how a string begins: perhaps `b` or `B`, perhaps `r` or `R`, and then one quote or three of a kind
-abbrev pub opening_of : List ℕ → Option Quotes
+unfoldable pub opening_of : List ℕ → Option Quotes
 opening_of bs =
     if begins is_bytes_mark bs
     then (if begins is_raw_mark (drop 1 bs) then quotes_of true true 2 (drop 2 bs) else quotes_of true false 1 (drop 1 bs))
@@ -69,7 +69,7 @@ named_or (Some x) other = Some (record { character = x; len = 2 })
 named_or None other = other
 
 -- the escape that a backslash and these bytes are: its character, and how many bytes it has with the backslash
-abbrev pub escape_of : List ℕ → Option Escape
+unfoldable pub escape_of : List ℕ → Option Escape
 escape_of [] = None
 escape_of (c ∷ cs) = named_or (named c) (coded_escape c cs)
 
@@ -77,30 +77,34 @@ abbrev pub part_of_escape : Option Escape → Part
 part_of_escape None = Wrong
 part_of_escape (Some e) = Escaped e
 
+-- how many quotes stand on either side
+abbrev pub count_of : Quotes → ℕ
+count_of q = if q.triple then 3 else 1
+
 -- the closing quotes stand at the front
 abbrev pub closes : Quotes → List ℕ → Bool
-closes q bs = if q.count == 1 then begins_with q.mark bs else begins_with q.mark bs && begins_with q.mark (drop 1 bs) && begins_with q.mark (drop 2 bs)
+closes q bs = begins_with q.mark bs && (not q.triple || (begins_with q.mark (drop 1 bs) && begins_with q.mark (drop 2 bs)))
 
 -- what stands at the front of what follows the opening quotes
-abbrev pub part_of : Quotes → List ℕ → Part
+unfoldable pub part_of : Quotes → List ℕ → Part
 part_of q [] = Cut
 part_of q (c ∷ cs) =
     if closes q (c ∷ cs) then Close
-    else (if q.count == 1 && is_line_end c then Cut
+    else (if not q.triple && is_line_end c then Cut
     else (if c == 92 && not q.raw then part_of_escape (escape_of cs)
     else Plain))
 
--- how many bytes of the part follow its first
-abbrev pub more_of : Part → ℕ
-more_of Close = 0
-more_of Plain = 0
-more_of (Escaped e) = e.len - 1
-more_of Wrong = 0
-more_of Cut = 0
+-- how many bytes the part has
+abbrev pub size_of : Quotes → Part → ℕ
+size_of q Close = count_of q
+size_of q Plain = 1
+size_of q (Escaped e) = e.len
+size_of q Wrong = 0
+size_of q Cut = 0
 
 -- where the string ends that begins at `from`, if the part at `at` is this and what follows it ends the string so
 abbrev pub end_of_part : Quotes → ℕ → ℕ → Part → Result ℕ LexError → Result ℕ LexError
-end_of_part q from at Close later = Ok (at + q.count)
+end_of_part q from at Close later = Ok (at + count_of q)
 end_of_part q from at Plain later = later
 end_of_part q from at (Escaped e) later = later
 end_of_part q from at Wrong later = Err (BadEscape at)
@@ -110,7 +114,7 @@ end_of_part q from at Cut later = Err (Unclosed from)
 abbrev pub string_end : Quotes → ℕ → ℕ → ℕ → List ℕ → Result ℕ LexError
 string_end q from at left [] = Err (Unclosed from)
 string_end q from at (suc n) (c ∷ cs) = string_end q from (at + 1) n cs
-string_end q from at zero (c ∷ cs) = end_of_part q from at (part_of q (c ∷ cs)) (string_end q from (at + 1) (more_of (part_of q (c ∷ cs))) cs)
+string_end q from at zero (c ∷ cs) = end_of_part q from at (part_of q (c ∷ cs)) (string_end q from (at + 1) (size_of q (part_of q (c ∷ cs)) - 1) cs)
 
 -- the bytes that a part and what follows it spell
 abbrev pub spelled : ℕ → Part → List ℕ → List ℕ
@@ -124,7 +128,7 @@ spelled c Cut later = []
 abbrev pub spells : Quotes → ℕ → List ℕ → List ℕ
 spells q left [] = []
 spells q (suc n) (c ∷ cs) = spells q n cs
-spells q zero (c ∷ cs) = spelled c (part_of q (c ∷ cs)) (spells q (more_of (part_of q (c ∷ cs))) cs)
+spells q zero (c ∷ cs) = spelled c (part_of q (c ∷ cs)) (spells q (size_of q (part_of q (c ∷ cs)) - 1) cs)
 
 abbrev pub content_in : Option Quotes → List ℕ → List ℕ
 content_in None bs = []
@@ -135,5 +139,5 @@ abbrev pub content_of : List ℕ → List ℕ
 content_of bs = content_in (opening_of bs) bs
 
 -- a byte that may not stand for itself in a string with this quote: the quote, a backslash, a line end
-abbrev pub is_special : ℕ → ℕ → Bool
+unfoldable pub is_special : ℕ → ℕ → Bool
 is_special mark c = c == mark || c == 92 || is_line_end c

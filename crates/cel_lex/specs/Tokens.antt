@@ -1,6 +1,6 @@
 -- The tokens of a text, and the one that comes next.
-use Rattle.std.specs.Prelude.{ℕ, zero, suc, ◌+◌, ◌-◌, List, [], ◌∷◌, length, drop, take, slice_range, Bool, true, false, if◌then◌else◌, Option, Some, None, Result, Ok, Err}
-use Rattle.cel_lex.specs.Gap.{gap_of}
+use Rattle.std.specs.Prelude.{◌≡◌, ◌<◌, ◌≤◌, ℕ, zero, suc, ◌+◌, ◌-◌, List, [], ◌∷◌, length, drop, take, slice_range, Bool, true, false, if◌then◌else◌, Option, Some, None, Result, Ok, Err}
+use Rattle.cel_lex.specs.Gap.{gap_of, IsGap}
 use Rattle.cel_lex.specs.Lexis.{cut_of, due_after}
 use Rattle.cel_lex.specs.Place.{Place}
 use Rattle.cel_lex.specs.declared.token.TokenKind.{TokenKind}
@@ -43,8 +43,8 @@ lex_from at left due [] = nothing
 lex_from at (suc n) due (c ∷ cs) = lex_from (at + 1) n due cs
 lex_from at zero due (c ∷ cs) =
     after_gap (gap_of (c ∷ cs))
-        (with_cut at (c ∷ cs) (cut_of due at (c ∷ cs)) (λ cut. lex_from (at + 1) (cut.end - at - 1) (due_after cut.kind) cs))
-        (lex_from (at + 1) (gap_of (c ∷ cs) - 1) due cs)
+    (with_cut at (c ∷ cs) (cut_of due at (c ∷ cs)) (λ cut. lex_from (at + 1) (cut.end - at - 1) (due_after cut.kind) cs))
+    (lex_from (at + 1) (gap_of (c ∷ cs) - 1) due cs)
 
 -- the tokens of a text: at its start an operand is due
 abbrev pub lex_of : List ℕ → Lexed
@@ -91,3 +91,17 @@ abbrev pub first_of : Next → Lexed → Lexed
 first_of (Read t) later = with_token t later
 first_of (Fault e) later = record { tokens = []; error = Some e }
 first_of End later = nothing
+
+-- a fact of the token that was read
+abbrev pub IfRead : Next → (Lexeme → Type 0) → Type 0
+IfRead (Read t) P = P t
+IfRead (Fault e) P = Unit {0}
+IfRead End P = Unit {0}
+
+-- a token that is read at a place is the slice of the source at its span, which has a byte or more and begins at the place or behind it; only blanks and comments stand between
+pub record IsBorrowed (p : Place) (t : Lexeme) : Type 0 where
+  pub slice : t.text ≡ slice_range p.source t.start t.end
+  pub onward : p.at ≤ t.start
+  pub some : t.start < t.end
+  pub within : t.end ≤ length p.source
+  pub between : IsGap (slice_range p.source p.at t.start)

@@ -1,12 +1,13 @@
-ghost use Rattle.std.specs.Prelude.{◌≡◌, ◌≤◌, ◌<◌, ◌+◌, ◌^◌, length, drop, take};
-ghost use Rattle.std.specs.List.{prefix_len};
-ghost use Rattle.cel_lex.specs.Bytes.{is_word};
-ghost use Rattle.cel_lex.specs.Lexis.{cut_of, cut_plain, word_kind, word_form, fits, fitting, signed_form, begins_number, begins_signed, mark_of, pair_of, single_of, bracket_of, string_kind, due_after};
+ghost use Rattle.std.specs.Prelude.{◌≡◌, ◌≤◌, ◌<◌, ◌+◌, ◌^◌, length, drop, IfSome};
+ghost use Rattle.std.specs.List.{prefix_len, list_any};
+ghost use Rattle.std.specs.Str.{bytes_eq};
+ghost use Rattle.cel_lex.specs.Bytes.{is_word, is_word_start, begins};
+ghost use Rattle.cel_lex.specs.Lexis.{cut_of, cut_plain, word_kind, keyword_of, is_reserved, short_words, middle_words, long_words, word_form, fits, fitting, signed_form, begins_number, begins_signed, mark_of, pair_of, single_of, bracket_of, string_kind, due_after};
 
 use crate::bytes::{begins_digit, begins_with, is_word, is_word_start};
-use crate::number::{int_value_of, number_form, whole_value, Form};
+use crate::number::{Form, int_value_of, number_form, whole_value};
 use crate::part::string_end;
-use crate::quotes::{opening, Quotes};
+use crate::quotes::{Quotes, opening};
 use crate::token::{LexError, TokenKind};
 
 /// A token at a place: what it is, and the offset of the byte after its last.
@@ -17,6 +18,7 @@ pub struct Cut {
 }
 
 /// The token that begins at `from`; `due` says whether an operand is due there.
+#[tactic(auto, unfolding(crate::specs::Lexis::cut_of))]
 pub fn cut_at(source: &[u8], from: usize, due: bool) -> Result<Cut, LexError>
     requires { from < length source.now }
     ensures { result ≡ cut_of due from (drop from source.now) }
@@ -44,22 +46,52 @@ fn string_kind(quotes: Quotes) -> TokenKind
 }
 
 /// The token at the front of a text that begins at `from` and with no string.
+#[tactic(auto, unfolding(crate::specs::Lexis::cut_plain))]
 fn cut_plain(text: &[u8], from: usize, due: bool) -> Result<Cut, LexError>
     requires { from + length text.now < 2 ^ 64 }
     ensures { result ≡ cut_plain due from text.now }
 {
-    let form = match text {
-        [first, ..] if is_word_start(*first) => word_form(text),
-        [b'-', number @ ..] if due && begins_digit(number) => {
-            return fitting(text, from, signed_form(number_form(number)));
+    if begins_word(text) {
+        Ok(cut_as(from, word_form(text)))
+    } else if begins_number(text) {
+        fitting(text, from, number_form(text))
+    } else if due && begins_signed(text) {
+        fitting(text, from, signed_form(number_form(&text[1..])))
+    } else {
+        match mark(text) {
+            Some(form) => Ok(cut_as(from, form)),
+            None => Err(LexError::BadChar(from)),
         }
-        _ if begins_number(text) => return fitting(text, from, number_form(text)),
-        _ => mark(text).ok_or(LexError::BadChar(from))?,
-    };
-    Ok(Cut {
+    }
+}
+
+fn cut_as(from: usize, form: Form) -> Cut
+    requires { from + form.len < 2 ^ 64 }
+    ensures { result ≡ record { kind = form.kind; end = from + form.len } }
+{
+    Cut {
         kind: form.kind,
         end: from + form.len,
-    })
+    }
+}
+
+fn begins_word(text: &[u8]) -> bool
+    ensures { result ≡ begins is_word_start text.now }
+{
+    match text {
+        [first, ..] => is_word_start(*first),
+        [] => false,
+    }
+}
+
+/// Whether a minus and a digit stand at the front.
+fn begins_signed(text: &[u8]) -> bool
+    ensures { result ≡ begins_signed text.now }
+{
+    match text {
+        [b'-', digits @ ..] => begins_digit(digits),
+        _ => false,
+    }
 }
 
 /// The token, unless it is a whole number whose value does not fit in 64 bits.
@@ -69,15 +101,13 @@ fn fitting(text: &[u8], from: usize, form: Form) -> Result<Cut, LexError>
     ensures { result ≡ fitting from text.now form }
 {
     if fits(text, form) {
-        Ok(Cut {
-            kind: form.kind,
-            end: from + form.len,
-        })
+        Ok(cut_as(from, form))
     } else {
         Err(LexError::BadNumber(from))
     }
 }
 
+#[tactic(auto, unfolding(crate::specs::Lexis::fits))]
 fn fits(text: &[u8], form: Form) -> bool
     requires { form.len ≤ length text.now }
     ensures { result ≡ fits form.kind form.len text.now }
@@ -116,8 +146,10 @@ fn begins_number(text: &[u8]) -> bool
     }
 }
 
+#[tactic(auto, unfolding(crate::specs::Lexis::word_form))]
 fn word_form(text: &[u8]) -> Form
-    ensures { result ≡ word_form text.now }
+    ensures exact { result ≡ word_form text.now }
+    ensures within { result.len ≤ length text.now }
 {
     let len = word_len(text);
     Form {
@@ -136,21 +168,65 @@ fn word_len(text: &[u8]) -> usize
 fn word_kind(word: &[u8]) -> TokenKind
     ensures { result ≡ word_kind word.now }
 {
-    match word {
-        b"false" => TokenKind::False,
-        b"in" => TokenKind::In,
-        b"null" => TokenKind::Null,
-        b"true" => TokenKind::True,
-        b"as" | b"break" | b"const" | b"continue" | b"else" | b"for" | b"function" | b"if"
-        | b"import" | b"let" | b"loop" | b"namespace" | b"package" | b"return" | b"var"
-        | b"void" | b"while" => TokenKind::Reserved,
-        _ => TokenKind::Ident,
+    match keyword(word) {
+        Some(kind) => kind,
+        None if is_reserved(word) => TokenKind::Reserved,
+        None => TokenKind::Ident,
     }
 }
 
+fn keyword(word: &[u8]) -> Option<TokenKind>
+    ensures { result ≡ keyword_of word.now }
+{
+    match word {
+        b"false" => Some(TokenKind::False),
+        b"in" => Some(TokenKind::In),
+        b"null" => Some(TokenKind::Null),
+        b"true" => Some(TokenKind::True),
+        _ => None,
+    }
+}
+
+fn is_reserved(word: &[u8]) -> bool
+    ensures { result ≡ is_reserved word.now }
+{
+    is_short_word(word) || is_middle_word(word) || is_long_word(word)
+}
+
+/// A reserved word of two or three letters.
+fn is_short_word(word: &[u8]) -> bool
+    ensures { result ≡ list_any (bytes_eq word.now) short_words }
+{
+    matches!(word, b"as" | b"if" | b"for" | b"let" | b"var")
+}
+
+/// A reserved word of four or five letters.
+fn is_middle_word(word: &[u8]) -> bool
+    ensures { result ≡ list_any (bytes_eq word.now) middle_words }
+{
+    matches!(
+        word,
+        b"else" | b"loop" | b"void" | b"break" | b"const" | b"while"
+    )
+}
+
+/// A reserved word of six letters or more.
+fn is_long_word(word: &[u8]) -> bool
+    ensures { result ≡ list_any (bytes_eq word.now) long_words }
+{
+    word == b"import".as_slice()
+        || word == b"return".as_slice()
+        || word == b"package".as_slice()
+        || word == b"continue".as_slice()
+        || word == b"function".as_slice()
+        || word == b"namespace".as_slice()
+}
+
 /// The operator or bracket at the front, the longer first.
+#[tactic(auto, unfolding(crate::specs::Lexis::mark_of))]
 fn mark(text: &[u8]) -> Option<Form>
-    ensures { result ≡ mark_of text.now }
+    ensures exact { result ≡ mark_of text.now }
+    ensures within { IfSome result (λ f. f.len ≤ length text.now) }
 {
     let first = *text.first()?;
     if let [_, second, ..] = text {
@@ -219,21 +295,12 @@ pub fn due_after(kind: TokenKind) -> bool
     ensures { result ≡ due_after kind }
 {
     use TokenKind::*;
-    !matches!(
-        kind,
-        Ident
-            | False
-            | Null
-            | True
-            | Reserved
-            | Int
-            | Double
-            | Uint
-            | Str
-            | Bytes
-            | Dot
-            | RightParen
-            | RightBracket
-            | RightBrace
-    )
+    match kind {
+        OrOr | AndAnd | Lt | Le | Ge | Gt | EqEq | NotEq | In => true,
+        Plus | Minus | Star | Slash | Percent | Not => true,
+        LeftParen | LeftBracket | LeftBrace | Comma | Question | Colon => true,
+        Ident | False | Null | True | Reserved | Dot => false,
+        Int | Double | Uint | Str | Bytes => false,
+        RightParen | RightBracket | RightBrace => false,
+    }
 }

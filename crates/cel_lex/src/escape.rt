@@ -1,4 +1,4 @@
-ghost use Rattle.std.specs.Prelude.{◌≡◌, ◌≤◌, length};
+ghost use Rattle.std.specs.Prelude.{◌≡◌, ◌≤◌, ◌<◌, ◌+◌, length, IfSome};
 ghost use Rattle.cel_lex.specs.Strings.{named, coded, coded_escape, escape_of};
 
 use crate::number::number;
@@ -11,8 +11,11 @@ pub struct Escape {
 }
 
 /// The escape that a backslash and these bytes begin with.
+#[tactic(auto, unfolding(crate::specs::Strings::escape_of))]
 pub fn read_escape(text: &[u8]) -> Option<Escape>
-    ensures { result ≡ escape_of text.now }
+    ensures exact { result ≡ escape_of text.now }
+    ensures some { IfSome result (λ e. 1 < e.len) }
+    ensures within { IfSome result (λ e. e.len ≤ 1 + length text.now) }
 {
     let first = *text.first()?;
     if let Some(character) = named(first) {
@@ -50,7 +53,9 @@ fn coded(radix: u32, count: usize, before: usize, text: &[u8]) -> Option<Escape>
     requires high { radix ≤ 16 }
     requires few { count ≤ 8 }
     requires near { before ≤ 2 }
-    ensures { result ≡ coded radix count before text.now }
+    ensures exact { result ≡ coded radix count before text.now }
+    ensures len { IfSome result (λ e. e.len ≡ before + count) }
+    ensures within { IfSome result (λ e. count ≤ length text.now) }
 {
     if text.len() < count {
         return None;

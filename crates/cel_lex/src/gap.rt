@@ -1,21 +1,36 @@
-ghost use Rattle.std.specs.Prelude.{◌≡◌, ◌≤◌, length, not};
+ghost use Rattle.std.specs.Prelude.{◌≡◌, ◌≤◌, ◌<◌, ◌+◌, length, drop, not, true, false};
 ghost use Rattle.std.specs.List.{prefix_len};
-ghost use Rattle.cel_lex.specs.Bytes.{is_blank, is_line_end};
-ghost use Rattle.cel_lex.specs.Gap.{gap_of};
+ghost use Rattle.cel_lex.specs.Bytes.{is_blank, is_line_end, begins, begins_comment};
+ghost use Rattle.cel_lex.specs.Gap.{gap_of, comment_of};
 
-use crate::bytes::{begins_with, is_blank, is_line_end};
+use crate::bytes::{is_blank, is_line_end};
 
+#[tactic(auto, using(crate::proofs::GapLaws::gap_laws))]
 /// How many bytes at the front are blanks and comments.
 pub fn gap_len(text: &[u8]) -> usize
     ensures count { result ≡ gap_of text.now }
     ensures within { result ≤ length text.now }
 {
     let mut at = blank_len(text);
-    while begins_with(b'/', &text[at..]) && begins_with(b'/', &text[at + 1..]) {
-        at += line_len(&text[at..]);
-        at += blank_len(&text[at..]);
+    while begins_comment(&text[at..]) {
+        at += comment_len(&text[at..]);
     }
     at
+}
+
+fn begins_comment(text: &[u8]) -> bool
+    ensures { result ≡ begins_comment text.now }
+{
+    matches!(text, [b'/', b'/', ..])
+}
+
+/// How many bytes the comment at the front and the blanks behind it have.
+fn comment_len(text: &[u8]) -> usize
+    ensures count { result ≡ comment_of text.now }
+    ensures within { result ≤ length text.now }
+{
+    let line = line_len(text);
+    line + blank_len(&text[line..])
 }
 
 /// How many blanks stand at the front.

@@ -1,7 +1,7 @@
 ghost use Rattle.std.specs.Prelude.{◌≡◌, ◌≤◌, ◌<◌, ◌+◌, ◌^◌, length, drop, Option, None};
 ghost use Rattle.std.specs.List.{prefix_len};
 ghost use Rattle.std.specs.Char.{is_ascii_digit, is_ascii_hexdigit};
-ghost use Rattle.cel_lex.specs.Numbers.{number_of, number_form, begins_hex, whole_form, whole_of, int_of, fraction_len, sign_len, exponent_len, exponent_digits, behind_point};
+ghost use Rattle.cel_lex.specs.Numbers.{number_of, number_form, begins_hex, whole_form, whole_of, int_of, negative, fraction_len, sign_len, exponent_len, exponent_digits, behind_point};
 
 use crate::bytes::{begins_digit, begins_with};
 use crate::token::TokenKind;
@@ -31,7 +31,10 @@ pub fn int_value_of(text: &[u8]) -> Option<i64>
     }
 }
 
-fn negative(value: u64) -> Option<i64> {
+/// The negative of a value, down to -2^63.
+fn negative(value: u64) -> Option<i64>
+    ensures { result ≡ negative (Some value) }
+{
     if value == 1 << 63 {
         return Some(i64::MIN);
     }
@@ -54,6 +57,7 @@ pub fn whole_value(text: &[u8]) -> Option<u64>
     }
 }
 
+#[tactic(auto, using(crate::proofs::NumberLaws::number_laws))]
 /// The number that the digits write, below 2^64.
 pub fn number(radix: u32, digits: &[u8]) -> Option<u64>
     requires low { 2 ≤ radix }
@@ -63,7 +67,9 @@ pub fn number(radix: u32, digits: &[u8]) -> Option<u64>
     let mut value: u64 = 0;
     for byte in digits {
         let digit = (*byte as char).to_digit(radix)?;
-        value = value.checked_mul(u64::from(radix))?.checked_add(u64::from(digit))?;
+        value = value
+            .checked_mul(u64::from(radix))?
+            .checked_add(u64::from(digit))?;
     }
     Some(value)
 }
@@ -78,8 +84,10 @@ fn begins_hex(text: &[u8]) -> bool
 }
 
 /// What kind of number stands at the front, and how many bytes it has.
+#[tactic(auto, unfolding(crate::specs::Numbers::number_form))]
 pub fn number_form(text: &[u8]) -> Form
-    ensures { result ≡ number_form text.now }
+    ensures exact { result ≡ number_form text.now }
+    ensures within { result.len ≤ length text.now }
 {
     if begins_hex(text) {
         let len = 2 + hex_len(&text[2..]);
@@ -99,7 +107,8 @@ pub fn number_form(text: &[u8]) -> Form
 /// A whole number of so many bytes, unless a `u` follows.
 fn whole_form(len: usize, after: &[u8]) -> Form
     requires { len + length after.now < 2 ^ 64 }
-    ensures { result ≡ whole_form len after.now }
+    ensures exact { result ≡ whole_form len after.now }
+    ensures within { result.len ≤ len + length after.now }
 {
     match after {
         [b'u' | b'U', ..] => Form {
@@ -178,5 +187,7 @@ fn hex_len(text: &[u8]) -> usize
     ensures count { result ≡ prefix_len is_ascii_hexdigit text.now }
     ensures within { result ≤ length text.now }
 {
-    text.iter().take_while(|byte| byte.is_ascii_hexdigit()).count()
+    text.iter()
+        .take_while(|byte| byte.is_ascii_hexdigit())
+        .count()
 }

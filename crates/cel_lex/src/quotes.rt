@@ -1,22 +1,25 @@
-ghost use Rattle.std.specs.Prelude.{◌≡◌, ◌≤◌, ◌+◌, ◌<◌, ◌^◌, length};
-ghost use Rattle.cel_lex.specs.Strings.{quotes_of, opening_of};
+ghost use Rattle.std.specs.Prelude.{◌≡◌, ◌≤◌, ◌+◌, ◌<◌, ◌^◌, length, IfSome};
+ghost use Rattle.cel_lex.specs.Strings.{quotes_of, opening_of, count_of};
 
 use crate::bytes::is_quote;
 
-/// How a string begins: its quote, how many of them it has on either side, and how many bytes
+/// How a string begins: its quote, whether three of them stand on either side, and how many bytes
 /// stand before its content.
 #[derive(Clone, Copy)]
 pub struct Quotes {
     pub mark: u8,
-    pub count: usize,
+    pub triple: bool,
     pub bytes: bool,
     pub raw: bool,
     pub len: usize,
 }
 
 /// How the string at the front begins.
+#[tactic(auto, unfolding(crate::specs::Strings::opening_of))]
 pub fn opening(text: &[u8]) -> Option<Quotes>
-    ensures { result ≡ opening_of text.now }
+    ensures exact { result ≡ opening_of text.now }
+    ensures ascii { IfSome result (λ q. q.mark < 128) }
+    ensures within { IfSome result (λ q. q.len ≤ length text.now) }
 {
     match text {
         [b'b' | b'B', b'r' | b'R', rest @ ..] => quotes_after(true, true, 2, rest),
@@ -26,20 +29,37 @@ pub fn opening(text: &[u8]) -> Option<Quotes>
     }
 }
 
+#[tactic(auto, using(crate::proofs::QuoteLaws::quote_ascii))]
 fn quotes_after(bytes: bool, raw: bool, before: usize, text: &[u8]) -> Option<Quotes>
     requires { before ≤ 2 }
-    ensures { result ≡ quotes_of bytes raw before text.now }
+    ensures exact { result ≡ quotes_of bytes raw before text.now }
+    ensures ascii { IfSome result (λ q. q.mark < 128) }
+    ensures within { IfSome result (λ q. q.len ≤ before + length text.now) }
 {
-    let (mark, count) = match text {
-        [mark, second, third, ..] if is_quote(*mark) && second == mark && third == mark => (*mark, 3),
-        [mark, ..] if is_quote(*mark) => (*mark, 1),
-        _ => return None,
-    };
-    Some(Quotes {
-        mark,
-        count,
-        bytes,
-        raw,
-        len: before + count,
-    })
+    match text {
+        [mark, second, third, ..] if is_quote(*mark) && second == mark && third == mark => {
+            Some(Quotes {
+                mark: *mark,
+                triple: true,
+                bytes,
+                raw,
+                len: before + 3,
+            })
+        }
+        [mark, ..] if is_quote(*mark) => Some(Quotes {
+            mark: *mark,
+            triple: false,
+            bytes,
+            raw,
+            len: before + 1,
+        }),
+        _ => None,
+    }
+}
+
+/// How many quotes stand on either side.
+pub fn count(quotes: Quotes) -> usize
+    ensures { result ≡ count_of quotes }
+{
+    if quotes.triple { 3 } else { 1 }
 }

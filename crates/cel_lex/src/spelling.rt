@@ -4,11 +4,10 @@ ghost use Rattle.cel_lex.specs.Bytes.{is_line_end};
 ghost use Rattle.cel_lex.specs.Spelling.{piece_bytes};
 ghost use Rattle.cel_lex.specs.Strings.{content_of, is_special};
 
-use std::marker::Model;
-
 use crate::bytes::is_line_end;
-use crate::part::{part_at, Part};
-use crate::quotes::{opening, Quotes};
+use crate::part::{Part, part_at};
+use crate::quotes::{Quotes, opening};
+use std::marker::Model;
 
 /// A piece of what a string spells: text that stands for itself, or the character of an escape.
 #[derive(Clone, Copy, Debug)]
@@ -50,7 +49,7 @@ impl<'a> Spelling<'a> {
                 rest: "",
                 quotes: Quotes {
                     mark: b'"',
-                    count: 1,
+                    triple: false,
                     bytes: false,
                     raw: true,
                     len: 0,
@@ -67,19 +66,21 @@ impl<'a> Spelling<'a> {
         ensures ended { IfNone result (self.new ≡ []) }
     {
         let rest = self.rest;
-        let plain = plain_len(self.quotes.mark, rest.as_bytes());
+        let bytes = rest.as_bytes();
+        let plain = plain_len(self.quotes.mark, bytes);
         if plain > 0 {
             self.rest = &rest[plain..];
             return Some(Piece::Plain(&rest[..plain]));
         }
-        match part_at(self.quotes, rest.as_bytes()) {
+        match part_at(self.quotes, bytes) {
             Part::Plain => {
                 self.rest = &rest[1..];
                 Some(Piece::Plain(&rest[..1]))
             }
             Part::Escaped(escape) => {
+                let character = escape.character;
                 self.rest = &rest[escape.len..];
-                Some(Piece::Escaped(escape.character))
+                Some(Piece::Escaped(character))
             }
             Part::Close | Part::Wrong | Part::Cut => None,
         }
@@ -91,9 +92,12 @@ fn plain_len(mark: u8, text: &[u8]) -> usize
     ensures count { result ≡ prefix_len (λ c. not (is_special mark c)) text.now }
     ensures within { result ≤ length text.now }
 {
-    text.iter().take_while(|byte| !is_special(mark, **byte)).count()
+    text.iter()
+        .take_while(|byte| !is_special(mark, **byte))
+        .count()
 }
 
+#[tactic(auto, unfolding(crate::specs::Strings::is_special))]
 fn is_special(mark: u8, byte: u8) -> bool
     ensures { result ≡ is_special mark byte }
 {

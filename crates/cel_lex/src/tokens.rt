@@ -1,11 +1,10 @@
 ghost use Rattle.std.specs.Prelude.{◌≡◌, ◌≤◌, true, false};
-ghost use Rattle.cel_lex.specs.Tokens.{seen, next_of, after, rest_of, first_of, lex_of};
-
-use std::marker::Model;
+ghost use Rattle.cel_lex.specs.Tokens.{seen, next_of, after, rest_of, first_of, lex_of, IfRead, IsBorrowed};
 
 use crate::cut::{cut_at, due_after};
 use crate::gap::gap_len;
 use crate::token::{LexError, Span, Token};
+use std::marker::Model;
 
 /// Reads the tokens of a text from the left.
 #[derive(Drop)]
@@ -47,17 +46,19 @@ impl<'a> Tokens<'a> {
     pub fn next(&mut self) -> Option<Result<Token<'a>, LexError>>
         ensures exact { seen result ≡ next_of self.old }
         ensures moves { self.new ≡ after self.old (next_of self.old) }
+        ensures borrowed { IfRead (seen result) (IsBorrowed self.old) }
         ensures rest { rest_of self.old ≡ first_of (seen result) (rest_of self.new) }
     {
         if self.failed {
             return None;
         }
         let source = self.source;
-        let start = self.at + gap_len(&source.as_bytes()[self.at..]);
-        if start == source.len() {
+        let bytes = source.as_bytes();
+        let start = self.at + gap_len(&bytes[self.at..]);
+        if start == bytes.len() {
             return None;
         }
-        match cut_at(source.as_bytes(), start, self.due) {
+        match cut_at(bytes, start, self.due) {
             Ok(cut) => {
                 self.at = cut.end;
                 self.due = due_after(cut.kind);

@@ -1,0 +1,13 @@
+pub mod BorrowLaws
+pub mod CutLaws
+pub mod Cuts
+pub mod EndLaws
+pub mod GapLaws
+pub mod GapMeaning
+pub mod LexLaws
+pub mod NumberLaws
+pub mod OpeningLaws
+pub mod QuoteLaws
+pub mod SpellLaws
+pub mod StringLaws
+pub mod Tests
