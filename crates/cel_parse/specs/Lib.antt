@@ -1,0 +1,5 @@
+pub mod Grammar
+pub mod Parts
+pub mod Operands
+pub mod Steps
+pub mod Answer
