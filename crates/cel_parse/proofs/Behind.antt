@@ -37,8 +37,8 @@ module _ (most : ℕ) where
   asked_at : (ws : List Lexeme) (p : Part) (st : List Frame) (k : Lexeme) → Collapsed most 1 ws (p, st) → expects_top st ≤ 0 → k.kind ≡ kind.Question → At most (ws ++ k ∷ []) (Want Expr, frame.Test p ∷ st)
   asked_at ws p st k c lo ek =
       subst (λ (q : Part). At most (ws ++ k ∷ []) (Want Expr, frame.Test q ∷ st)) (sym c.part)
-          (move most (ws ++ k ∷ []) (c.before ++ (c.front ++ k ∷ [])) (Want Expr, frame.Test (cut most c.tree) ∷ st) (ap (λ (l : List Lexeme). l ++ k ∷ []) c.same ∙ append_assoc c.before c.front (k ∷ []))
-              (want_expr (test_at k c.tree c.stacked lo (weaken c.at 1 c.front c.tree c.high c.has) ek) (omega arith)))
+      (move most (ws ++ k ∷ []) (c.before ++ (c.front ++ k ∷ [])) (Want Expr, frame.Test (cut most c.tree) ∷ st) (ap (λ (l : List Lexeme). l ++ k ∷ []) c.same ∙ append_assoc c.before c.front (k ∷ []))
+      (want_expr (test_at k c.tree c.stacked lo (weaken c.at 1 c.front c.tree c.high c.has) ek) (omega arith)))
 
   asked_goes : (ws : List Lexeme) (p : Part) (st : List Frame) (k : Lexeme) → Collapsed most 1 ws (p, st) → k.kind ≡ kind.Question → Goes most (ws ++ k ∷ []) (asked p st)
   asked_goes ws p [] k c ek = asked_at ws p [] k c (omega arith) ek
@@ -52,10 +52,10 @@ module _ (most : ℕ) where
       Goes most ((before ++ front) ++ k ∷ []) (parted (cut most t) (f ∷ st))
   parted_by before front f st t m k (test_at {pre = pre} {a = a} q u s lo ha eq) h l ek =
       move most ((before ++ front) ++ k ∷ []) (pre ++ (a ++ q ∷ (front ++ k ∷ []))) (Want Expr, frame.Branch (cut most u) (cut most t) ∷ st) (simp append_assoc)
-          (want_expr (branch_at q k u t s lo ha eq (weaken m 1 front t l h) ek) (omega arith))
+      (want_expr (branch_at q k u t s lo ha eq (weaken m 1 front t l h) ek) (omega arith))
   parted_by before front f st t m k (map_at {pre = pre} {us = us} o l s eo b) h i ek =
       move most ((before ++ front) ++ k ∷ []) (pre ++ (o ∷ (us ++ (front ++ k ∷ [])))) (Want Expr, frame.Value (place o) (cut_pairs most l) (cut most t) ∷ st) (simp append_assoc)
-          (want_expr (value_at o k l t s eo b (weaken m 0 front t (omega arith) h) ek) (omega arith))
+      (want_expr (value_at o k l t s eo b (weaken m 0 front t (omega arith) h) ek) (omega arith))
   parted_by before front f st t m k (prefix_first n s lo en) h l ek = tt
   parted_by before front f st t m k (prefix_again n s en) h l ek = tt
   parted_by before front f st t m k (infix_at o u s lo ha eo) h l ek = tt
@@ -71,19 +71,19 @@ module _ (most : ℕ) where
   parted_goes ws p [] k c ek = tt
   parted_goes ws p (f ∷ st) k c ek =
       subst (λ (l : List Lexeme). Goes most (l ++ k ∷ []) (parted p (f ∷ st))) (sym c.same)
-          (subst (λ (q : Part). Goes most ((c.before ++ c.front) ++ k ∷ []) (parted q (f ∷ st))) (sym c.part) (parted_by c.before c.front f st c.tree c.at k c.stacked c.has c.low ek))
+      (subst (λ (q : Part). Goes most ((c.before ++ c.front) ++ k ∷ []) (parted q (f ∷ st))) (sym c.part) (parted_by c.before c.front f st c.tree c.at k c.stacked c.has c.low ek))
 
   next_goes : (ws : List Lexeme) (p : Part) (st : List Frame) (k : Lexeme) → Collapsed most 0 ws (p, st) → k.kind ≡ kind.Comma → Goes most (ws ++ k ∷ []) (next_of p st)
   next_goes ws p [] k c ek = tt
   next_goes ws p (f ∷ st) k c ek =
       subst (λ (l : List Lexeme). Goes most (l ++ k ∷ []) (next_of p (f ∷ st))) (sym c.same)
-          (subst (λ (q : Part). Goes most ((c.before ++ c.front) ++ k ∷ []) (next_of q (f ∷ st))) (sym c.part) (comma_goes most c.before c.front f st c.tree k c.stacked (weaken c.at 0 c.front c.tree (omega arith) c.has) ek))
+      (subst (λ (q : Part). Goes most ((c.before ++ c.front) ++ k ∷ []) (next_of q (f ∷ st))) (sym c.part) (comma_goes most c.before c.front f st c.tree k c.stacked (weaken c.at 0 c.front c.tree (omega arith) c.has) ek))
 
   closed_goes : (ws : List Lexeme) (p : Part) (st : List Frame) (k : Lexeme) → Collapsed most 0 ws (p, st) → Goes most (ws ++ k ∷ []) (closed most p st k)
   closed_goes ws p [] k c = tt
   closed_goes ws p (f ∷ st) k c =
       subst (λ (l : List Lexeme). Goes most (l ++ k ∷ []) (closed most p (f ∷ st) k)) (sym c.same)
-          (subst (λ (q : Part). Goes most ((c.before ++ c.front) ++ k ∷ []) (closed most q (f ∷ st) k)) (sym c.part) (close_goes most c.before c.front f st c.tree k c.stacked (weaken c.at 0 c.front c.tree (omega arith) c.has)))
+      (subst (λ (q : Part). Goes most ((c.before ++ c.front) ++ k ∷ []) (closed most q (f ∷ st) k)) (sym c.part) (close_goes most c.before c.front f st c.tree k c.stacked (weaken c.at 0 c.front c.tree (omega arith) c.has)))
 
   -- an operator with two operands
   low_by : (x : BinaryOp) (st : List Frame) → binds_top (level x) st ≡ false → expects_top st ≤ level x
@@ -96,8 +96,8 @@ module _ (most : ℕ) where
   infix_goes : (ws : List Lexeme) (p : Part) (st : List Frame) (k : Lexeme) (x : BinaryOp) → Collapsed most (level x) ws (p, st) → binary_op k.kind ≡ Some x → At most (ws ++ k ∷ []) (Want Expr, frame.Infix x p ∷ st)
   infix_goes ws p st k x c ek =
       subst (λ (q : Part). At most (ws ++ k ∷ []) (Want Expr, frame.Infix x q ∷ st)) (sym c.part)
-          (move most (ws ++ k ∷ []) (c.before ++ (c.front ++ k ∷ [])) (Want Expr, frame.Infix x (cut most c.tree) ∷ st) (ap (λ (l : List Lexeme). l ++ k ∷ []) c.same ∙ append_assoc c.before c.front (k ∷ []))
-              (want_expr (infix_at k c.tree c.stacked (low_by x st c.stop) (weaken c.at (level x) c.front c.tree c.high c.has) ek) (level_within x)))
+      (move most (ws ++ k ∷ []) (c.before ++ (c.front ++ k ∷ [])) (Want Expr, frame.Infix x (cut most c.tree) ∷ st) (ap (λ (l : List Lexeme). l ++ k ∷ []) c.same ∙ append_assoc c.before c.front (k ∷ []))
+      (want_expr (infix_at k c.tree c.stacked (low_by x st c.stop) (weaken c.at (level x) c.front c.tree c.high c.has) ek) (level_within x)))
 
   abbrev Collapses : List Lexeme → Part → List Frame → Type 0
   Collapses ws p st = (n : ℕ) → n ≤ 6 → Collapsed most n ws (reduced most n p st)
@@ -113,7 +113,7 @@ module _ (most : ℕ) where
       subst (λ (q : Part). At most ((pre ++ ts) ++ k ∷ []) (Dot q, st)) (sym e) (move most ((pre ++ ts) ++ k ∷ []) (pre ++ (ts ++ k ∷ [])) (Dot (cut most t), st) (append_assoc pre ts (k ∷ [])) (dotted k t s g ek))
   have_goes pre ts st t h k s g e c ca kind.LeftBracket ek =
       subst (λ (q : Part). At most ((pre ++ ts) ++ k ∷ []) (Want Expr, frame.Subscript q ∷ st)) (sym e)
-          (move most ((pre ++ ts) ++ k ∷ []) (pre ++ (ts ++ k ∷ [])) (Want Expr, frame.Subscript (cut most t) ∷ st) (append_assoc pre ts (k ∷ [])) (want_expr (subscript_at k t s g ek) (omega arith)))
+      (move most ((pre ++ ts) ++ k ∷ []) (pre ++ (ts ++ k ∷ [])) (Want Expr, frame.Subscript (cut most t) ∷ st) (append_assoc pre ts (k ∷ [])) (want_expr (subscript_at k t s g ek) (omega arith)))
   have_goes pre ts st t h k s g e c ca kind.LeftParen ek = ca ek
   have_goes pre ts st t h k s g e c ca kind.Question ek = asked_goes (pre ++ ts) (reduced most 1 (part_of most h) st).0 (reduced most 1 (part_of most h) st).1 k (c 1 (omega arith)) ek
   have_goes pre ts st t h k s g e c ca kind.Colon ek = parted_goes (pre ++ ts) (reduced most 0 (part_of most h) st).0 (reduced most 0 (part_of most h) st).1 k (c 0 (omega arith)) ek
@@ -160,46 +160,46 @@ module _ (most : ℕ) where
   step_sound ts x k (want_expr {st = st} s lo) = want_goes most ts st Expr k s (λ y b e. want_member (prefix_first k s lo e)) (λ b. absurd (cc)) (λ e. tt) k.kind refl
   step_sound ts x k (want_member {st = st} {x = op} {s = sp} s) =
       want_goes most ts (frame.Prefix op sp ∷ st) (Prefixed op) k s
-          (λ y b e. let i = again_is op y b in subst (λ (z : UnaryOp). unary_op k.kind ≡ Some z → At most (ts ++ k ∷ []) (Want (Prefixed z), frame.Prefix z (place k) ∷ frame.Prefix op sp ∷ st)) i (λ e'. want_member (prefix_again k s e')) e)
-          (λ b. absurd (cc)) (λ e. tt) k.kind refl
+      (λ y b e. let i = again_is op y b in subst (λ (z : UnaryOp). unary_op k.kind ≡ Some z → At most (ts ++ k ∷ []) (Want (Prefixed z), frame.Prefix z (place k) ∷ frame.Prefix op sp ∷ st)) i (λ e'. want_member (prefix_again k s e')) e)
+      (λ b. absurd (cc)) (λ e. tt) k.kind refl
   step_sound ts x k (first_list {pre = pre} {st = st} o s eo) =
       fresh ts (frame.Square (place o) (parts.Shallow [] 0)) st First k (unfresh ts (frame.Square (place o) (parts.Shallow [] 0)) (frame.Square (place o) (cuts most [])) st k (ap (frame.Square (place o)) (cuts_none most)) (list_at o [] s eo no_item)) (omega arith)
-          (λ b. end_list most (ts ++ k ∷ []) pre [] st o k [] (parts.Shallow [] 0) (append_assoc pre (o ∷ []) (k ∷ [])) (cuts_none most) s eo (items no_argument) k.kind refl)
-          (λ e. move most (ts ++ k ∷ []) (pre ++ o ∷ k ∷ []) (Want Closing, frame.Square (place o) (parts.Shallow [] 0) ∷ st) (append_assoc pre (o ∷ []) (k ∷ [])) (closing_list o k s eo e))
+      (λ b. end_list most (ts ++ k ∷ []) pre [] st o k [] (parts.Shallow [] 0) (append_assoc pre (o ∷ []) (k ∷ [])) (cuts_none most) s eo (items no_argument) k.kind refl)
+      (λ e. move most (ts ++ k ∷ []) (pre ++ o ∷ k ∷ []) (Want Closing, frame.Square (place o) (parts.Shallow [] 0) ∷ st) (append_assoc pre (o ∷ []) (k ∷ [])) (closing_list o k s eo e))
   step_sound ts x k (first_map {pre = pre} {st = st} o s eo) =
       fresh ts (frame.Braces (place o) (entries.Shallow [] 0)) st First k (unfresh ts (frame.Braces (place o) (entries.Shallow [] 0)) (frame.Braces (place o) (cut_pairs most [])) st k (ap (frame.Braces (place o)) (pairs_none most)) (map_at o [] s eo no_entry)) (omega arith)
-          (λ b. end_map most (ts ++ k ∷ []) pre [] st o k [] (entries.Shallow [] 0) (append_assoc pre (o ∷ []) (k ∷ [])) (pairs_none most) s eo no_pair k.kind refl)
-          (λ e. move most (ts ++ k ∷ []) (pre ++ o ∷ k ∷ []) (Want Closing, frame.Braces (place o) (entries.Shallow [] 0) ∷ st) (append_assoc pre (o ∷ []) (k ∷ [])) (closing_map o k s eo e))
+      (λ b. end_map most (ts ++ k ∷ []) pre [] st o k [] (entries.Shallow [] 0) (append_assoc pre (o ∷ []) (k ∷ [])) (pairs_none most) s eo no_pair k.kind refl)
+      (λ e. move most (ts ++ k ∷ []) (pre ++ o ∷ k ∷ []) (Want Closing, frame.Braces (place o) (entries.Shallow [] 0) ∷ st) (append_assoc pre (o ∷ []) (k ∷ [])) (closing_map o k s eo e))
   step_sound ts x k (first_call {pre = pre} {st = st} n o s en eo) =
       fresh ts (frame.Function (place n) n.text (parts.Shallow [] 0)) st First k (unfresh ts (frame.Function (place n) n.text (parts.Shallow [] 0)) (frame.Function (place n) n.text (cuts most [])) st k (ap (frame.Function (place n) n.text) (cuts_none most)) (call_at n o [] s en eo no_item)) (omega arith)
-          (λ b. end_call most (ts ++ k ∷ []) pre [] st n o k [] (parts.Shallow [] 0) (append_assoc pre (n ∷ o ∷ []) (k ∷ [])) (cuts_none most) s en eo no_argument k.kind refl)
-          (λ e. tt)
+      (λ b. end_call most (ts ++ k ∷ []) pre [] st n o k [] (parts.Shallow [] 0) (append_assoc pre (n ∷ o ∷ []) (k ∷ [])) (cuts_none most) s en eo no_argument k.kind refl)
+      (λ e. tt)
   step_sound ts x k (first_method {pre = pre} {a = a} {st = st} d n o t s ha ed en eo) =
       fresh ts (frame.Method (cut most t) n.text (parts.Shallow [] 0)) st First k (unfresh ts (frame.Method (cut most t) n.text (parts.Shallow [] 0)) (frame.Method (cut most t) n.text (cuts most [])) st k (ap (frame.Method (cut most t) n.text) (cuts_none most)) (method_at d n o t [] s ha ed en eo no_item)) (omega arith)
-          (λ b. end_method most (ts ++ k ∷ []) pre a [] st d n o k t [] (parts.Shallow [] 0) (simp append_assoc) (cuts_none most) s ha ed en eo no_argument k.kind refl)
-          (λ e. tt)
+      (λ b. end_method most (ts ++ k ∷ []) pre a [] st d n o k t [] (parts.Shallow [] 0) (simp append_assoc) (cuts_none most) s ha ed en eo no_argument k.kind refl)
+      (λ e. tt)
   step_sound ts x k (next_list {pre = pre} {us = us} {st = st} o c l s eo h ec) =
       fresh ts (frame.Square (place o) (cuts most l)) st Next k (list_at o l s eo (some_items c h ec)) (omega arith)
-          (λ b. end_list most (ts ++ k ∷ []) pre (us ++ c ∷ []) st o k l (cuts most l) (append_assoc pre (o ∷ (us ++ c ∷ [])) (k ∷ [])) refl s eo (items_comma c (arguments h) ec) k.kind refl)
-          (λ e. tt)
+      (λ b. end_list most (ts ++ k ∷ []) pre (us ++ c ∷ []) st o k l (cuts most l) (append_assoc pre (o ∷ (us ++ c ∷ [])) (k ∷ [])) refl s eo (items_comma c (arguments h) ec) k.kind refl)
+      (λ e. tt)
   step_sound ts x k (next_map {pre = pre} {us = us} {st = st} o c l s eo h ec) =
       fresh ts (frame.Braces (place o) (cut_pairs most l)) st Next k (map_at o l s eo (some_entries c h ec)) (omega arith)
-          (λ b. end_map most (ts ++ k ∷ []) pre (us ++ c ∷ []) st o k l (cut_pairs most l) (append_assoc pre (o ∷ (us ++ c ∷ [])) (k ∷ [])) refl s eo (pairs_comma c h ec) k.kind refl)
-          (λ e. tt)
+      (λ b. end_map most (ts ++ k ∷ []) pre (us ++ c ∷ []) st o k l (cut_pairs most l) (append_assoc pre (o ∷ (us ++ c ∷ [])) (k ∷ [])) refl s eo (pairs_comma c h ec) k.kind refl)
+      (λ e. tt)
   step_sound ts x k (closing_list {pre = pre} {st = st} o c s eo ec) =
       closing_goes ts (frame.Square (place o) (parts.Shallow [] 0)) st k
-          (end_list most (ts ++ k ∷ []) pre (c ∷ []) st o k [] (parts.Shallow [] 0) (append_assoc pre (o ∷ c ∷ []) (k ∷ [])) (cuts_none most) s eo (items_comma c no_argument ec) k.kind refl) k.kind refl
+      (end_list most (ts ++ k ∷ []) pre (c ∷ []) st o k [] (parts.Shallow [] 0) (append_assoc pre (o ∷ c ∷ []) (k ∷ [])) (cuts_none most) s eo (items_comma c no_argument ec) k.kind refl) k.kind refl
   step_sound ts x k (closing_map {pre = pre} {st = st} o c s eo ec) =
       closing_goes ts (frame.Braces (place o) (entries.Shallow [] 0)) st k
-          (end_map most (ts ++ k ∷ []) pre (c ∷ []) st o k [] (entries.Shallow [] 0) (append_assoc pre (o ∷ c ∷ []) (k ∷ [])) (pairs_none most) s eo (lone_comma c ec) k.kind refl) k.kind refl
+      (end_map most (ts ++ k ∷ []) pre (c ∷ []) st o k [] (entries.Shallow [] 0) (append_assoc pre (o ∷ c ∷ []) (k ∷ [])) (pairs_none most) s eo (lone_comma c ec) k.kind refl) k.kind refl
   step_sound ts x k (have_whole_at {pre = pre} {ts = us} {st = st} t s h) =
       have_goes pre us st t (Whole (cut most t)) k s h refl (collapses pre us st t (cut most t) s h refl) (λ e. tt) k.kind refl
   step_sound ts x k (have_name_at {pre = pre} {st = st} n s en) =
       have_goes pre (n ∷ []) st (Node (place n) (Ident n.text)) (Name (place n) n.text) k s (name n en) (cut_leaf most (place n) (Ident n.text) refl)
-          (collapses pre (n ∷ []) st (Node (place n) (Ident n.text)) (part_of most (Name (place n) n.text)) s (name n en) (cut_leaf most (place n) (Ident n.text) refl))
-          (λ e. move most (ts ++ k ∷ []) (pre ++ n ∷ k ∷ []) (Want First, frame.Function (place n) n.text (parts.Shallow [] 0) ∷ st) (append_assoc pre (n ∷ []) (k ∷ [])) (first_call n k s en e)) k.kind refl
+      (collapses pre (n ∷ []) st (Node (place n) (Ident n.text)) (part_of most (Name (place n) n.text)) s (name n en) (cut_leaf most (place n) (Ident n.text) refl))
+      (λ e. move most (ts ++ k ∷ []) (pre ++ n ∷ k ∷ []) (Want First, frame.Function (place n) n.text (parts.Shallow [] 0) ∷ st) (append_assoc pre (n ∷ []) (k ∷ [])) (first_call n k s en e)) k.kind refl
   step_sound ts x k (have_field_at {pre = pre} {a = a} {st = st} d n t s ha ed en) =
       have_goes pre (a ++ d ∷ n ∷ []) st (Node (over (span_of t) (place n)) (Member t n.text)) (Field (cut most t) (place n) n.text) k s (member d n ha ed en) (cut_member most t (place n) n.text)
-          (collapses pre (a ++ d ∷ n ∷ []) st (Node (over (span_of t) (place n)) (Member t n.text)) (part_of most (Field (cut most t) (place n) n.text)) s (member d n ha ed en) (cut_member most t (place n) n.text))
-          (λ e. move most (ts ++ k ∷ []) (pre ++ (a ++ d ∷ n ∷ k ∷ [])) (Want First, frame.Method (cut most t) n.text (parts.Shallow [] 0) ∷ st) (simp append_assoc) (first_method d n k t s ha ed en e)) k.kind refl
+      (collapses pre (a ++ d ∷ n ∷ []) st (Node (over (span_of t) (place n)) (Member t n.text)) (part_of most (Field (cut most t) (place n) n.text)) s (member d n ha ed en) (cut_member most t (place n) n.text))
+      (λ e. move most (ts ++ k ∷ []) (pre ++ (a ++ d ∷ n ∷ k ∷ [])) (Want First, frame.Method (cut most t) n.text (parts.Shallow [] 0) ∷ st) (simp append_assoc) (first_method d n k t s ha ed en e)) k.kind refl
   step_sound ts x k (dotted {pre = pre} {a = a} {st = st} d t s ha ed) = name_goes pre a st d k t s ha ed k.kind refl

@@ -170,7 +170,7 @@ module _ (most : ℕ) (e : Span) where
   have_comma : (p : Part) (f : Frame) (st : List Frame) (t : Lexeme) → binds 0 f ≡ false → t.kind ≡ kind.Comma → step_of most (Have (Whole p)) (f ∷ st) t ≡ want_next st (grown f p)
   have_comma p f st t b g =
       have_by (Whole p) (f ∷ st) t kind.Comma _ g
-          (ap (λ (d : Bool). next_of (if d then reduced most 0 (completed most f p) st else (p, f ∷ st)).0 (if d then reduced most 0 (completed most f p) st else (p, f ∷ st)).1) b)
+      (ap (λ (d : Bool). next_of (if d then reduced most 0 (completed most f p) st else (p, f ∷ st)).0 (if d then reduced most 0 (completed most f p) st else (p, f ∷ st)).1) b)
 
   name_at : (o : Part) (st : List Frame) (t : Lexeme) (k : TokenKind) → is_member_name k ≡ true → named_at k o st t ≡ Some (Have (Field o (place t) t.text), st)
   name_at o st t kind.Ident h = refl
@@ -188,19 +188,28 @@ module _ (most : ℕ) (e : Span) where
   square_grows : (s : Span) → Grows (λ l. frame.Square s (cuts most l)) Next
   square_grows s = record {
     grows = λ l t. ap (λ (ps : Parts). Some (frame.Square s ps, Next)) (cuts_more most l t);
-    stands = λ l. refl; low = λ l. refl; closes = λ l p k i. refl; allows = tt;
+    stands = λ l. refl;
+    low = λ l. refl;
+    closes = λ l p k i. refl;
+    allows = tt;
   }
 
   function_grows : (s : Span) (n : List ℕ) → Grows (λ l. frame.Function s n (cuts most l)) Expr
   function_grows s n = record {
     grows = λ l t. ap (λ (ps : Parts). Some (frame.Function s n ps, Expr)) (cuts_more most l t);
-    stands = λ l. refl; low = λ l. refl; closes = λ l p k i. refl; allows = tt;
+    stands = λ l. refl;
+    low = λ l. refl;
+    closes = λ l p k i. refl;
+    allows = tt;
   }
 
   method_grows : (o : Part) (n : List ℕ) → Grows (λ l. frame.Method o n (cuts most l)) Expr
   method_grows o n = record {
     grows = λ l t. ap (λ (ps : Parts). Some (frame.Method o n ps, Expr)) (cuts_more most l t);
-    stands = λ l. refl; low = λ l. refl; closes = λ l p k i. refl; allows = tt;
+    stands = λ l. refl;
+    low = λ l. refl;
+    closes = λ l p k i. refl;
+    allows = tt;
   }
 
   -- a bracket that closes a frame of items where none is read last
@@ -217,11 +226,11 @@ module _ (most : ℕ) (e : Span) where
         ap (λ (l : List Lexeme). run l (Want due, st)) (append_assoc a (q ∷ (b ++ k ∷ c)) rest ∙ ap (λ (l : List Lexeme). a ++ (q ∷ l)) (append_assoc b (k ∷ c) rest))
         ∙ complete 1 a x due st (q ∷ (b ++ (k ∷ (c ++ rest)))) ha (allows_more due 0 al) (omega arith) (stops_is 1 q.kind kind.Question eq refl)
         ∙ go_step most e q (b ++ (k ∷ (c ++ rest))) (Have (Whole (cut most x)), st) (Want Expr, frame.Test (cut most x) ∷ st)
-            (have_by (Whole (cut most x)) st q kind.Question _ eq
-                (ap (λ (r : Part × List Frame). asked r.0 r.1) (reduced_none most 1 (cut most x) st (omega arith) (omega arith) (omega arith)) ∙ asked_by (cut most x) st lo))
+        (have_by (Whole (cut most x)) st q kind.Question _ eq
+        (ap (λ (r : Part × List Frame). asked r.0 r.1) (reduced_none most 1 (cut most x) st (omega arith) (omega arith) (omega arith)) ∙ asked_by (cut most x) st lo))
         ∙ complete 1 b y Expr (frame.Test (cut most x) ∷ st) (k ∷ (c ++ rest)) hb tt (omega arith) (stops_is 1 k.kind kind.Colon ek refl)
         ∙ go_step most e k (c ++ rest) (Have (Whole (cut most y)), frame.Test (cut most x) ∷ st) (Want Expr, frame.Branch (cut most x) (cut most y) ∷ st)
-            (have_by (Whole (cut most y)) (frame.Test (cut most x) ∷ st) k kind.Colon _ ek refl)
+        (have_by (Whole (cut most y)) (frame.Test (cut most x) ∷ st) k kind.Colon _ ek refl)
         ∙ complete 0 c z Expr (frame.Branch (cut most x) (cut most y) ∷ st) rest hc tt (omega arith) fo
         ∙ unwind most e 0 (cut most z) (frame.Branch (cut most x) (cut most y)) st rest (omega arith) (λ m h. grind (arith, nat_tests)) fo
         ∙ ap (λ (p : Part). run rest (Have (Whole p), st)) (cut_conditional most x y z)
@@ -245,7 +254,7 @@ module _ (most : ℕ) (e : Span) where
         ∙ go_step most e o (us ++ (c ∷ rest)) (Want due, st) (Want Expr, frame.Round ∷ st) (want_by due st o kind.LeftParen _ eo (open_by due frame.Round Expr st (begins due 7 al)))
         ∙ complete 0 us t Expr (frame.Round ∷ st) (c ∷ rest) h tt (omega arith) (stops_closer 0 c.kind (closer_is c.kind kind.RightParen ec tt))
         ∙ go_step most e c rest (Have (Whole (cut most t)), frame.Round ∷ st) (Have (Whole (cut most t)), st)
-            (have_close_at (cut most t) frame.Round st c refl c.kind (closer_is c.kind kind.RightParen ec tt) ∙ ap (λ (k : TokenKind). have_whole st (closed_round (cut most t) k)) ec)
+        (have_close_at (cut most t) frame.Round st c refl c.kind (closer_is c.kind kind.RightParen ec tt) ∙ ap (λ (k : TokenKind). have_whole st (closed_round (cut most t) k)) ec)
     complete n ts t due st rest (member {ts = us} d k {t = x} h ed ek) al lo fo =
         ap (λ (l : List Lexeme). run l (Want due, st)) (append_assoc us (d ∷ k ∷ []) rest)
         ∙ complete 7 us x due st (d ∷ k ∷ rest) h al lo (stops_is 7 d.kind kind.Dot ed refl)
@@ -259,14 +268,14 @@ module _ (most : ℕ) (e : Span) where
         ∙ go_step most e o (vs ++ (c ∷ rest)) (Have (Whole (cut most x)), st) (Want Expr, frame.Subscript (cut most x) ∷ st) (have_by (Whole (cut most x)) st o kind.LeftBracket _ eo refl)
         ∙ complete 0 vs y Expr (frame.Subscript (cut most x) ∷ st) (c ∷ rest) i tt (omega arith) (stops_closer 0 c.kind (closer_is c.kind kind.RightBracket ec tt))
         ∙ go_step most e c rest (Have (Whole (cut most y)), frame.Subscript (cut most x) ∷ st) (Have (Whole (index_part most (cut most x) (cut most y) (place c))), st)
-            (have_close_at (cut most y) (frame.Subscript (cut most x)) st c refl c.kind (closer_is c.kind kind.RightBracket ec tt)
-            ∙ ap (λ (k : TokenKind). have_whole st (closed_subscript most (cut most x) (cut most y) k (place c))) ec)
+        (have_close_at (cut most y) (frame.Subscript (cut most x)) st c refl c.kind (closer_is c.kind kind.RightBracket ec tt)
+        ∙ ap (λ (k : TokenKind). have_whole st (closed_subscript most (cut most x) (cut most y) k (place c))) ec)
         ∙ ap (λ (p : Part). run rest (Have (Whole p), st)) (cut_index most x y (place c))
     complete n ts t due st rest (call {us = us} k o c {l = l} ek eo h ec) al lo fo =
         ap (λ (x : List Lexeme). run (k ∷ o ∷ x) (Want due, st)) (append_assoc us (c ∷ []) rest)
         ∙ go_step most e k (o ∷ (us ++ (c ∷ rest))) (Want due, st) (Have (Name (place k) k.text), st) (want_name due st k (begins due 7 al) ek)
         ∙ go_step most e o (us ++ (c ∷ rest)) (Have (Name (place k) k.text), st) (Want First, frame.Function (place k) k.text (cuts most []) ∷ st)
-            (have_by (Name (place k) k.text) st o kind.LeftParen _ eo (ap (λ (ps : Parts). Some (Want First, frame.Function (place k) k.text ps ∷ st)) (cuts_none most)))
+        (have_by (Name (place k) k.text) st o kind.LeftParen _ eo (ap (λ (ps : Parts). Some (Want First, frame.Function (place k) k.text ps ∷ st)) (cuts_none most)))
         ∙ arguments_close us l (λ m. frame.Function (place k) k.text (cuts most m)) Expr (function_grows (place k) k.text) st c rest h (closer_is c.kind kind.RightParen ec tt)
         ∙ ap (λ (i : TokenKind). read_token (place c) (have_whole st (ended_frame most (frame.Function (place k) k.text (cuts most l)) i (place c))) (run rest)) ec
         ∙ ap (λ (p : Part). run rest (Have (Whole p), st)) (cut_call most (over (place k) (place c)) k.text l)
@@ -276,21 +285,21 @@ module _ (most : ℕ) (e : Span) where
         ∙ go_step most e d (k ∷ o ∷ (us ++ (c ∷ rest))) (Have (Whole (cut most x)), st) (Dot (cut most x), st) (have_by (Whole (cut most x)) st d kind.Dot _ ed refl)
         ∙ go_step most e k (o ∷ (us ++ (c ∷ rest))) (Dot (cut most x), st) (Have (Field (cut most x) (place k) k.text), st) (name_at (cut most x) st k k.kind ek)
         ∙ go_step most e o (us ++ (c ∷ rest)) (Have (Field (cut most x) (place k) k.text), st) (Want First, frame.Method (cut most x) k.text (cuts most []) ∷ st)
-            (have_by (Field (cut most x) (place k) k.text) st o kind.LeftParen _ eo (ap (λ (ps : Parts). Some (Want First, frame.Method (cut most x) k.text ps ∷ st)) (cuts_none most)))
+        (have_by (Field (cut most x) (place k) k.text) st o kind.LeftParen _ eo (ap (λ (ps : Parts). Some (Want First, frame.Method (cut most x) k.text ps ∷ st)) (cuts_none most)))
         ∙ arguments_close us l (λ m. frame.Method (cut most x) k.text (cuts most m)) Expr (method_grows (cut most x) k.text) st c rest i (closer_is c.kind kind.RightParen ec tt)
         ∙ ap (λ (j : TokenKind). read_token (place c) (have_whole st (ended_frame most (frame.Method (cut most x) k.text (cuts most l)) j (place c))) (run rest)) ec
         ∙ ap (λ (p : Part). run rest (Have (Whole p), st)) (cut_method most x k.text l (place c))
     complete n ts t due st rest (list {us = us} o c {l = l} eo h ec) al lo fo =
         ap (λ (x : List Lexeme). run (o ∷ x) (Want due, st)) (append_assoc us (c ∷ []) rest)
         ∙ go_step most e o (us ++ (c ∷ rest)) (Want due, st) (Want First, frame.Square (place o) (cuts most []) ∷ st)
-            (want_by due st o kind.LeftBracket _ eo (open_by due (frame.Square (place o) (parts.Shallow [] 0)) First st (begins due 7 al) ∙ ap (λ (ps : Parts). Some (Want First, frame.Square (place o) ps ∷ st)) (cuts_none most)))
+        (want_by due st o kind.LeftBracket _ eo (open_by due (frame.Square (place o) (parts.Shallow [] 0)) First st (begins due 7 al) ∙ ap (λ (ps : Parts). Some (Want First, frame.Square (place o) ps ∷ st)) (cuts_none most)))
         ∙ items_close us l (place o) st c rest h (closer_is c.kind kind.RightBracket ec tt)
         ∙ ap (λ (i : TokenKind). read_token (place c) (have_whole st (ended_frame most (frame.Square (place o) (cuts most l)) i (place c))) (run rest)) ec
         ∙ ap (λ (p : Part). run rest (Have (Whole p), st)) (cut_list most (over (place o) (place c)) l)
     complete n ts t due st rest (map_literal {us = us} o c {l = l} eo h ec) al lo fo =
         ap (λ (x : List Lexeme). run (o ∷ x) (Want due, st)) (append_assoc us (c ∷ []) rest)
         ∙ go_step most e o (us ++ (c ∷ rest)) (Want due, st) (Want First, frame.Braces (place o) (cut_pairs most []) ∷ st)
-            (want_by due st o kind.LeftBrace _ eo (open_by due (frame.Braces (place o) (entries.Shallow [] 0)) First st (begins due 7 al) ∙ ap (λ (ps : Entries). Some (Want First, frame.Braces (place o) ps ∷ st)) (pairs_none most)))
+        (want_by due st o kind.LeftBrace _ eo (open_by due (frame.Braces (place o) (entries.Shallow [] 0)) First st (begins due 7 al) ∙ ap (λ (ps : Entries). Some (Want First, frame.Braces (place o) ps ∷ st)) (pairs_none most)))
         ∙ inits_close us l (place o) st c rest h (closer_is c.kind kind.RightBrace ec tt)
         ∙ ap (λ (i : TokenKind). read_token (place c) (have_whole st (ended_frame most (frame.Braces (place o) (cut_pairs most l)) i (place c))) (run rest)) ec
         ∙ ap (λ (p : Part). run rest (Have (Whole p), st)) (cut_map most (over (place o) (place c)) l)
@@ -324,13 +333,13 @@ module _ (most : ℕ) (e : Span) where
     listed_close ts l F after due g al st k rest (first {t = t} h) ek =
         complete 0 ts t due (F [] ∷ st) (k ∷ rest) h al (let i = g.low [] in omega arith) (stops_closer 0 k.kind ek)
         ∙ ap (λ (o : Option State). read_token (place k) o (run rest))
-            (have_close_at (cut most t) (F []) st k (g.stands []) k.kind ek ∙ ap (have_whole st) (g.closes [] (cut most t) k.kind (place k) ∙ ap (λ (o : Option (Frame × Due)). closed_grown most o k.kind (place k)) (g.grows [] t)))
+        (have_close_at (cut most t) (F []) st k (g.stands []) k.kind ek ∙ ap (have_whole st) (g.closes [] (cut most t) k.kind (place k) ∙ ap (λ (o : Option (Frame × Due)). closed_grown most o k.kind (place k)) (g.grows [] t)))
     listed_close ts l F after due g al st k rest (more {ts = ss} {us = us} d {l = m} {t = t} h ed i) ek =
         ap (λ (x : List Lexeme). run x (Want due, F [] ∷ st)) (append_assoc ss (d ∷ us) (k ∷ rest))
         ∙ listed_comma ss m F after due g al st d (us ++ (k ∷ rest)) h ed
         ∙ complete 0 us t after (F m ∷ st) (k ∷ rest) i g.allows (let j = g.low m in omega arith) (stops_closer 0 k.kind ek)
         ∙ ap (λ (o : Option State). read_token (place k) o (run rest))
-            (have_close_at (cut most t) (F m) st k (g.stands m) k.kind ek ∙ ap (have_whole st) (g.closes m (cut most t) k.kind (place k) ∙ ap (λ (o : Option (Frame × Due)). closed_grown most o k.kind (place k)) (g.grows m t)))
+        (have_close_at (cut most t) (F m) st k (g.stands m) k.kind ek ∙ ap (have_whole st) (g.closes m (cut most t) k.kind (place k) ∙ ap (λ (o : Option (Frame × Due)). closed_grown most o k.kind (place k)) (g.grows m t)))
 
     arguments_close : (ts : List Lexeme) (l : List Ast) (F : List Ast → Frame) (after : Due) → Grows F after → (st : List Frame) (k : Lexeme) (rest : List Lexeme) → Arguments ts l → Closer k.kind →
         run (ts ++ (k ∷ rest)) (Want First, F [] ∷ st) ≡ read_token (place k) (have_whole st (ended_frame most (F l) k.kind (place k))) (run rest)
@@ -354,19 +363,19 @@ module _ (most : ℕ) (e : Span) where
         ap (λ (x : List Lexeme). run x (Want due, frame.Braces s (cut_pairs most []) ∷ st)) (append_assoc vs (k ∷ us) (c ∷ rest))
         ∙ complete 0 vs t due (frame.Braces s (cut_pairs most []) ∷ st) (k ∷ (us ++ (c ∷ rest))) h al (omega arith) (stops_is 0 k.kind kind.Colon ek refl)
         ∙ go_step most e k (us ++ (c ∷ rest)) (Have (Whole (cut most t)), frame.Braces s (cut_pairs most []) ∷ st) (Want Expr, frame.Value s (cut_pairs most []) (cut most t) ∷ st)
-            (have_by (Whole (cut most t)) (frame.Braces s (cut_pairs most []) ∷ st) k kind.Colon _ ek refl)
+        (have_by (Whole (cut most t)) (frame.Braces s (cut_pairs most []) ∷ st) k kind.Colon _ ek refl)
         ∙ complete 0 us u Expr (frame.Value s (cut_pairs most []) (cut most t) ∷ st) (c ∷ rest) i tt (omega arith) (stops_is 0 c.kind kind.Comma ec refl)
         ∙ go_step most e c rest (Have (Whole (cut most u)), frame.Value s (cut_pairs most []) (cut most t) ∷ st) (Want Next, frame.Braces s (cut_pairs most ((t, u) ∷ [])) ∷ st)
-            (have_comma (cut most u) (frame.Value s (cut_pairs most []) (cut most t)) st c refl ec ∙ ap (λ (ps : Entries). Some (Want Next, frame.Braces s ps ∷ st)) (cuts_pair most [] t u))
+        (have_comma (cut most u) (frame.Value s (cut_pairs most []) (cut most t)) st c refl ec ∙ ap (λ (ps : Entries). Some (Want Next, frame.Braces s ps ∷ st)) (cuts_pair most [] t u))
     paired_comma ts l s due al st c rest (more_pairs {ss = ss} {ts = vs} {us = us} d k {l = m} {t = t} {u = u} g ed h ek i) ec =
         ap (λ (x : List Lexeme). run x (Want due, frame.Braces s (cut_pairs most []) ∷ st)) (append_assoc ss (d ∷ (vs ++ k ∷ us)) (c ∷ rest) ∙ ap (λ (x : List Lexeme). ss ++ (d ∷ x)) (append_assoc vs (k ∷ us) (c ∷ rest)))
         ∙ paired_comma ss m s due al st d (vs ++ (k ∷ (us ++ (c ∷ rest)))) g ed
         ∙ complete 0 vs t Next (frame.Braces s (cut_pairs most m) ∷ st) (k ∷ (us ++ (c ∷ rest))) h tt (omega arith) (stops_is 0 k.kind kind.Colon ek refl)
         ∙ go_step most e k (us ++ (c ∷ rest)) (Have (Whole (cut most t)), frame.Braces s (cut_pairs most m) ∷ st) (Want Expr, frame.Value s (cut_pairs most m) (cut most t) ∷ st)
-            (have_by (Whole (cut most t)) (frame.Braces s (cut_pairs most m) ∷ st) k kind.Colon _ ek refl)
+        (have_by (Whole (cut most t)) (frame.Braces s (cut_pairs most m) ∷ st) k kind.Colon _ ek refl)
         ∙ complete 0 us u Expr (frame.Value s (cut_pairs most m) (cut most t) ∷ st) (c ∷ rest) i tt (omega arith) (stops_is 0 c.kind kind.Comma ec refl)
         ∙ go_step most e c rest (Have (Whole (cut most u)), frame.Value s (cut_pairs most m) (cut most t) ∷ st) (Want Next, frame.Braces s (cut_pairs most (m ++ (t, u) ∷ [])) ∷ st)
-            (have_comma (cut most u) (frame.Value s (cut_pairs most m) (cut most t)) st c refl ec ∙ ap (λ (ps : Entries). Some (Want Next, frame.Braces s ps ∷ st)) (cuts_pair most m t u))
+        (have_comma (cut most u) (frame.Value s (cut_pairs most m) (cut most t)) st c refl ec ∙ ap (λ (ps : Entries). Some (Want Next, frame.Braces s ps ∷ st)) (cuts_pair most m t u))
 
     paired_close : (ts : List Lexeme) (l : List (Ast × Ast)) (s : Span) (st : List Frame) (k : Lexeme) (rest : List Lexeme) → Paired ts l → Closer k.kind →
         run (ts ++ (k ∷ rest)) (Want First, frame.Braces s (cut_pairs most []) ∷ st) ≡ read_token (place k) (have_whole st (ended_frame most (frame.Braces s (cut_pairs most l)) k.kind (place k))) (run rest)
@@ -374,19 +383,19 @@ module _ (most : ℕ) (e : Span) where
         ap (λ (x : List Lexeme). run x (Want First, frame.Braces s (cut_pairs most []) ∷ st)) (append_assoc vs (d ∷ us) (k ∷ rest))
         ∙ complete 0 vs t First (frame.Braces s (cut_pairs most []) ∷ st) (d ∷ (us ++ (k ∷ rest))) h tt (omega arith) (stops_is 0 d.kind kind.Colon ed refl)
         ∙ go_step most e d (us ++ (k ∷ rest)) (Have (Whole (cut most t)), frame.Braces s (cut_pairs most []) ∷ st) (Want Expr, frame.Value s (cut_pairs most []) (cut most t) ∷ st)
-            (have_by (Whole (cut most t)) (frame.Braces s (cut_pairs most []) ∷ st) d kind.Colon _ ed refl)
+        (have_by (Whole (cut most t)) (frame.Braces s (cut_pairs most []) ∷ st) d kind.Colon _ ed refl)
         ∙ complete 0 us u Expr (frame.Value s (cut_pairs most []) (cut most t) ∷ st) (k ∷ rest) i tt (omega arith) (stops_closer 0 k.kind ek)
         ∙ ap (λ (o : Option State). read_token (place k) o (run rest))
-            (have_close_at (cut most u) (frame.Value s (cut_pairs most []) (cut most t)) st k refl k.kind ek ∙ ap (λ (ps : Entries). have_whole st (ended_frame most (frame.Braces s ps) k.kind (place k))) (cuts_pair most [] t u))
+        (have_close_at (cut most u) (frame.Value s (cut_pairs most []) (cut most t)) st k refl k.kind ek ∙ ap (λ (ps : Entries). have_whole st (ended_frame most (frame.Braces s ps) k.kind (place k))) (cuts_pair most [] t u))
     paired_close ts l s st k rest (more_pairs {ss = ss} {ts = vs} {us = us} c d {l = m} {t = t} {u = u} g ec h ed i) ek =
         ap (λ (x : List Lexeme). run x (Want First, frame.Braces s (cut_pairs most []) ∷ st)) (append_assoc ss (c ∷ (vs ++ d ∷ us)) (k ∷ rest) ∙ ap (λ (x : List Lexeme). ss ++ (c ∷ x)) (append_assoc vs (d ∷ us) (k ∷ rest)))
         ∙ paired_comma ss m s First tt st c (vs ++ (d ∷ (us ++ (k ∷ rest)))) g ec
         ∙ complete 0 vs t Next (frame.Braces s (cut_pairs most m) ∷ st) (d ∷ (us ++ (k ∷ rest))) h tt (omega arith) (stops_is 0 d.kind kind.Colon ed refl)
         ∙ go_step most e d (us ++ (k ∷ rest)) (Have (Whole (cut most t)), frame.Braces s (cut_pairs most m) ∷ st) (Want Expr, frame.Value s (cut_pairs most m) (cut most t) ∷ st)
-            (have_by (Whole (cut most t)) (frame.Braces s (cut_pairs most m) ∷ st) d kind.Colon _ ed refl)
+        (have_by (Whole (cut most t)) (frame.Braces s (cut_pairs most m) ∷ st) d kind.Colon _ ed refl)
         ∙ complete 0 us u Expr (frame.Value s (cut_pairs most m) (cut most t) ∷ st) (k ∷ rest) i tt (omega arith) (stops_closer 0 k.kind ek)
         ∙ ap (λ (o : Option State). read_token (place k) o (run rest))
-            (have_close_at (cut most u) (frame.Value s (cut_pairs most m) (cut most t)) st k refl k.kind ek ∙ ap (λ (ps : Entries). have_whole st (ended_frame most (frame.Braces s ps) k.kind (place k))) (cuts_pair most m t u))
+        (have_close_at (cut most u) (frame.Value s (cut_pairs most m) (cut most t)) st k refl k.kind ek ∙ ap (λ (ps : Entries). have_whole st (ended_frame most (frame.Braces s ps) k.kind (place k))) (cuts_pair most m t u))
 
     inits_close : (ts : List Lexeme) (l : List (Ast × Ast)) (s : Span) (st : List Frame) (k : Lexeme) (rest : List Lexeme) → Inits ts l → Closer k.kind →
         run (ts ++ (k ∷ rest)) (Want First, frame.Braces s (cut_pairs most []) ∷ st) ≡ read_token (place k) (have_whole st (ended_frame most (frame.Braces s (cut_pairs most l)) k.kind (place k))) (run rest)

@@ -32,7 +32,10 @@ module _ (most : ℕ) (e : Span) where
     where
       at_bottom : (before front : List Lexeme) (t : Ast) → Stacked most before [] → Has c.at front t → ws ≡ before ++ front → q ≡ cut most t → Whole_of ws p
       at_bottom before front t bottom h s g = record {
-        tree = t; has = subst (λ (l : List Lexeme). Has 0 l t) (sym s) (weaken c.at 0 front t (omega arith) h); part = (let i : p ≡ q = cc in i ∙ g) }
+        tree = t;
+        has = subst (λ (l : List Lexeme). Has 0 l t) (sym s) (weaken c.at 0 front t (omega arith) h);
+        part = (let i : p ≡ q = cc in i ∙ g);
+      }
   alone_whole ws q p (f ∷ st) c g = absurd (cc)
 
   finished_whole : (ts : List Lexeme) (x : State) (p : Part) → At most ts x → finished most x.0 x.1 ≡ Some p → Whole_of ts p
@@ -40,10 +43,10 @@ module _ (most : ℕ) (e : Span) where
       alone_whole (pre ++ us) (reduced most 0 (cut most t) st).0 p (reduced most 0 (cut most t) st).1 (collapses most pre us st t (cut most t) s h refl 0 (omega arith)) f
   finished_whole ts x p (have_name_at {pre = pre} {st = st} k s ek) f =
       alone_whole (pre ++ k ∷ []) (reduced most 0 (part_of most (Name (place k) k.text)) st).0 p (reduced most 0 (part_of most (Name (place k) k.text)) st).1
-          (collapses most pre (k ∷ []) st (Node (place k) (Ident k.text)) (part_of most (Name (place k) k.text)) s (name k ek) (cut_leaf most (place k) (Ident k.text) refl) 0 (omega arith)) f
+      (collapses most pre (k ∷ []) st (Node (place k) (Ident k.text)) (part_of most (Name (place k) k.text)) s (name k ek) (cut_leaf most (place k) (Ident k.text) refl) 0 (omega arith)) f
   finished_whole ts x p (have_field_at {pre = pre} {a = a} {st = st} d k t s ha ed ek) f =
       alone_whole (pre ++ (a ++ d ∷ k ∷ [])) (reduced most 0 (part_of most (Field (cut most t) (place k) k.text)) st).0 p (reduced most 0 (part_of most (Field (cut most t) (place k) k.text)) st).1
-          (collapses most pre (a ++ d ∷ k ∷ []) st (Node (over (span_of t) (place k)) (Member t k.text)) (part_of most (Field (cut most t) (place k) k.text)) s (member d k ha ed ek) (cut_member most t (place k) k.text) 0 (omega arith)) f
+      (collapses most pre (a ++ d ∷ k ∷ []) st (Node (over (span_of t) (place k)) (Member t k.text)) (part_of most (Field (cut most t) (place k) k.text)) s (member d k ha ed ek) (cut_member most t (place k) k.text) 0 (omega arith)) f
   finished_whole ts x p (want_expr s lo) f = absurd (cc)
   finished_whole ts x p (want_member s) f = absurd (cc)
   finished_whole ts x p (first_list o s eo) f = absurd (cc)
@@ -79,7 +82,10 @@ module _ (most : ℕ) (e : Span) where
   end_fault : (front : List Lexeme) (x : State) (s : Span) → At most front x → Leads front x → (o : Option Part) → finished most x.0 x.1 ≡ o → read_end e o ≡ Fault s → Unfit e front s
   end_fault front x s a r (Some p) f g = absurd (cc)
   end_fault front x s a r None f g = record {
-    front = front; rest = []; split = sym (append-nil front); begins = at_begins most front x a;
+    front = front;
+    rest = [];
+    split = sym (append-nil front);
+    begins = at_begins most front x a;
     stops = λ t h. (let i : reading most e front begun ≡ Read (cut most t) = read_whole most e front t h in
         let j : reading most e front begun ≡ Fault e = ap (λ (l : List Lexeme). reading most e l begun) (sym (append-nil front)) ∙ r [] ∙ ap (read_end e) f in absurd (cc));
     here = cc;
@@ -89,7 +95,7 @@ module _ (most : ℕ) (e : Span) where
   token_stops front k x r f b =
       let i : reading most e ((front ++ k ∷ []) ++ b.rest) begun ≡ Read (cut most b.tree) = read_whole most e ((front ++ k ∷ []) ++ b.rest) b.tree b.has in
       let j : reading most e ((front ++ k ∷ []) ++ b.rest) begun ≡ Fault (place k) =
-          ap (λ (l : List Lexeme). reading most e l begun) (append_assoc front (k ∷ []) b.rest) ∙ r (k ∷ b.rest) ∙ ap (λ (o : Option State). read_token (place k) o (reading most e b.rest)) f in absurd (cc)
+      ap (λ (l : List Lexeme). reading most e l begun) (append_assoc front (k ∷ []) b.rest) ∙ r (k ∷ b.rest) ∙ ap (λ (o : Option State). read_token (place k) o (reading most e b.rest)) f in absurd (cc)
 
   token_fault : (front : List Lexeme) (k : Lexeme) (ks : List Lexeme) (x : State) (s : Span) → At most front x → Leads front x →
       ((y : State) → At most (front ++ k ∷ []) y → Leads (front ++ k ∷ []) y → reading most e ks y ≡ Fault s → Unfit e ((front ++ k ∷ []) ++ ks) s) →
@@ -97,8 +103,8 @@ module _ (most : ℕ) (e : Span) where
   token_fault front k ks x s a r i None g f = record { front = front; rest = k ∷ ks; split = refl; begins = at_begins most front x a; stops = token_stops front k x r g; here = cc }
   token_fault front k ks x s a r i (Some y) g f =
       subst (λ (l : List Lexeme). Unfit e l s) (append_assoc front (k ∷ []) ks)
-          (i y (reached front x k y a g)
-              (λ more. ap (λ (l : List Lexeme). reading most e l begun) (append_assoc front (k ∷ []) more) ∙ r (k ∷ more) ∙ ap (λ (o : Option State). read_token (place k) o (reading most e more)) g) f)
+      (i y (reached front x k y a g)
+      (λ more. ap (λ (l : List Lexeme). reading most e l begun) (append_assoc front (k ∷ []) more) ∙ r (k ∷ more) ∙ ap (λ (o : Option State). read_token (place k) o (reading most e more)) g) f)
 
   pub fault_sound : (front ts : List Lexeme) (x : State) (s : Span) → At most front x → Leads front x → reading most e ts x ≡ Fault s → Unfit e (front ++ ts) s
   fault_sound front [] x s a r f = subst (λ (l : List Lexeme). Unfit e l s) (sym (append-nil front)) (end_fault front x s a r (finished most x.0 x.1) refl f)

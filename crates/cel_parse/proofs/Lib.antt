@@ -6,3 +6,4 @@ pub mod Reached
 pub mod Behind
 pub mod Viable
 pub mod Exact
+pub mod Lexing

@@ -135,18 +135,18 @@ module _ (most : ℕ) where
   pub comma_goes : (before front : List Lexeme) (f : Frame) (st : List Frame) (t : Ast) (k : Lexeme) → Stacked most before (f ∷ st) → Has 0 front t → k.kind ≡ kind.Comma → Goes ((before ++ front) ++ k ∷ []) (want_next st (grown f (cut most t)))
   comma_goes before front f st t k (list_at {pre = pre} {us = us} o l s eo b) h ek =
       subst (λ (ps : Parts). At ((before ++ front) ++ k ∷ []) (Want Next, frame.Square (place o) ps ∷ st)) (sym (cuts_more most l t))
-          (move ((before ++ front) ++ k ∷ []) (pre ++ (o ∷ ((us ++ front) ++ k ∷ []))) (Want Next, frame.Square (place o) (cuts most (l ++ t ∷ [])) ∷ st) (simp append_assoc) (next_list o k (l ++ t ∷ []) s eo (listed us front l t b h) ek))
+      (move ((before ++ front) ++ k ∷ []) (pre ++ (o ∷ ((us ++ front) ++ k ∷ []))) (Want Next, frame.Square (place o) (cuts most (l ++ t ∷ [])) ∷ st) (simp append_assoc) (next_list o k (l ++ t ∷ []) s eo (listed us front l t b h) ek))
   comma_goes before front f st t k (call_at {pre = pre} {us = us} n o l s en eo b) h ek =
       subst (λ (ps : Parts). At ((before ++ front) ++ k ∷ []) (Want Expr, frame.Function (place n) n.text ps ∷ st)) (sym (cuts_more most l t))
-          (move ((before ++ front) ++ k ∷ []) (pre ++ (n ∷ o ∷ ((us ++ front) ++ k ∷ []))) (Want Expr, frame.Function (place n) n.text (cuts most (l ++ t ∷ [])) ∷ st) (simp append_assoc)
-              (want_expr (call_at n o (l ++ t ∷ []) s en eo (some_items k (listed us front l t b h) ek)) (omega arith)))
+      (move ((before ++ front) ++ k ∷ []) (pre ++ (n ∷ o ∷ ((us ++ front) ++ k ∷ []))) (Want Expr, frame.Function (place n) n.text (cuts most (l ++ t ∷ [])) ∷ st) (simp append_assoc)
+      (want_expr (call_at n o (l ++ t ∷ []) s en eo (some_items k (listed us front l t b h) ek)) (omega arith)))
   comma_goes before front f st t k (method_at {pre = pre} {a = a} {us = us} d n o u l s ha ed en eo b) h ek =
       subst (λ (ps : Parts). At ((before ++ front) ++ k ∷ []) (Want Expr, frame.Method (cut most u) n.text ps ∷ st)) (sym (cuts_more most l t))
-          (move ((before ++ front) ++ k ∷ []) (pre ++ (a ++ d ∷ n ∷ o ∷ ((us ++ front) ++ k ∷ []))) (Want Expr, frame.Method (cut most u) n.text (cuts most (l ++ t ∷ [])) ∷ st) (simp append_assoc)
-              (want_expr (method_at d n o u (l ++ t ∷ []) s ha ed en eo (some_items k (listed us front l t b h) ek)) (omega arith)))
+      (move ((before ++ front) ++ k ∷ []) (pre ++ (a ++ d ∷ n ∷ o ∷ ((us ++ front) ++ k ∷ []))) (Want Expr, frame.Method (cut most u) n.text (cuts most (l ++ t ∷ [])) ∷ st) (simp append_assoc)
+      (want_expr (method_at d n o u (l ++ t ∷ []) s ha ed en eo (some_items k (listed us front l t b h) ek)) (omega arith)))
   comma_goes before front f st t k (value_at {pre = pre} {us = us} {a = a} o c l u s eo b ha ec) h ek =
       subst (λ (ps : Entries). At ((before ++ front) ++ k ∷ []) (Want Next, frame.Braces (place o) ps ∷ st)) (sym (cuts_pair most l u t))
-          (move ((before ++ front) ++ k ∷ []) (pre ++ (o ∷ ((us ++ (a ++ c ∷ front)) ++ k ∷ []))) (Want Next, frame.Braces (place o) (cut_pairs most (l ++ (u, t) ∷ [])) ∷ st) (simp append_assoc) (next_map o k (l ++ (u, t) ∷ []) s eo (paired us a front c l u t b ha ec h) ek))
+      (move ((before ++ front) ++ k ∷ []) (pre ++ (o ∷ ((us ++ (a ++ c ∷ front)) ++ k ∷ []))) (Want Next, frame.Braces (place o) (cut_pairs most (l ++ (u, t) ∷ [])) ∷ st) (simp append_assoc) (next_map o k (l ++ (u, t) ∷ []) s eo (paired us a front c l u t b ha ec h) ek))
   comma_goes before front f st t k (prefix_first n s lo en) h ek = tt
   comma_goes before front f st t k (prefix_again n s en) h ek = tt
   comma_goes before front f st t k (infix_at o u s lo ha eo) h ek = tt

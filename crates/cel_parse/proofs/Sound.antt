@@ -92,22 +92,22 @@ module _ (most : ℕ) where
     reduced_sound n m pre ts t st i bottom h l g = stay n m [] ts t [] bottom h l g refl
     reduced_sound n m pre ts t st i (prefix_first {pre = before} {st = under} k {x = x} s lo ek) h l g =
         carry n ((before ++ k ∷ []) ++ ts) (before ++ (k ∷ ts)) (unary_part most x (place k) (cut most t)) (cut most (Node (over (place k) (span_of t)) (Unary x t))) under (append_assoc before (k ∷ []) ts) (cut_unary most x (place k) t)
-            (reduced_sound n 6 before (k ∷ ts) (Node (over (place k) (span_of t)) (Unary x t)) under i s (unary (once k ek (weaken m 7 ts t l h))) lo i)
+        (reduced_sound n 6 before (k ∷ ts) (Node (over (place k) (span_of t)) (Unary x t)) under i s (unary (once k ek (weaken m 7 ts t l h))) lo i)
     reduced_sound n m pre ts t st i (prefix_again {pre = before} {st = under} {s = sp} k {x = x} s ek) h l g =
         carry n ((before ++ k ∷ []) ++ ts) (before ++ (k ∷ ts)) (unary_part most x (place k) (cut most t)) (cut most (Node (over (place k) (span_of t)) (Unary x t))) (frame.Prefix x sp ∷ under) (append_assoc before (k ∷ []) ts) (cut_unary most x (place k) t)
-            (repeats_sound n before (k ∷ ts) (Node (over (place k) (span_of t)) (Unary x t)) x sp under i s (once k ek (weaken m 7 ts t l h)))
+        (repeats_sound n before (k ∷ ts) (Node (over (place k) (span_of t)) (Unary x t)) x sp under i s (once k ek (weaken m 7 ts t l h)))
     reduced_sound n m pre ts t st i (infix_at {pre = before} {a = a} {st = under} o {x = x} u s lo ha eo) h l g =
         choose n ((before ++ (a ++ o ∷ [])) ++ ts) (nat_le n (level x)) (nat_le n (level x)) (reduced most n (binary_part most x (cut most u) (cut most t)) under) (cut most t, frame.Infix x (cut most u) ∷ under) refl
-            (λ b. carry n ((before ++ (a ++ o ∷ [])) ++ ts) (before ++ (a ++ (o ∷ ts))) (binary_part most x (cut most u) (cut most t)) (cut most (Node (over (span_of u) (span_of t)) (Binary x u t))) under
-                (append_assoc before (a ++ o ∷ []) ts ∙ ap (λ (y : List Lexeme). before ++ y) (append_assoc a (o ∷ []) ts)) (cut_binary most x u t)
-                (reduced_sound n (level x) before (a ++ (o ∷ ts)) (Node (over (span_of u) (span_of t)) (Binary x u t)) under i s (binary o eo ha (weaken m (suc (level x)) ts t l h)) lo (le_is n (level x) b)))
-            (λ b. stay n m (before ++ (a ++ o ∷ [])) ts t (frame.Infix x (cut most u) ∷ under) (infix_at o u s lo ha eo) h l g b)
+        (λ b. carry n ((before ++ (a ++ o ∷ [])) ++ ts) (before ++ (a ++ (o ∷ ts))) (binary_part most x (cut most u) (cut most t)) (cut most (Node (over (span_of u) (span_of t)) (Binary x u t))) under
+        (append_assoc before (a ++ o ∷ []) ts ∙ ap (λ (y : List Lexeme). before ++ y) (append_assoc a (o ∷ []) ts)) (cut_binary most x u t)
+        (reduced_sound n (level x) before (a ++ (o ∷ ts)) (Node (over (span_of u) (span_of t)) (Binary x u t)) under i s (binary o eo ha (weaken m (suc (level x)) ts t l h)) lo (le_is n (level x) b)))
+        (λ b. stay n m (before ++ (a ++ o ∷ [])) ts t (frame.Infix x (cut most u) ∷ under) (infix_at o u s lo ha eo) h l g b)
     reduced_sound n m pre ts t st i (branch_at {pre = before} {a = a} {b = b} {st = under} q k u v s lo ha eq hb ek) h l g =
         choose n ((before ++ (a ++ q ∷ (b ++ k ∷ []))) ++ ts) (n == 0) (n == 0) (reduced most n (conditional_part most (cut most u) (cut most v) (cut most t)) under) (cut most t, frame.Branch (cut most u) (cut most v) ∷ under) refl
-            (λ c. carry n ((before ++ (a ++ q ∷ (b ++ k ∷ []))) ++ ts) (before ++ (a ++ (q ∷ (b ++ (k ∷ ts))))) (conditional_part most (cut most u) (cut most v) (cut most t)) (cut most (Node (over (span_of u) (span_of t)) (Conditional u v t))) under
-                (append_assoc before (a ++ q ∷ (b ++ k ∷ [])) ts ∙ ap (λ (y : List Lexeme). before ++ y) (append_assoc a (q ∷ (b ++ k ∷ [])) ts ∙ ap (λ (y : List Lexeme). a ++ (q ∷ y)) (append_assoc b (k ∷ []) ts))) (cut_conditional most u v t)
-                (reduced_sound n 0 before (a ++ (q ∷ (b ++ (k ∷ ts)))) (Node (over (span_of u) (span_of t)) (Conditional u v t)) under i s (conditional q k ha eq hb ek (weaken m 0 ts t (omega arith) h)) lo (zero_is n c)))
-            (λ c. stay n m (before ++ (a ++ q ∷ (b ++ k ∷ []))) ts t (frame.Branch (cut most u) (cut most v) ∷ under) (branch_at q k u v s lo ha eq hb ek) h l g c)
+        (λ c. carry n ((before ++ (a ++ q ∷ (b ++ k ∷ []))) ++ ts) (before ++ (a ++ (q ∷ (b ++ (k ∷ ts))))) (conditional_part most (cut most u) (cut most v) (cut most t)) (cut most (Node (over (span_of u) (span_of t)) (Conditional u v t))) under
+        (append_assoc before (a ++ q ∷ (b ++ k ∷ [])) ts ∙ ap (λ (y : List Lexeme). before ++ y) (append_assoc a (q ∷ (b ++ k ∷ [])) ts ∙ ap (λ (y : List Lexeme). a ++ (q ∷ y)) (append_assoc b (k ∷ []) ts))) (cut_conditional most u v t)
+        (reduced_sound n 0 before (a ++ (q ∷ (b ++ (k ∷ ts)))) (Node (over (span_of u) (span_of t)) (Conditional u v t)) under i s (conditional q k ha eq hb ek (weaken m 0 ts t (omega arith) h)) lo (zero_is n c)))
+        (λ c. stay n m (before ++ (a ++ q ∷ (b ++ k ∷ []))) ts t (frame.Branch (cut most u) (cut most v) ∷ under) (branch_at q k u v s lo ha eq hb ek) h l g c)
     reduced_sound n m pre ts t st i (test_at q u s lo ha eq) h l g = stay n m _ ts t _ (test_at q u s lo ha eq) h l g refl
     reduced_sound n m pre ts t st i (round_at o s eo) h l g = stay n m _ ts t _ (round_at o s eo) h l g refl
     reduced_sound n m pre ts t st i (subscript_at o u s ha eo) h l g = stay n m _ ts t _ (subscript_at o u s ha eo) h l g refl
@@ -120,7 +120,7 @@ module _ (most : ℕ) where
     repeats_sound : (n : ℕ) (pre ts : List Lexeme) (t : Ast) (x : UnaryOp) (sp : Span) (st : List Frame) → n ≤ 6 → Stacked pre (frame.Prefix x sp ∷ st) → Repeats x ts t → Collapsed n (pre ++ ts) (reduced most n (cut most t) (frame.Prefix x sp ∷ st))
     repeats_sound n pre ts t x sp st i (prefix_first {pre = before} k s lo ek) r =
         carry n ((before ++ k ∷ []) ++ ts) (before ++ (k ∷ ts)) (unary_part most x (place k) (cut most t)) (cut most (Node (over (place k) (span_of t)) (Unary x t))) st (append_assoc before (k ∷ []) ts) (cut_unary most x (place k) t)
-            (reduced_sound n 6 before (k ∷ ts) (Node (over (place k) (span_of t)) (Unary x t)) st i s (unary (again k ek r)) lo i)
+        (reduced_sound n 6 before (k ∷ ts) (Node (over (place k) (span_of t)) (Unary x t)) st i s (unary (again k ek r)) lo i)
     repeats_sound n pre ts t x sp st i (prefix_again {pre = before} {st = under} {s = sq} k s ek) r =
         carry n ((before ++ k ∷ []) ++ ts) (before ++ (k ∷ ts)) (unary_part most x (place k) (cut most t)) (cut most (Node (over (place k) (span_of t)) (Unary x t))) (frame.Prefix x sq ∷ under) (append_assoc before (k ∷ []) ts) (cut_unary most x (place k) t)
-            (repeats_sound n before (k ∷ ts) (Node (over (place k) (span_of t)) (Unary x t)) x sq under i s (again k ek r))
+        (repeats_sound n before (k ∷ ts) (Node (over (place k) (span_of t)) (Unary x t)) x sq under i s (again k ek r))

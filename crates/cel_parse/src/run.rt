@@ -67,5 +67,4 @@ pub fn parse_tokens(alloc: Global, tokens: &[Token], end: usize) -> Result<Tree,
 /// A list of tokens has at most one tree.
 pub fn has_one_tree()
     ensures { (ts : List Lexeme) (t u : Ast) → Has 0 ts t → Has 0 ts u → t ≡ u }
-{
-}
+{}

@@ -72,7 +72,11 @@ fn want(
         TokenKind::Not => prefix(stack, due, UnaryOp::Not, span_of(token)),
         TokenKind::Minus => prefix(stack, due, UnaryOp::Negate, span_of(token)),
         TokenKind::RightParen | TokenKind::RightBracket | TokenKind::RightBrace => {
-            if due.may_end() { end(alloc, stack, token) } else { Ok(None) }
+            if due.may_end() {
+                end(alloc, stack, token)
+            } else {
+                Ok(None)
+            }
         }
         TokenKind::Comma => pass(stack, due),
         _ => {
@@ -118,12 +122,7 @@ impl Due {
     }
 }
 
-fn open(
-    stack: &mut Stack,
-    due: Due,
-    frame: Frame,
-    next: Due,
-) -> Result<Option<Mode>, AllocError>
+fn open(stack: &mut Stack, due: Due, frame: Frame, next: Due) -> Result<Option<Mode>, AllocError>
     ensures { Gives result stack.new (opened due frame next stack.old) }
 {
     if !due.may_begin() {
@@ -133,12 +132,7 @@ fn open(
     Ok(Some(Mode::Want(next)))
 }
 
-fn prefix(
-    stack: &mut Stack,
-    due: Due,
-    op: UnaryOp,
-    span: Span,
-) -> Result<Option<Mode>, AllocError>
+fn prefix(stack: &mut Stack, due: Due, op: UnaryOp, span: Span) -> Result<Option<Mode>, AllocError>
     ensures { Gives result stack.new (prefixed due op span stack.old) }
 {
     if !due.may_prefix(op) {
@@ -218,12 +212,7 @@ fn whole(alloc: Global, hand: Hand) -> Result<Part, AllocError>
 }
 
 /// Completes what waits for an operand that ends before an operator of this level.
-fn reduce(
-    alloc: Global,
-    stack: &mut Stack,
-    level: u8,
-    part: Part,
-) -> Result<Part, AllocError>
+fn reduce(alloc: Global, stack: &mut Stack, level: u8, part: Part) -> Result<Part, AllocError>
     ensures { IfOk result (λ p. (p, stack.new) ≡ reduced 64 level part stack.old) }
 {
     let mut part = part;
