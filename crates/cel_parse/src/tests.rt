@@ -2,6 +2,7 @@ use crate::{ParseError, has_one_tree, parse};
 use cel_lex::LexError;
 use cel_tree::{BinaryOp, Kind, Literal, Tree, UnaryOp};
 use std::alloc::{AllocError, Global};
+use std::process::Abort;
 use std::test::Fail;
 
 fn operator(op: BinaryOp) -> &'static str {
@@ -156,9 +157,8 @@ fn answer(alloc: Global, text: &str) -> Result<String, AllocError> {
     }
 }
 
-#[test]
-fn texts_have_their_answers(rt: HostRuntime) -> Result<(), Fail> {
-    let table = [
+fn first_rows() -> [(&'static str, &'static str); 8] {
+    [
         ("1 + 2 * 3 == 7 || a", "(((1 + (2 * 3)) == 7) || a)"),
         ("-9223372036854775808", "-9223372036854775808"),
         ("9223372036854775807", "9223372036854775807"),
@@ -167,6 +167,11 @@ fn texts_have_their_answers(rt: HostRuntime) -> Result<(), Fail> {
         ("-0x10", "-16"),
         ("1 < 2 < 3", "((1 < 2) < 3)"),
         ("a ? b : c ? d : e", "(a ? b : (c ? d : e))"),
+    ]
+}
+
+fn second_rows() -> [(&'static str, &'static str); 8] {
+    [
         ("a ? b ? c : d : e", "Unexpected 6 7"),
         ("a ? (b ? c : d) : e", "(a ? (b ? c : d) : e)"),
         ("while", "Unexpected 0 5"),
@@ -175,6 +180,11 @@ fn texts_have_their_answers(rt: HostRuntime) -> Result<(), Fail> {
         ("a.in", "Unexpected 2 4"),
         ("\"\\q\"", "BadEscape 1"),
         ("1u", "NotSupported 0 2"),
+    ]
+}
+
+fn third_rows() -> [(&'static str, &'static str); 8] {
+    [
         ("1.5 > 1", "NotSupported 0 3"),
         ("1 > b\"a\"", "NotSupported 4 8"),
         ("a[?1]", "NotSupported 2 3"),
@@ -183,6 +193,11 @@ fn texts_have_their_answers(rt: HostRuntime) -> Result<(), Fail> {
         ("1 + .a", "NotSupported 4 5"),
         ("Message{}", "NotSupported 7 8"),
         ("[1, 2.0", "NotSupported 4 7"),
+    ]
+}
+
+fn fourth_rows() -> [(&'static str, &'static str); 8] {
+    [
         ("[,]", "[]"),
         ("{,}", "{}"),
         ("[]", "[]"),
@@ -191,6 +206,11 @@ fn texts_have_their_answers(rt: HostRuntime) -> Result<(), Fail> {
         ("[1, 2]", "[1, 2]"),
         ("[1,,]", "Unexpected 3 4"),
         ("[,1]", "Unexpected 2 3"),
+    ]
+}
+
+fn fifth_rows() -> [(&'static str, &'static str); 8] {
+    [
         ("{1: 2}", "{1: 2;}"),
         ("{1: 2, 3: 4,}", "{1: 2;3: 4;}"),
         ("{1: a ? b : c}", "{1: (a ? b : c);}"),
@@ -199,6 +219,11 @@ fn texts_have_their_answers(rt: HostRuntime) -> Result<(), Fail> {
         ("{1: }", "Unexpected 4 5"),
         ("f()", "f()"),
         ("f(1, 2)", "f(1, 2)"),
+    ]
+}
+
+fn sixth_rows() -> [(&'static str, &'static str); 8] {
+    [
         ("f(1,)", "Unexpected 4 5"),
         ("f(,)", "Unexpected 2 3"),
         ("a.f(1)", "a.f(1)"),
@@ -207,6 +232,11 @@ fn texts_have_their_answers(rt: HostRuntime) -> Result<(), Fail> {
         ("a[1]", "a[1]"),
         ("a[]", "Unexpected 2 3"),
         ("a[1][2].b", "a[1][2].b"),
+    ]
+}
+
+fn seventh_rows() -> [(&'static str, &'static str); 8] {
+    [
         ("(f)(1)", "Unexpected 3 4"),
         ("!a", "(!a)"),
         ("!!a.b", "(!(!a.b))"),
@@ -215,6 +245,11 @@ fn texts_have_their_answers(rt: HostRuntime) -> Result<(), Fail> {
         ("--a", "(-(-a))"),
         ("- 1", "(-1)"),
         ("--1", "(--1)"),
+    ]
+}
+
+fn eighth_rows() -> [(&'static str, &'static str); 8] {
+    [
         ("1-1", "(1 - 1)"),
         ("1 - -1", "(1 - -1)"),
         ("!true && false", "((!true) && false)"),
@@ -223,6 +258,11 @@ fn texts_have_their_answers(rt: HostRuntime) -> Result<(), Fail> {
         ("a - b - c", "((a - b) - c)"),
         ("a * b / c % d", "(((a * b) / c) % d)"),
         ("1 in [1, 2]", "(1 in [1, 2])"),
+    ]
+}
+
+fn ninth_rows() -> [(&'static str, &'static str); 8] {
+    [
         ("'a' + \"b\"", "(<a> + <b>)"),
         ("'''a'b'''", "<a'b>"),
         ("\"\"\"a\"b\"\"\"", "<a\"b>"),
@@ -231,6 +271,11 @@ fn texts_have_their_answers(rt: HostRuntime) -> Result<(), Fail> {
         ("r\"\"\"\\q\"\"\"", "<\\q>"),
         ("r'''\\'''", "<\\>"),
         ("'\\a\\b\\f\\n\\r\\t\\v'", "<\u{7}\u{8}\u{c}\n\r\t\u{b}>"),
+    ]
+}
+
+fn tenth_rows() -> [(&'static str, &'static str); 8] {
+    [
         ("'\\\\\\?\\\"\\'\\`'", "<\\?\"'`>"),
         ("'\\x41\\X42\\u0043\\U00000044\\105'", "<ABCDE>"),
         (
@@ -242,6 +287,11 @@ fn texts_have_their_answers(rt: HostRuntime) -> Result<(), Fail> {
         ("'a", "Unclosed 0"),
         ("'a\n'", "Unclosed 0"),
         ("1 + #", "BadChar 4"),
+    ]
+}
+
+fn eleventh_rows() -> [(&'static str, &'static str); 8] {
+    [
         ("a // b\n + c", "(a + c)"),
         ("a // b", "a"),
         ("", "Unexpected 0 0"),
@@ -250,6 +300,11 @@ fn texts_have_their_answers(rt: HostRuntime) -> Result<(), Fail> {
         ("(1", "Unexpected 2 2"),
         ("1)", "Unexpected 1 2"),
         ("(1]", "Unexpected 2 3"),
+    ]
+}
+
+fn twelfth_rows() -> [(&'static str, &'static str); 6] {
+    [
         ("1 2", "Unexpected 2 3"),
         ("null == true", "(null == true)"),
         ("has(device.a)", "has(device.a)"),
@@ -259,11 +314,31 @@ fn texts_have_their_answers(rt: HostRuntime) -> Result<(), Fail> {
             "((device.attributes[<a>].b <= 3) ? x : y)",
         ),
         ("a != b >= c", "((a != b) >= c)"),
-    ];
-    for (text, expected) in table {
-        let found = answer(rt.alloc(), text)?;
-        assert_eq!(rt; found.as_str(), expected);
+    ]
+}
+
+fn meet<R: Abort>(rt: &R, alloc: Global, rows: &[(&str, &str)]) -> Result<(), AllocError> {
+    for (text, expected) in rows {
+        let found = answer(alloc, text)?;
+        assert_eq!(rt; found.as_str(), *expected);
     }
+    Ok(())
+}
+
+#[test]
+fn texts_have_their_answers(rt: HostRuntime) -> Result<(), Fail> {
+    meet(&rt, rt.alloc(), &first_rows())?;
+    meet(&rt, rt.alloc(), &second_rows())?;
+    meet(&rt, rt.alloc(), &third_rows())?;
+    meet(&rt, rt.alloc(), &fourth_rows())?;
+    meet(&rt, rt.alloc(), &fifth_rows())?;
+    meet(&rt, rt.alloc(), &sixth_rows())?;
+    meet(&rt, rt.alloc(), &seventh_rows())?;
+    meet(&rt, rt.alloc(), &eighth_rows())?;
+    meet(&rt, rt.alloc(), &ninth_rows())?;
+    meet(&rt, rt.alloc(), &tenth_rows())?;
+    meet(&rt, rt.alloc(), &eleventh_rows())?;
+    meet(&rt, rt.alloc(), &twelfth_rows())?;
     has_one_tree();
     Ok(())
 }
@@ -284,35 +359,67 @@ fn repeated(
     Ok(text)
 }
 
-#[test]
-fn limits_are_exact(rt: HostRuntime) -> Result<(), Fail> {
-    let table = [
-        ("1", "+1", 62, " == 63", false, "("),
-        ("1", "+1", 63, "", false, "("),
-        ("1", "+1", 64, "", true, "Deep"),
-        ("1", "+1", 70, " == 71", true, "Deep"),
-        ("1", "+1", 70, " 1", true, "Unexpected 142 143"),
-        ("", "!", 63, "a", false, "("),
-        ("", "!", 64, "a", true, "Deep"),
-        ("", "!", 10239, "a", true, "Deep"),
-        ("", "!", 10240, "a", true, "Long"),
-        ("", "(", 64, "", true, "Unexpected 64 64"),
-        ("", "(", 65, "", true, "Deep"),
-        ("", "[", 65, "", true, "Deep"),
-        ("", "a?b:", 2559, "a", true, "Deep"),
-        ("[1", ",1", 5000, "]", false, "["),
-        ("a", ".b", 63, "", false, "a"),
-        ("a", ".b", 64, "", true, "Deep"),
-        ("", " ", 10240, "", true, "Unexpected 10240 10240"),
-    ];
-    for (front, middle, times, back, whole, expected) in table {
-        let text = repeated(rt.alloc(), front, middle, times, back)?;
-        let found = answer(rt.alloc(), text.as_str())?;
-        if whole {
-            assert_eq!(rt; found.as_str(), expected);
-        } else {
-            assert!(rt; found.as_str().starts_with(expected));
-        }
+/// A text that is made by repetition, and how its answer begins.
+#[derive(Clone, Copy)]
+struct Limit {
+    front: &'static str,
+    middle: &'static str,
+    times: usize,
+    back: &'static str,
+    begins: &'static str,
+}
+
+fn made_by(
+    front: &'static str,
+    middle: &'static str,
+    times: usize,
+    back: &'static str,
+    begins: &'static str,
+) -> Limit {
+    Limit {
+        front,
+        middle,
+        times,
+        back,
+        begins,
     }
+}
+
+fn keep<R: Abort>(rt: &R, alloc: Global, limit: Limit) -> Result<(), AllocError> {
+    let text = repeated(alloc, limit.front, limit.middle, limit.times, limit.back)?;
+    let found = answer(alloc, text.as_str())?;
+    assert!(rt; found.as_str().starts_with(limit.begins));
+    Ok(())
+}
+
+#[test]
+fn trees_have_64_levels(rt: HostRuntime) -> Result<(), Fail> {
+    let alloc = rt.alloc();
+    keep(&rt, alloc, made_by("1", "+1", 63, "", "("))?;
+    keep(&rt, alloc, made_by("1", "+1", 64, "", "Deep"))?;
+    keep(&rt, alloc, made_by("1", "+1", 70, " == 71", "Deep"))?;
+    keep(
+        &rt,
+        alloc,
+        made_by("1", "+1", 70, " 1", "Unexpected 142 143"),
+    )?;
+    keep(&rt, alloc, made_by("", "!", 63, "a", "("))?;
+    keep(&rt, alloc, made_by("", "!", 10239, "a", "Deep"))?;
+    keep(&rt, alloc, made_by("", "a?b:", 2559, "a", "Deep"))?;
+    Ok(())
+}
+
+#[test]
+fn texts_and_brackets_have_limits(rt: HostRuntime) -> Result<(), Fail> {
+    let alloc = rt.alloc();
+    keep(&rt, alloc, made_by("", "!", 10240, "a", "Long"))?;
+    keep(&rt, alloc, made_by("", "(", 64, "", "Unexpected 64 64"))?;
+    keep(&rt, alloc, made_by("", "(", 65, "", "Deep"))?;
+    keep(&rt, alloc, made_by("[1", ",1", 5000, "]", "["))?;
+    keep(
+        &rt,
+        alloc,
+        made_by("", " ", 10240, "", "Unexpected 10240 10240"),
+    )?;
     Ok(())
 }

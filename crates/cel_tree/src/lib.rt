@@ -6,3 +6,6 @@ mod make;
 mod tree;
 
 pub use tree::{BinaryOp, Entry, Kind, Literal, Span, Tree, UnaryOp};
+
+#[cfg(test)]
+mod tests;

@@ -52,24 +52,14 @@ impl Tree {
     }
 
     /// `object.name`
-    pub fn member(
-        alloc: Global,
-        span: Span,
-        object: Tree,
-        name: Text,
-    ) -> Result<Tree, AllocError>
+    pub fn member(alloc: Global, span: Span, object: Tree, name: Text) -> Result<Tree, AllocError>
         ensures { IfOk result (λ t. tree_view t ≡ Node span (Member (tree_view object) name)) }
     {
         Ok(Tree::new(span, Kind::Member(Box::new(alloc, object)?, name)))
     }
 
     /// `object[index]`
-    pub fn index(
-        alloc: Global,
-        span: Span,
-        object: Tree,
-        index: Tree,
-    ) -> Result<Tree, AllocError>
+    pub fn index(alloc: Global, span: Span, object: Tree, index: Tree) -> Result<Tree, AllocError>
         ensures { IfOk result
             (λ t. tree_view t ≡ Node span (Index (tree_view object) (tree_view index))) }
     {
