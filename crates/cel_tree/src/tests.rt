@@ -3,11 +3,8 @@ use dra_values::Text;
 use std::alloc::{AllocError, Global};
 use std::test::Fail;
 
-fn number(at: usize, value: i64) -> Tree {
-    let span = Span {
-        start: at,
-        end: at + 1,
-    };
+fn number(value: i64) -> Tree {
+    let span = Span { start: 0, end: 1 };
     Tree::new(span, Kind::Literal(Literal::Int(value)))
 }
 
@@ -19,15 +16,15 @@ fn name(alloc: Global) -> Result<Text, AllocError> {
 fn nodes_have_their_kinds(rt: HostRuntime) -> Result<(), Fail> {
     let alloc = rt.alloc();
     let span = Span { start: 0, end: 9 };
-    let tree = Tree::unary(alloc, span, UnaryOp::Not, number(1, 1))?;
+    let tree = Tree::unary(alloc, span, UnaryOp::Not, number(1))?;
     assert!(rt; matches!(&tree.kind, Kind::Unary(UnaryOp::Not, _)));
-    let tree = Tree::binary(alloc, span, BinaryOp::Less, tree, number(2, 2))?;
+    let tree = Tree::binary(alloc, span, BinaryOp::Less, tree, number(2))?;
     assert!(rt; matches!(&tree.kind, Kind::Binary(BinaryOp::Less, _, _)));
-    let tree = Tree::conditional(alloc, span, tree, number(3, 3), number(4, 4))?;
+    let tree = Tree::conditional(alloc, span, tree, number(3), number(4))?;
     assert!(rt; matches!(&tree.kind, Kind::Conditional(..)));
     let tree = Tree::member(alloc, span, tree, name(alloc)?)?;
     assert!(rt; matches!(&tree.kind, Kind::Member(..)));
-    let tree = Tree::index(alloc, span, tree, number(5, 5))?;
+    let tree = Tree::index(alloc, span, tree, number(5))?;
     assert!(rt; matches!(&tree.kind, Kind::Index(..)));
     assert_eq!(rt; tree.span, span);
     Ok(())
@@ -38,7 +35,7 @@ fn nodes_have_their_lists(rt: HostRuntime) -> Result<(), Fail> {
     let alloc = rt.alloc();
     let span = Span { start: 0, end: 9 };
     let mut items = Vec::new(alloc);
-    items.push(number(1, 1))?;
+    items.push(number(1))?;
     let tree = Tree::list(span, items);
     assert!(rt; matches!(&tree.kind, Kind::List(items) if items.len() == 1));
     let tree = Tree::method(alloc, span, tree, name(alloc)?, Vec::new(alloc))?;
@@ -49,7 +46,7 @@ fn nodes_have_their_lists(rt: HostRuntime) -> Result<(), Fail> {
     assert!(rt; matches!(&tree.kind, Kind::Call(_, items) if items.len() == 1));
     let mut entries = Vec::new(alloc);
     entries.push(Entry {
-        key: number(1, 1),
+        key: number(1),
         value: tree,
     })?;
     let tree = Tree::map(span, entries);
