@@ -1,0 +1,6 @@
+pub mod Grammar
+pub mod Parts
+pub mod Operands
+pub mod Steps
+pub mod Answer
+pub mod Text
