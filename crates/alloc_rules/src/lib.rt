@@ -4,10 +4,13 @@
 
 mod object;
 mod order;
+mod one_grant;
 mod plan;
 mod pool;
 mod state;
 
 pub use object::Object;
+pub use one_grant::grants_at_most_one;
 pub use plan::{Cause, DeviceResult, Grant, Known, KnownClaim, Passed, Plan, Verdict};
+pub use pool::MOST_DEVICES;
 pub use state::{ClaimState, Granted, Phase, PodState, State, Stored, Use};

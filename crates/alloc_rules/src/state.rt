@@ -278,36 +278,3 @@ fn add_grant(
     }
     Ok(())
 }
-
-impl State {
-    ghost use Rattle.std.specs.Prelude.{◌≡◌, ◌+◌, ◌≤◌, ◌↔◌, IsTrue};
-    ghost use Rattle.alloc_rules.specs.Claims.{schedule_built};
-    ghost use Rattle.alloc_rules.specs.Pools.{device_count};
-
-    /// Whether the pod is there and Idle, and has at most one claim, which is there without a grant,
-    /// with fewer than 256 users and one request: the form that is built.
-    pub fn may_schedule(&self, pod: &Key) -> bool
-        ensures { result ≡ schedule_built self.now pod.now }
-    {
-        match self.pods.get(pod) {
-            None => false,
-            Some(state) => is_idle(&state.phase) && claims_built(self, &state.pod.object),
-        }
-    }
-
-    /// Whether all slices have at most 65,536 devices with so many more.
-    pub fn has_room(&self, more: usize) -> bool
-        ensures { IsTrue result ↔ (device_count self.now.slices + more ≤ MOST_DEVICES) }
-    {
-        has_room(&self.slices, more)
-    }
-}
-
-fn is_idle(phase: &Phase) -> bool
-    ensures { result ≡ is_idle phase.now }
-{
-    match phase {
-        Phase::Idle => true,
-        Phase::Taken { .. } | Phase::Bound(_) => false,
-    }
-}
