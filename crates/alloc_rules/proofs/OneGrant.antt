@@ -28,17 +28,17 @@ first_places_le (k ∷ ks) seen =
     let more = first_places_le ks (k ∷ seen) in
     cond_le (list_any (λ l. key_eq l k) seen) (first_places seen ks) (k ∷ first_places (k ∷ seen) ks) (length (k ∷ ks)) (omega arith) (omega arith)
 
-ungranted_le : (c : ClaimState) (g : Option Granted) (cs : List ResourceClaim) → length (add_ungranted c g cs) ≤ length cs + 1
-ungranted_le c None cs = omega arith
-ungranted_le c (Some g) cs = omega arith
+ungranted_le : (k : Key) (c : ClaimState) (g : Option Granted) (cs : List ResourceClaim) → length (add_ungranted k c g cs) ≤ length cs + 1
+ungranted_le k c None cs = omega arith
+ungranted_le k c (Some g) cs = omega arith
 
-wanted_le_one : (o : Option ClaimState) (cs : List ResourceClaim) → length (add_wanted o cs) ≤ length cs + 1
-wanted_le_one None cs = omega arith
-wanted_le_one (Some c) cs = ungranted_le c c.grant cs
+wanted_le_one : (k : Key) (o : Option ClaimState) (cs : List ResourceClaim) → length (add_wanted k o cs) ≤ length cs + 1
+wanted_le_one k None cs = omega arith
+wanted_le_one k (Some c) cs = ungranted_le k c c.grant cs
 
 wanted_of_le : (s : State) (ks : List Key) → length (wanted_of s ks) ≤ length ks
 wanted_of_le s [] = omega arith
-wanted_of_le s (k ∷ ks) = omega (arith, wanted_le_one (at_key s.claims k) (wanted_of s ks), wanted_of_le s ks)
+wanted_of_le s (k ∷ ks) = omega (arith, wanted_le_one k (at_key s.claims k) (wanted_of s ks), wanted_of_le s ks)
 
 grants_len : (cs : List ResourceClaim) (ds : List DeviceId) → length (grants_for cs ds) ≡ length cs
 grants_len [] ds = refl

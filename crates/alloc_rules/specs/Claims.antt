@@ -24,18 +24,19 @@ abbrev pub first_places : List Key → List Key → List Key
 first_places seen [] = []
 first_places seen (k ∷ ks) = if list_any (λ l. key_eq l k) seen then first_places seen ks else k ∷ first_places (k ∷ seen) ks
 
-abbrev pub add_ungranted : ClaimState → Option Granted → List ResourceClaim → List ResourceClaim
-add_ungranted c None claims = c.claim.object ∷ claims
-add_ungranted c (Some g) claims = claims
+-- the claim before others, under the key by which the pod names it, where it has no grant
+abbrev pub add_ungranted : Key → ClaimState → Option Granted → List ResourceClaim → List ResourceClaim
+add_ungranted k c None claims = record c.claim.object { key = k } ∷ claims
+add_ungranted k c (Some g) claims = claims
 
-abbrev pub add_wanted : Option ClaimState → List ResourceClaim → List ResourceClaim
-add_wanted None claims = claims
-add_wanted (Some c) claims = add_ungranted c c.grant claims
+abbrev pub add_wanted : Key → Option ClaimState → List ResourceClaim → List ResourceClaim
+add_wanted k None claims = claims
+add_wanted k (Some c) claims = add_ungranted k c c.grant claims
 
 -- those of the claims that have no grant
 abbrev pub wanted_of : State → List Key → List ResourceClaim
 wanted_of s [] = []
-wanted_of s (k ∷ ks) = add_wanted (at_key s.claims k) (wanted_of s ks)
+wanted_of s (k ∷ ks) = add_wanted k (at_key s.claims k) (wanted_of s ks)
 
 -- the pod's claims without a grant, each at its first place
 unfoldable pub wanted : State → Pod → List ResourceClaim
