@@ -1,6 +1,6 @@
 -- What the readers of fields answer: functions from what stands in a document to the value read, or
 -- to the first error with its path.
-use Rattle.std.specs.Prelude.{◌≡◌, ℕ, ◌^◌, ◌+◌, nat_lt, nat_le, ◌&&◌, ℤ, pos, negsuc, List, [], ◌∷◌, ◌++◌, length, Bool, Option, Some, None, Result, Ok, Err, option_and_then, if◌then◌else◌}
+use Rattle.std.specs.Prelude.{◌≡◌, ℕ, ◌^◌, ◌+◌, ◌==◌, nat_lt, nat_le, ◌&&◌, ℤ, pos, negsuc, List, [], ◌∷◌, ◌++◌, length, Bool, true, false, not, ⊤, Option, Some, None, Result, Ok, Err, option_and_then, if◌then◌else◌}
 use Rattle.serde_json.specs.Data.{Data, null, boolean, number, string, array, object, Num, Members, no_members, member, Items, no_items, item}
 use Rattle.serde_json.specs.Find.{get, as_bool, as_str, as_number, as_integer, as_object, as_array}
 use Rattle.object_fields.specs.Names.{is_dns_label, is_dns_name, is_pool_name, label_most, pool_most}
@@ -84,9 +84,13 @@ value_at path d = some_or (error_at path Missing) (not_null d)
 abbrev pub text_value : List Step → Data → Result (List ℕ) FieldError
 text_value path d = value_at path d >>= λ v. some_or (error_at path WrongType) (as_str v)
 
--- a value that is an object, and its members
+-- the members of a value that is an object
 abbrev pub table_value : List Step → Data → Result Members FieldError
 table_value path d = value_at path d >>= λ v. some_or (error_at path WrongType) (as_object v)
+
+-- a value that is an object
+abbrev pub object_value : List Step → Data → Result Data FieldError
+object_value path d = table_value path d >>= λ ms. Ok (object ms)
 
 -- ---- a field: the member of that name of what stands at the path
 
@@ -128,15 +132,38 @@ if_there (Some v) reading = reading >>= λ x. Ok (Some x)
 abbrev pub optional_at : {A : Type 0} → (List Step → List ℕ → Data → Result A FieldError) → List Step → List ℕ → Data → Result (Option A) FieldError
 optional_at reading path name d = if_there (member_of name d) (reading path name d)
 
+-- ---- members that this project leaves out
+
+abbrev pub has_no_items : Items → Bool
+has_no_items no_items = true
+has_no_items (item d ds) = false
+
+abbrev pub has_no_members : Members → Bool
+has_no_members no_members = true
+has_no_members (member k d ms) = false
+
+-- nothing is asked for: null, false, or an empty text, list or object
+abbrev pub is_unset : Data → Bool
+is_unset null = true
+is_unset (boolean b) = not b
+is_unset (number n) = false
+is_unset (string s) = length s == 0
+is_unset (array ds) = has_no_items ds
+is_unset (object ms) = has_no_members ms
+
+-- a member that is missing or unset
+abbrev pub unset_or : FieldError → Option Data → Result ⊤ FieldError
+unset_or e None = Ok tt
+unset_or e (Some d) = unless e (not (is_unset d)) tt
+
+abbrev pub unset_at : List Step → List ℕ → Data → Result ⊤ FieldError
+unset_at path name d = unset_or (field_error path name NotSupported) (get name d)
+
 -- ---- limits
 
 abbrev pub items_length : Items → ℕ
 items_length no_items = 0
 items_length (item d ds) = items_length ds + 1
-
-abbrev pub members_length : Members → ℕ
-members_length no_members = 0
-members_length (member k d ms) = members_length ms + 1
 
 -- a list of at most so many items
 abbrev pub short_list_at : ℕ → List Step → List ℕ → Data → Result Items FieldError
@@ -152,20 +179,24 @@ abbrev pub natural_at : ℕ → ℕ → List Step → List ℕ → Data → Resu
 natural_at least most path name d =
     whole_at path name d >>= natural_between (field_error path name OutOfRange) least most
 
--- a whole number that a signed number of 64 bits holds
-abbrev pub below_two_to_63 : FieldError → ℤ → Result ℤ FieldError
-below_two_to_63 e (pos n) = if nat_lt n (2 ^ 63) then Ok (pos n) else Err e
-below_two_to_63 e (negsuc n) = Ok (negsuc n)
+-- a whole number from -2^63 to 2^63-1
+abbrev pub within_signed : FieldError → ℤ → Result ℤ FieldError
+within_signed e (pos n) = if nat_lt n (2 ^ 63) then Ok (pos n) else Err e
+within_signed e (negsuc n) = if nat_lt n (2 ^ 63) then Ok (negsuc n) else Err e
 
 abbrev pub signed_at : List Step → List ℕ → Data → Result ℤ FieldError
-signed_at path name d = whole_at path name d >>= below_two_to_63 (field_error path name OutOfRange)
+signed_at path name d = whole_at path name d >>= within_signed (field_error path name OutOfRange)
 
 -- ---- names
 
--- A text of at most so many bytes that passes the test. Its length is looked at first.
+-- A text of at most so many bytes that is a name, as `right` says. Its length is looked at first.
+abbrev pub judged : List Step → ℕ → Bool → List ℕ → Result (List ℕ) FieldError
+judged path most right text =
+    if nat_lt most (length text) then Err (error_at path TooLong) else (if right then Ok text else Err (error_at path BadName))
+
+-- a text of at most so many bytes that passes the test
 abbrev pub name_in : List Step → ℕ → (List ℕ → Bool) → List ℕ → Result (List ℕ) FieldError
-name_in path most test text =
-    if nat_lt most (length text) then Err (error_at path TooLong) else (if test text then Ok text else Err (error_at path BadName))
+name_in path most test text = judged path most (test text) text
 
 abbrev pub name_at : ℕ → (List ℕ → Bool) → List Step → List ℕ → Data → Result (List ℕ) FieldError
 name_at most test path name d = text_at path name d >>= name_in (path ++ Member name ∷ []) most test

@@ -33,9 +33,12 @@ abbrev pub onto_first : ℕ → List (List ℕ) → List (List ℕ)
 onto_first b [] = (b ∷ []) ∷ []
 onto_first b (part ∷ parts) = (b ∷ part) ∷ parts
 
+abbrev pub parts_by : (ℕ → Bool) → List ℕ → List (List ℕ)
+parts_by cuts [] = [] ∷ []
+parts_by cuts (b ∷ bs) = if cuts b then [] ∷ parts_by cuts bs else onto_first b (parts_by cuts bs)
+
 abbrev pub parts_at : ℕ → List ℕ → List (List ℕ)
-parts_at cut [] = [] ∷ []
-parts_at cut (b ∷ bs) = if b == cut then [] ∷ parts_at cut bs else onto_first b (parts_at cut bs)
+parts_at cut = parts_by (λ b. b == cut)
 
 -- ---- DNS names
 
@@ -53,7 +56,7 @@ abbrev pub label_most : ℕ
 label_most = 63
 
 abbrev pub is_dns_label : List ℕ → Bool
-is_dns_label s = is_dns_part s && nat_le (length s) label_most
+is_dns_label s = nat_le (length s) label_most && is_dns_part s
 
 -- one or more parts joined by `.`, of any length
 abbrev pub is_dns_name : List ℕ → Bool
@@ -61,7 +64,7 @@ is_dns_name s = list_all is_dns_part (parts_at 46 s)
 
 -- such a name of at most so many bytes
 abbrev pub is_dns_subdomain : ℕ → List ℕ → Bool
-is_dns_subdomain most s = is_dns_name s && nat_le (length s) most
+is_dns_subdomain most s = nat_le (length s) most && is_dns_name s
 
 -- a pool's name has at most 253 bytes in all
 abbrev pub pool_most : ℕ

@@ -1,6 +1,7 @@
 -- The words of errors, and the text of a path.
 use Rattle.std.specs.Prelude.{ℕ, List, [], ◌∷◌, ◌++◌, codes}
 use Rattle.std.specs.Fmt.{decimal}
+use Rattle.std.specs.List.{flat_map}
 use Rattle.object_fields.specs.declared.kind.Kind.{Kind}
 use Rattle.object_fields.specs.declared.kind.Kind.TheVariants.{Missing, WrongType, BadName, TooLong, TooMany, NotSupported, Memory, Doubled, OutOfRange, NotOne, BadQuantity, BadVersion, Unknown, Selector}
 use Rattle.object_fields.specs.declared.kind.Stage.{Stage}
@@ -36,8 +37,7 @@ step_text (Place place) = codes "[" ++ decimal place ++ codes "]"
 step_text (Key key) = codes "[" ++ key ++ codes "]"
 
 abbrev pub steps_text : List Step → List ℕ
-steps_text [] = []
-steps_text (step ∷ steps) = step_text step ++ steps_text steps
+steps_text = flat_map step_text
 
 -- as `a.b[0][key]`
 abbrev pub path_text : List Step → List ℕ

@@ -4,10 +4,29 @@
 
 mod error;
 mod fields;
+mod key;
 mod kind;
+mod limits;
+mod meta;
+mod names;
+mod naming;
+mod optional;
 mod path;
+mod qualified;
+#[cfg(test)]
+mod tests;
 
 pub use error::{FieldError, or_memory};
 pub use fields::{borrowed, field, list, member, object, table, text, truth, whole};
+pub use key::{DeviceId, Key};
 pub use kind::{Kind, Stage};
+pub use limits::{natural, short_list, signed, value_object, value_table, value_text};
+pub use meta::{ObjectMeta, Scope};
+pub use names::{dns_label, dns_name, dns_subdomain, pool_name};
+pub use naming::{label_of, named, read_dns_label, read_dns_subdomain, read_pool_name};
+pub use optional::{
+    optional_dns_label, optional_list, optional_natural, optional_object, optional_short_list,
+    optional_signed, optional_table, optional_text, optional_truth, unset,
+};
 pub use path::{Path, Step};
+pub use qualified::QualName;
