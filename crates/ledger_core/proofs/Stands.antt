@@ -41,3 +41,7 @@ stand_end job h i st le told =
 pub stand_begin : (job : ℕ) (h : List Entry) → stand_from job Fresh 0 (drop 0 h) ≡ stand_of h job
 unfolding stand_of
 stand_begin job h = refl
+
+pub stand_of-empty : (job : ℕ) → stand_of [] job ≡ Fresh
+unfolding stand_of stand_from
+stand_of-empty job = refl

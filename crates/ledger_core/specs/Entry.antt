@@ -118,3 +118,8 @@ pub record MayBind (s : State) (pod : Key) (job : ℕ) (node : List ℕ) : Type 
   pub state : PodState
   pub taken : IsTaken s pod job node state
   pub written : list_all (λ k. has_written s pod k) (claims_of state) ≡ true
+
+-- The job may write the pod's uses of these claims in order, and then bind the pod.
+abbrev pub GoesOn : State → Key → ℕ → List ℕ → List Key → Type 0
+GoesOn s pod job node [] = MayBind s pod job node
+GoesOn s pod job node (k ∷ ks) = MayWrite s pod job k (version_of s k) × ((place : ℕ) → GoesOn (with_written place pod k s) pod job node ks)
