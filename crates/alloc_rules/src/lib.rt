@@ -2,6 +2,8 @@
 //! what a plan for a pod is.
 #![tactic(auto)]
 
+mod free;
+mod laws;
 mod object;
 mod order;
 mod one_grant;
@@ -9,6 +11,7 @@ mod plan;
 mod pool;
 mod state;
 
+pub use laws::{plan_holds, unsat_is_true, walk_is_allocations};
 pub use object::Object;
 pub use one_grant::grants_at_most_one;
 pub use plan::{Cause, DeviceResult, Grant, Known, KnownClaim, Passed, Plan, Verdict};

@@ -1,13 +1,19 @@
-ghost use Rattle.std.specs.Prelude.{◌≡◌, ◌≤◌, IfOk, OnOk, OnErr, length};
+ghost use Rattle.std.specs.Prelude.{◌≡◌, ◌≤◌, ◌&&◌, IfOk, OnOk, OnErr, length, option_copied};
+ghost use Rattle.alloc_rules.specs.Names.{at_key};
+ghost use Rattle.alloc_rules.specs.Claims.{is_idle, claim_built, claim_keys, claims_built};
 ghost use Rattle.alloc_rules.specs.State.{changed_at, with_phase, with_grant, with_grants, written_by};
 
 use crate::{DeviceResult, Grant, Object, Plan};
 use api_claim::ResourceClaim;
-use api_cluster::{DeviceClass, Node, Pod};
+use crate::pool::{has_room, MOST_DEVICES};
+use api_cluster::{DeviceClass, Node, Pod, PodResourceClaim};
 use api_slice::ResourceSlice;
 use dra_values::{Seq, Table, Text};
 use object_fields::Key;
 use std::alloc::{AllocError, Global};
+
+/// The most users that a claim may have.
+pub const MOST_USERS: usize = 256;
 
 /// An object that was applied.
 #[derive(Drop)]
@@ -277,4 +283,97 @@ fn add_grant(
         });
     }
     Ok(())
+}
+
+impl State {
+    ghost use Rattle.std.specs.Prelude.{◌≡◌, ◌+◌, ◌≤◌, ◌↔◌, IsTrue, IfOk};
+    ghost use Rattle.alloc_rules.specs.Claims.{schedule_built};
+    ghost use Rattle.alloc_rules.specs.Pools.{device_count};
+
+    /// Whether the pod is there and Idle, and has at most one claim, which is there without a grant,
+    /// with fewer than 256 users and one request: the form that is built. `AllocError` comes only
+    /// where memory runs out.
+    #[tactic(auto, unfolding(crate::specs::Claims::schedule_built))]
+    pub fn may_schedule(&self, alloc: Global, pod: &Key) -> Result<bool, AllocError>
+        ensures { IfOk result (λ built. built ≡ schedule_built self.now pod.now) }
+    {
+        match self.pods.get(pod) {
+            None => Ok(false),
+            Some(state) => pod_built(alloc, self, state),
+        }
+    }
+
+    /// Whether all slices have at most 65,536 devices with so many more.
+    pub fn has_room(&self, more: usize) -> bool
+        ensures { IsTrue result ↔ (device_count self.now.slices + more ≤ MOST_DEVICES) }
+    {
+        has_room(&self.slices, more)
+    }
+}
+
+fn pod_built(alloc: Global, state: &State, pod: &PodState) -> Result<bool, AllocError>
+    ensures { IfOk result (λ built. built ≡ (is_idle pod.now.phase && claims_built state.now (claim_keys pod.now.pod.object))) }
+{
+    if is_idle(&pod.phase) {
+        claims_built(alloc, state, &pod.pod.object)
+    } else {
+        Ok(false)
+    }
+}
+
+fn is_idle(phase: &Phase) -> bool
+    ensures { result ≡ is_idle phase.now }
+{
+    match phase {
+        Phase::Idle => true,
+        Phase::Taken { .. } | Phase::Bound(_) => false,
+    }
+}
+
+/// Whether the pod has at most one claim, which is of the form that is built.
+fn claims_built(alloc: Global, state: &State, pod: &Pod) -> Result<bool, AllocError>
+    ensures { IfOk result (λ built. built ≡ claims_built state.now (claim_keys pod.now)) }
+{
+    match pod.claims.as_slice() {
+        [] => Ok(true),
+        [entry] => entry_built(alloc, state, pod, entry),
+        _ => Ok(false),
+    }
+}
+
+/// Whether the claim that an entry of a pod names is of the form that is built.
+fn entry_built(
+    alloc: Global,
+    state: &State,
+    pod: &Pod,
+    entry: &PodResourceClaim,
+) -> Result<bool, AllocError>
+    ensures { IfOk result (λ built. built ≡ claim_built (at_key state.now.claims (record { namespace = pod.now.key.namespace; name = entry.now.claim }))) }
+{
+    let key = claim_key(alloc, pod, entry)?;
+    Ok(claim_built(state.claims.get(&key)))
+}
+
+/// The claim that an entry of a pod names.
+pub fn claim_key(alloc: Global, pod: &Pod, entry: &PodResourceClaim) -> Result<Key, AllocError>
+    ensures { IfOk result (λ key. key ≡ record { namespace = pod.now.key.namespace; name = entry.now.claim }) }
+{
+    Ok(Key {
+        namespace: pod.key.namespace.copy(alloc)?,
+        name: entry.claim.copy(alloc)?,
+    })
+}
+
+/// Whether a claim is there without a grant, with room for a user, and with one request.
+fn claim_built(claim: Option<&ClaimState>) -> bool
+    ensures { result ≡ claim_built (option_copied claim.entry) }
+{
+    match claim {
+        None => false,
+        Some(state) => {
+            state.grant.is_none()
+                && state.users.len() < MOST_USERS
+                && state.claim.object.requests.as_slice().len() == 1
+        }
+    }
 }
