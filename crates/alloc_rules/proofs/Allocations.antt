@@ -34,7 +34,7 @@ first_is_choice : (slots : List Slot) → IsChoice (map one_option slots) (map f
 first_is_choice [] = tt
 first_is_choice (s ∷ ss) = (omega arith, first_is_choice ss)
 
-fits_both : (s : State) (o : Option DeviceId) (p : Option Slot) (d : DeviceId) (slot : Slot) → o ≡ Some d → p ≡ Some slot → fits s o p ≡ (is_met s slot.request && is_free s d)
+pub fits_both : (s : State) (o : Option DeviceId) (p : Option Slot) (d : DeviceId) (slot : Slot) → o ≡ Some d → p ≡ Some slot → fits s o p ≡ (is_met s slot.request && is_free s d)
 fits_both s o p d slot e f = ap (λ q. fits s q p) e ∙ ap (λ q. fits s (Some d) q) f
 
 same_both : (o p : Option DeviceId) (d e : DeviceId) → o ≡ Some d → p ≡ Some e → same_device o p ≡ device_eq d e

@@ -6,3 +6,6 @@ pub mod Picked
 pub mod Places
 pub mod Allocations
 pub mod Walks
+pub mod Wanted
+pub mod Bridge
+pub mod Decided

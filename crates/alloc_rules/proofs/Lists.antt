@@ -1,7 +1,8 @@
 -- Tests and searches of lists joined end to end.
-use Rattle.std.proofs.Common.{◌≡◌, ◌∙◌, List, [], ◌∷◌, ◌++◌, Bool, true, false, ◌||◌, Option, None, Some, refl, sym, ap}
+use Rattle.std.proofs.Common.{◌≡◌, ◌∙◌, List, [], ◌∷◌, ◌++◌, Bool, true, false, ◌||◌, Option, None, Some, Result, Ok, Err, refl, sym, ap, subst}
 use Rattle.std.specs.List.{find, flat_map, list_any}
 use Rattle.std.specs.Option.{option_or}
+use Rattle.std.specs.Result.{IfOk}
 use Rattle.std.proofs.lemmas.List.Folds.{find-append, list_any-append}
 
 -- a test of lists joined is settled by the first, or else by the rest
@@ -25,3 +26,13 @@ found_later t f xs rest x o all e s h k =
     let b : find t (flat_map f xs) ≡ find t (flat_map f (x ∷ rest)) = ap (λ l. find t (flat_map f l)) s in
     let c : find t (flat_map f (x ∷ rest)) ≡ find t (flat_map f rest) = find_joined t f x rest ∙ ap (λ p. option_or p (find t (flat_map f rest))) a in
     sym c ∙ sym b ∙ e
+
+-- an answer is as one equal value says
+pub ok_as : {X E : Type 0} (r : Result X E) (x y : X) → IfOk r (λ v. v ≡ x) → x ≡ y → IfOk r (λ v. v ≡ y)
+ok_as (Ok v) x y h e = h ∙ e
+ok_as (Err f) x y h e = tt
+
+-- an answer has what one equal value has
+pub ok_has : {X E : Type 0} (P : X → Type 0) (r : Result X E) (x : X) → IfOk r (λ v. v ≡ x) → P x → IfOk r P
+ok_has {X} P (Ok v) x h p = subst (λ (w : X). P w) (sym h) p
+ok_has P (Err f) x h p = tt

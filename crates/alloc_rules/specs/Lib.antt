@@ -5,3 +5,5 @@ pub mod Claims
 pub mod Rules
 pub mod Allocation
 pub mod Plans
+pub mod Fits
+pub mod Decisions

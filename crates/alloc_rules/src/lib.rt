@@ -2,6 +2,8 @@
 //! what a plan for a pod is.
 #![tactic(auto)]
 
+mod decision;
+mod fit;
 mod free;
 mod laws;
 mod object;
@@ -11,6 +13,8 @@ mod plan;
 mod pool;
 mod state;
 
+pub use decision::{decide, Decision};
+pub use fit::{first_fit, Fit, NodeFit};
 pub use laws::{plan_holds, unsat_is_true, walk_is_allocations};
 pub use object::Object;
 pub use one_grant::grants_at_most_one;

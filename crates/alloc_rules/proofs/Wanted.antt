@@ -1,0 +1,134 @@
+-- The one claim of a pod of the form that is built.
+use Rattle.std.proofs.Common.{ℕ, ◌≡◌, ◌≤◌, ◌==◌, ◌∙◌, nat_lt, length, get_or, arith, length-append, List, [], ◌∷◌, Bool, true, false, ◌&&◌, Option, None, Some, map, ◌++◌, refl, sym, ap}
+use Rattle.std.specs.List.{find, slice_get}
+use Rattle.std.specs.Option.{is_none, option_to_list}
+use Rattle.std.proofs.lemmas.Bool.{and_parts, eqb-true}
+use Rattle.std.proofs.lemmas.List.{length-map}
+use Rattle.object_fields.specs.declared.key.DeviceId.{DeviceId}
+use Rattle.object_fields.specs.declared.key.Key.{Key}
+use Rattle.api_claim.specs.declared.types.DeviceRequest.{DeviceRequest}
+use Rattle.api_cluster.specs.declared.types.Pod.{Pod}
+use Rattle.alloc_rules.specs.declared.fit.Fit.TheVariants as fit
+use Rattle.alloc_rules.specs.declared.plan.DeviceResult.{DeviceResult}
+use Rattle.alloc_rules.specs.declared.plan.Grant.{Grant}
+use Rattle.alloc_rules.specs.declared.state.ClaimState.{ClaimState}
+use Rattle.alloc_rules.specs.declared.state.Granted.{Granted}
+use Rattle.alloc_rules.specs.declared.state.Phase.{Phase}
+use Rattle.alloc_rules.specs.declared.state.Phase.TheVariants.{Idle, Taken, Bound}
+use Rattle.alloc_rules.specs.declared.state.PodState.{PodState}
+use Rattle.alloc_rules.specs.declared.state.State.{State}
+use Rattle.alloc_rules.specs.Names.{at_key}
+use Rattle.alloc_rules.specs.Pools.{is_free}
+use Rattle.alloc_rules.specs.Claims.{Slot, add_ungranted, add_wanted, claim_built, claim_keys, claims_built, first_places, is_idle, most_users, pod_built, schedule_built, slots_of, wanted, wanted_of}
+use Rattle.alloc_rules.specs.Rules.{grants_for, is_met, results_for}
+use Rattle.alloc_rules.specs.Fits.{fit_with, request_due, fits_by, fits_for, fits_of}
+
+find_never : {X : Type 0} (b : Bool) (f : X → Bool) (xs : List X) → b ≡ false → find (λ x. b && f x) xs ≡ None
+find_never true f xs e = absurd (cc)
+find_never false f [] e = refl
+find_never false f (x ∷ xs) e = find_never false f xs e
+
+pub unmet : (s : State) (r : DeviceRequest) (ds : List DeviceId) → is_met s r ≡ false → fit.Unsat ≡ fit_with (find (λ d. is_met s r && is_free s d) ds)
+unmet s r ds e = ap fit_with (sym (find_never (is_met s r) (is_free s) ds e))
+
+pub wanted_none : (s : State) (pod : Pod) (k : Option Key) → option_to_list k ≡ claim_keys pod → k ≡ None → [] ≡ wanted s pod
+unfolding wanted
+wanted_none s pod k e f =
+    let none : [] ≡ claim_keys pod = sym (ap option_to_list f) ∙ e in
+    ap (λ ks. wanted_of s (first_places [] ks)) none
+
+-- the pod's one claim
+pub record OneClaim (s : State) (pod : Pod) (key : Key) : Type 0 where
+  pub built : claim_built (at_key s.claims key) ≡ true
+  pub keys : key ∷ [] ≡ claim_keys pod
+  pub is_wanted : wanted s pod ≡ add_wanted key (at_key s.claims key) []
+
+pub one_claim : (s : State) (pod : Pod) (k : Option Key) (key : Key) → claims_built s (claim_keys pod) ≡ true → option_to_list k ≡ claim_keys pod → k ≡ Some key → OneClaim s pod key
+unfolding wanted
+one_claim s pod k key b e f =
+    let one : key ∷ [] ≡ claim_keys pod = sym (ap option_to_list f) ∙ e in
+    record {
+      built = ap (claims_built s) one ∙ b;
+      keys = one;
+      is_wanted = sym (ap (λ ks. wanted_of s (first_places [] ks)) one);
+    }
+
+pub one_request : (s : State) (pod : Pod) (k : Option Key) (key : Key) (r : Option DeviceRequest) → claims_built s (claim_keys pod) ≡ true → option_to_list k ≡ claim_keys pod → k ≡ Some key
+    → r ≡ request_due (slots_of (add_wanted key (at_key s.claims key) [])) → r ≡ request_due (slots_of (wanted s pod))
+one_request s pod k key r b e f g = g ∙ sym (ap (λ cs. request_due (slots_of cs)) (one_claim s pod k key b e f).is_wanted)
+
+pub no_request : (s : State) (pod : Pod) (k : Option Key) → option_to_list k ≡ claim_keys pod → k ≡ None → None ≡ request_due (slots_of (wanted s pod))
+unfolding slots_of
+no_request s pod k e f = ap (λ cs. request_due (slots_of cs)) (wanted_none s pod k e f)
+
+first_due : (k : Key) (rs : List DeviceRequest) → slice_get rs 0 ≡ request_due (map (λ r. record { claim = k; request = r }) rs ++ [])
+first_due k [] = refl
+first_due k (r ∷ rs) = refl
+
+due_with : (k : Key) (c : ClaimState) (g : Option Granted) → is_none g ≡ true → slice_get c.claim.object.requests 0 ≡ request_due (slots_of (add_ungranted k c g []))
+unfolding slots_of
+due_with k c None e = first_due k c.claim.object.requests
+due_with k c (Some g) e = absurd (cc)
+
+pub due_at : (k : Key) (o : Option ClaimState) (c : ClaimState) (r : Option DeviceRequest) → claim_built o ≡ true → Some c ≡ o → r ≡ slice_get c.claim.object.requests 0 → r ≡ request_due (slots_of (add_wanted k o []))
+due_at k o c r b e f =
+    let built : claim_built (Some c) ≡ true = ap claim_built e ∙ b in
+    f ∙ due_with k c c.grant (and_parts (is_none c.grant) _ built).0 ∙ ap (λ q. request_due (slots_of (add_wanted k q []))) e
+
+pub built_parts : (s : State) (pod : Key) (p : PodState) → schedule_built s pod ≡ true → Some p ≡ at_key s.pods pod → (is_idle p.phase ≡ true) × (claims_built s (claim_keys p.pod.object) ≡ true)
+unfolding schedule_built
+built_parts s pod p h e = and_parts (is_idle p.phase) (claims_built s (claim_keys p.pod.object)) (ap (pod_built s) e ∙ h)
+
+pub idle_is : (p : Phase) → is_idle p ≡ true → p ≡ Idle
+idle_is Idle e = refl
+idle_is (Taken j n) e = absurd (cc)
+idle_is (Bound n) e = absurd (cc)
+
+pub not_absent : (s : State) (pod : Key) → schedule_built s pod ≡ true → None ≡ at_key s.pods pod → ⊥
+unfolding schedule_built
+not_absent s pod h e =
+    let f : false ≡ true = ap (pod_built s) e ∙ h in
+    absurd (cc)
+
+pub fits_there : (s : State) (pod : Key) (p : PodState) → Some p ≡ at_key s.pods pod → fits_for s p ≡ fits_of s pod
+unfolding fits_of
+fits_there s pod p e = ap (fits_by s) e
+
+pub no_results : (rs : List DeviceRequest) → results_for rs [] ≡ []
+no_results [] = refl
+no_results (r ∷ rs) = refl
+
+pub results_first : (rs : List DeviceRequest) (r : DeviceRequest) (d : DeviceId) → 1 ≤ length rs → r ≡ get_or rs 0 r → record { name = r.name; device = d; admin = false } ∷ [] ≡ results_for rs (d ∷ [])
+results_first [] r d h e = absurd (omega arith)
+results_first (x ∷ xs) r d h e =
+    let same : r ≡ x = e in
+    ap (λ q. record { name = q.name; device = d; admin = false } ∷ []) same ∙ ap (λ l. record { name = x.name; device = d; admin = false } ∷ l) (sym (no_results xs))
+
+pub no_grants : (s : State) (pod : Pod) (k : Option Key) (ds : List DeviceId) (gs : List Grant) → gs ≡ [] → option_to_list k ≡ claim_keys pod → k ≡ None → gs ≡ grants_for (wanted s pod) ds
+no_grants s pod k ds gs n e f = n ∙ ap (λ cs. grants_for cs ds) (wanted_none s pod k e f)
+
+pub one_grants : (s : State) (pod : Pod) (key : Key) (ds : List DeviceId) → OneClaim s pod key → grants_for (add_wanted key (at_key s.claims key) []) ds ≡ grants_for (wanted s pod) ds
+one_grants s pod key ds o = ap (λ cs. grants_for cs ds) (sym o.is_wanted)
+
+short_of : (k : Key) (c : ClaimState) (g : Option Granted) → is_none g ≡ true → length c.claim.object.requests ≡ 1 → length (slots_of (add_ungranted k c g [])) ≤ 1
+unfolding slots_of
+short_of k c None e h = simp (length-append, length-map) (omega (arith, h))
+short_of k c (Some g) e h = absurd (cc)
+
+short_at : (k : Key) (o : Option ClaimState) → claim_built o ≡ true → length (slots_of (add_wanted k o [])) ≤ 1
+short_at k None e = absurd (cc)
+short_at k (Some c) e =
+    let a = and_parts (is_none c.grant) (nat_lt (length c.users) most_users && (length c.claim.object.requests == 1)) e in
+    let b = and_parts (nat_lt (length c.users) most_users) (length c.claim.object.requests == 1) a.1 in
+    short_of k c c.grant a.0 (eqb-true (length c.claim.object.requests) 1 b.1)
+
+short_by : (s : State) (ks : List Key) → claims_built s ks ≡ true → length (slots_of (wanted_of s (first_places [] ks))) ≤ 1
+unfolding slots_of
+short_by s [] h = omega arith
+short_by s (k ∷ []) h = short_at k (at_key s.claims k) h
+short_by s (k ∷ l ∷ ks) h = absurd (cc)
+
+-- at most one result is due
+pub one_slot : (s : State) (pod : Pod) → claims_built s (claim_keys pod) ≡ true → length (slots_of (wanted s pod)) ≤ 1
+unfolding wanted
+one_slot s pod h = short_by s (claim_keys pod) h
