@@ -1,7 +1,7 @@
 ghost use Rattle.std.specs.Prelude.{◌≡◌, ◌≤◌, ◌<◌, ◌^◌, ◌+◌, ◌-◌, [], length, ℕ, List, true, IfOk, OnOk, OnErr, IsErrOf, vec_len, option_copied, if◌then◌else◌, ◌==◌};
 ghost use Rattle.std.specs.Vec.{vec_capacity};
 ghost use Rattle.alloc_rules.specs.State.{with_object, with_reserved};
-ghost use Rattle.alloc_rules.specs.Plans.{Holds, PlanTrue, VerdictTrue};
+ghost use Rattle.alloc_rules.specs.Plans.{PlanTrue, VerdictTrue};
 ghost use Rattle.ledger_core.specs.declared.entry.Event.TheVariants.{Applied, Reserved, Wrote, Bound, Judged};
 ghost use Rattle.ledger_core.specs.Entry.{allows, stand_after, taken_node, version_of, MayWrite, MayBind};
 ghost use Rattle.ledger_core.specs.Ledger.{appended};
@@ -9,7 +9,7 @@ ghost use Rattle.ledger_core.specs.History.{entry_at, state_of, stand_of, Legal,
 
 use crate::room::make_room;
 use crate::{Entry, Event, LedgerError, Stand};
-use alloc_rules::{Object, Phase, Plan, State, Verdict, grants_at_most_one};
+use alloc_rules::{Object, Phase, Plan, State, Verdict, grants_at_most_one, plan_holds};
 use dra_values::Text;
 use object_fields::Key;
 use std::alloc::{AllocError, Global};
@@ -126,7 +126,6 @@ impl Ledger {
     ) -> Result<Done, LedgerError>
         requires stand { allows (stand_of self.old.entries job) (Reserved pod.now plan.now) ≡ true }
         requires plan { PlanTrue (state_of self.old.entries) pod.now plan.now }
-        requires holds { Holds (state_of self.old.entries) pod.now plan.now }
         requires at { plan.now.at ≡ length self.old.entries }
         ensures ok { OnOk result (self.new ≡ appended self.old job (Reserved pod.now plan.now)) }
         ensures place { IfOk result (λ done. done.place ≡ length self.new.entries) }
@@ -134,6 +133,7 @@ impl Ledger {
         ensures full { (n : ℕ) → IsErrOf result (LedgerError.Full n) → (length self.old.entries ≡ n) × (self.old.limit ≤ n) }
         ensures err { OnErr result (self.new ≡ self.old) }
     {
+        plan_holds();
         grants_at_most_one();
         let place = make_room(&mut self.entries, self.limit)?;
         let (pod, plan) = grant(alloc, &mut self.state, job, pod, plan)?;
