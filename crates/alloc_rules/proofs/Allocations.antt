@@ -1,13 +1,13 @@
 -- The full items of a node's walk are the allocations there.
-use Rattle.std.proofs.Common.{ℕ, zero, suc, ◌<◌, ◌≤◌, ◌≡◌, ◌≢◌, ◌∙◌, List, [], ◌∷◌, Bool, true, false, not, ◌&&◌, Option, None, Some, map, length, take, get_or, refl, sym, ap, subst, arith}
-use Rattle.std.specs.List.{All, AllByRecursion, Contains, list_any, slice_get}
+use Rattle.std.proofs.Common.{ℕ, ◌<◌, ◌≡◌, ◌≢◌, ◌∙◌, List, [], ◌∷◌, true, false, not, ◌&&◌, Option, Some, map, length, take, get_or, refl, sym, ap, subst, arith}
+use Rattle.std.specs.List.{Contains, list_any, slice_get}
 use Rattle.std.specs.Option.{IsSome}
 use Rattle.std.proofs.lemmas.Bool.{and_parts, and_from, both_ways, false_from_ne_true, not-true, not_from_false}
 use Rattle.std.proofs.lemmas.Option.{slice_get_within}
 use Rattle.std.proofs.lemmas.List.{get_or-take, get_or_default, length-take-le}
 use Rattle.std.proofs.lemmas.List.Elements.{All-from_recursion, recursion_from_All}
 use Rattle.std.proofs.lemmas.List.Folds.{list_any_at, list_any_none}
-use Rattle.walk.specs.Walk.{Problem, Open, Shape, IsChoice, IsAllocation as IsFilling}
+use Rattle.walk.specs.Walk.{Open, Shape, IsChoice, IsAllocation as IsFilling}
 use Rattle.object_fields.specs.declared.key.DeviceId.{DeviceId}
 use Rattle.api_claim.specs.declared.types.ResourceClaim.{ResourceClaim}
 use Rattle.alloc_rules.specs.declared.state.State.{State}
@@ -113,14 +113,14 @@ allocation_from_filling s claims node choice l there_is f =
       exact_count = length_picked ds l known ∙ sym whole;
       on_node = λ i d e. Contains-from_get ds (get_or l i 0) d (at i d e).1;
       devices_match = λ i slot e.
-        let n : i < length l = omega (arith, slice_get_within slots i slot e, whole) in
-        let t = there (devices_picked ds l) i (omega (arith, n, length_picked ds l known)) in
-        (meets s ds slots l i t.0 slot (good i n) (at i t.0 t.1).1 e).0;
+          let n : i < length l = omega (arith, slice_get_within slots i slot e, whole) in
+          let t = there (devices_picked ds l) i (omega (arith, n, length_picked ds l known)) in
+          (meets s ds slots l i t.0 slot (good i n) (at i t.0 t.1).1 e).0;
       distinct = λ i j d e h f g. apart s ds slots l i j d e h (at j e g).0 (good j (at j e g).0) (at i d f).1 (at j e g).1;
       exclusive = λ i d e.
-        let n = (at i d e).0 in
-        let t = there slots i (omega (arith, n, whole)) in
-        not_held s d (meets s ds slots l i d t.0 (good i n) (at i d e).1 t.1).1;
+          let n = (at i d e).0 in
+          let t = there slots i (omega (arith, n, whole)) in
+          not_held s d (meets s ds slots l i d t.0 (good i n) (at i d e).1 t.1).1;
     }
 
 pub filling_from_allocation : (s : State) (claims : List ResourceClaim) (node choice : List ℕ) (grants : List Grant) (a : IsAllocation s claims node choice grants)
@@ -134,13 +134,13 @@ filling_from_allocation s claims node choice grants a =
     let count : length l ≡ length slots = sym (length_picked ds l r.1) ∙ ap length r.2 ∙ a.exact_count in
     let picked : (i : ℕ) (d : DeviceId) → slice_get (devices_picked ds l) i ≡ Some d → slice_get a.devices i ≡ Some d = λ i d e. sym (ap (λ k. slice_get k i) r.2) ∙ e in
     let good : (i : ℕ) → i < length l → GoodAt s ds slots l i = λ i n.
-      let d = there (devices_picked ds l) i (omega (arith, n, length_picked ds l r.1)) in
-      let here : slice_get ds (get_or l i 0) ≡ Some d.0 = (picked_at ds l r.1 i d.0 d.1).1 in
-      let slot = there slots i (omega (arith, n, count)) in
-      record {
-        fitting = fits_both s (slice_get ds (get_or l i 0)) (slice_get slots i) d.0 slot.0 here slot.1
+    let d = there (devices_picked ds l) i (omega (arith, n, length_picked ds l r.1)) in
+    let here : slice_get ds (get_or l i 0) ≡ Some d.0 = (picked_at ds l r.1 i d.0 d.1).1 in
+    let slot = there slots i (omega (arith, n, count)) in
+    record {
+      fitting = fits_both s (slice_get ds (get_or l i 0)) (slice_get slots i) d.0 slot.0 here slot.1
           ∙ and_from (is_met s slot.0.request) (is_free s d.0) (a.devices_match i slot.0 slot.1) (free_from s d.0 (a.exclusive i d.0 (picked i d.0 d.1)));
-        fresh = list_any_none (λ y. same_device (slice_get ds y) (slice_get ds (get_or l i 0))) (take i l)
+      fresh = list_any_none (λ y. same_device (slice_get ds y) (slice_get ds (get_or l i 0))) (take i l)
           (λ k e m.
           let under : k < i = omega (arith, m, length-take-le i l (omega arith)) in
           let b = there (devices_picked ds l) k (omega (arith, n, under, length_picked ds l r.1)) in
@@ -149,12 +149,13 @@ filling_from_allocation s claims node choice grants a =
           false_from_ne_true (same_device (slice_get ds (get_or (take i l) k e)) (slice_get ds (get_or l i 0)))
           (λ t. a.distinct k i b.0 d.0 under (picked k b.0 b.1) (picked i d.0 d.1)
           (same_from_device_eq b.0 d.0 (sym (same_both (slice_get ds (get_or (take i l) k e)) (slice_get ds (get_or l i 0)) b.0 d.0 before here) ∙ t))));
-      } in
-    (l,
-    record {
-      choice = subst (λ (w : List ℕ). IsChoice (map one_option slots) w) (sym a.choice_is) (first_is_choice slots);
-      whole = ap (λ n. Open n) (sym count);
-      known = All-from_recursion (λ x. x < length ds) l r.1;
-      good = good_from s ds slots l good;
-    },
-    r.2)
+    } in (
+      l,
+      record {
+        choice = subst (λ (w : List ℕ). IsChoice (map one_option slots) w) (sym a.choice_is) (first_is_choice slots);
+        whole = ap (λ n. Open n) (sym count);
+        known = All-from_recursion (λ x. x < length ds) l r.1;
+        good = good_from s ds slots l good;
+      },
+      r.2,
+    )

@@ -1,5 +1,5 @@
 -- What a walk meets first for a pod with at most one result that is due.
-use Rattle.std.proofs.Common.{ℕ, zero, suc, ◌≤◌, ◌+◌, ◌≡◌, ◌∙◌, List, [], ◌∷◌, ◌++◌, Bool, true, false, cond, leb, ◌&&◌, Option, None, Some, map, length, take, refl, sym, ap, subst, arith, add-zero, zero-add, append-nil}
+use Rattle.std.proofs.Common.{ℕ, zero, suc, ◌≤◌, ◌+◌, ◌≡◌, ◌∙◌, List, [], ◌∷◌, Bool, true, false, cond, leb, ◌&&◌, Option, None, Some, map, length, take, refl, sym, ap, subst, arith, add-zero, zero-add, append-nil}
 use Rattle.std.specs.List.{find, filter, slice_get}
 use Rattle.std.proofs.lemmas.Bool.{le-leb}
 use Rattle.walk.specs.Lists.{numbers, fronted, position_lists, choices}

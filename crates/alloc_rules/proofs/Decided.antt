@@ -1,16 +1,15 @@
 -- What is decided is true, and is what searches answer.
-use Rattle.std.proofs.Common.{ℕ, ◌≤◌, ◌≡◌, ◌∙◌, List, [], ◌∷◌, ◌++◌, Bool, true, false, cond, not, Option, None, Some, Ordering, map, refl, sym, ap, subst, arith}
+use Rattle.std.proofs.Common.{ℕ, ◌≤◌, ◌≡◌, ◌∙◌, List, [], ◌∷◌, ◌++◌, Bool, true, false, cond, not, Option, None, Some, map, refl, sym, ap, subst, arith}
 use Rattle.std.specs.List.{All, AllByRecursion, Contains, find, take_while}
 use Rattle.std.specs.List.Sorted.{IsStrictlySortedBy}
 use Rattle.std.specs.Map.{keys_of}
 use Rattle.std.specs.Ordering.{ordering_reverse}
-use Rattle.std.specs.declared.cmp.Ordering.TheVariants.{Less, Equal, Greater}
+use Rattle.std.specs.declared.cmp.Ordering.TheVariants.{Less, Greater}
 use Rattle.std.proofs.lemmas.Bool.{false_from_ne_true}
 use Rattle.std.proofs.lemmas.Cmp.{nat_list_cmp_total}
 use Rattle.std.proofs.lemmas.List.Sums.{take_while-cons}
 use Rattle.std.proofs.lemmas.List.Elements.{All-from_recursion, Contains-append_right}
 use Rattle.walk.specs.Outcome.{Unsat}
-use Rattle.walk.specs.Walk.{walk}
 use Rattle.object_fields.specs.declared.key.Key.{Key}
 use Rattle.api_claim.specs.declared.types.DeviceRequest.{DeviceRequest}
 use Rattle.api_cluster.specs.declared.types.Pod.{Pod}
@@ -23,9 +22,9 @@ use Rattle.alloc_rules.specs.declared.state.State.{State}
 use Rattle.alloc_rules.specs.declared.state.PodState.{PodState}
 use Rattle.alloc_rules.specs.Names.{at_key, text_cmp, text_eq}
 use Rattle.alloc_rules.specs.Pools.{devices_on}
-use Rattle.alloc_rules.specs.Claims.{claim_keys, claims_built, is_idle, schedule_built, slots_of, wanted}
-use Rattle.alloc_rules.specs.Rules.{grants_for, outcome_on, problem_of, walk_on}
-use Rattle.alloc_rules.specs.Plans.{CauseBy, CauseTrue, IsIdle, IsUnsat, PlanBy, PlanTrue, VerdictBy, VerdictTrue, names_before, nodes_of}
+use Rattle.alloc_rules.specs.Claims.{claim_keys, claims_built, schedule_built, slots_of, wanted}
+use Rattle.alloc_rules.specs.Rules.{grants_for, outcome_on, walk_on}
+use Rattle.alloc_rules.specs.Plans.{CauseBy, CauseTrue, IsUnsat, names_before, nodes_of}
 use Rattle.alloc_rules.specs.Fits.{devices_for, fit_on, fits_for, is_fit, is_found, node_fit, passed_over, plan_with, request_due}
 use Rattle.alloc_rules.specs.Decisions.{IsDecision, IsReserve, IsUnsatisfiable, decision_among, decision_with}
 use Rattle.alloc_rules.proofs.Names.{same_from_text_eq, text_eq-same}

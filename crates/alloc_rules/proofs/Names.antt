@@ -1,5 +1,5 @@
 -- Names are equal where the tests say so.
-use Rattle.std.proofs.Common.{ℕ, ◌≡◌, ◌∙◌, List, Bool, true, ◌&&◌, refl, sym, ap}
+use Rattle.std.proofs.Common.{ℕ, ◌≡◌, List, true, ◌&&◌, sym}
 use Rattle.std.specs.List.{Contains}
 use Rattle.std.specs.Map.{keys_of}
 use Rattle.std.specs.Option.{IsSome}

@@ -3,7 +3,7 @@ use Rattle.std.proofs.Common.{ℕ, ◌≡◌, ◌∙◌, List, [], ◌∷◌, Bo
 use Rattle.std.specs.List.{flat_map, list_any, list_all}
 use Rattle.std.proofs.lemmas.Bool.{and_parts, eqb-true, eq-eqb, ne_eqb}
 use Rattle.api_slice.specs.declared.types.ResourceSlice.{ResourceSlice}
-use Rattle.alloc_rules.specs.Pools.{Named, counts_of, counts_differ, device_names, has_twice, highest, is_complete, is_invalid, is_usable, is_used, of_generation, pool_of, slices_of}
+use Rattle.alloc_rules.specs.Pools.{Named, counts_of, counts_differ, device_names, has_twice, highest, is_complete, is_usable, is_used, of_generation, pool_of, slices_of}
 
 agrees_with : (k n : ℕ) (ms : List ℕ) → list_all (λ m. eqb m k) ms ≡ true → n ≡ k → list_any (λ m. not (eqb n m)) ms ≡ false
 agrees_with k n [] h e = refl

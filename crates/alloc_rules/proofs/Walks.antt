@@ -1,8 +1,8 @@
 -- The laws of walks, at a node of a state.
-use Rattle.std.proofs.Common.{ℕ, ◌≡◌, ◌⊎◌, List, Some, refl, sym, ap, ◌∙◌, subst}
+use Rattle.std.proofs.Common.{ℕ, ◌≡◌, ◌⊎◌, List, Some, sym, subst}
 use Rattle.std.specs.List.{Contains, find}
 use Rattle.std.specs.Option.{IsSome}
-use Rattle.walk.specs.Walk.{Problem, Item, Mark, Full, Fault, IsBefore, IsAllocation as IsFilling, walk}
+use Rattle.walk.specs.Walk.{Problem, Item, Full, Fault, IsBefore, IsAllocation as IsFilling, walk}
 use Rattle.walk.specs.Outcome.{Unsat, ends, is_full, outcome}
 use Rattle.object_fields.specs.declared.key.Key.{Key}
 use Rattle.api_cluster.specs.declared.types.Pod.{Pod}
@@ -65,5 +65,5 @@ holds_by law s pod plan t = record {
   known = t.known;
   choice = t.item.choice;
   allocation = subst (λ (g : List Grant). IsAllocation s (wanted s t.state.pod.object) plan.node t.item.choice g) (sym t.grants)
-    (full_on law s t.state.pod.object plan.node t.item (there_by_name s.nodes plan.node t.node_known) (Contains-found ends (walk_on s t.state.pod.object plan.node) t.item t.first) t.full);
+      (full_on law s t.state.pod.object plan.node t.item (there_by_name s.nodes plan.node t.node_known) (Contains-found ends (walk_on s t.state.pod.object plan.node) t.item t.first) t.full);
 }

@@ -1,5 +1,5 @@
 -- The one claim of a pod of the form that is built.
-use Rattle.std.proofs.Common.{ℕ, ◌≡◌, ◌≤◌, ◌==◌, ◌∙◌, nat_lt, length, get_or, arith, length-append, List, [], ◌∷◌, Bool, true, false, ◌&&◌, Option, None, Some, map, ◌++◌, refl, sym, ap}
+use Rattle.std.proofs.Common.{◌≡◌, ◌≤◌, ◌==◌, ◌∙◌, nat_lt, length, get_or, arith, length-append, List, [], ◌∷◌, Bool, true, false, ◌&&◌, Option, None, Some, map, ◌++◌, refl, sym, ap}
 use Rattle.std.specs.List.{find, slice_get}
 use Rattle.std.specs.Option.{is_none, option_to_list}
 use Rattle.std.proofs.lemmas.Bool.{and_parts, eqb-true}
@@ -9,7 +9,6 @@ use Rattle.object_fields.specs.declared.key.Key.{Key}
 use Rattle.api_claim.specs.declared.types.DeviceRequest.{DeviceRequest}
 use Rattle.api_cluster.specs.declared.types.Pod.{Pod}
 use Rattle.alloc_rules.specs.declared.fit.Fit.TheVariants as fit
-use Rattle.alloc_rules.specs.declared.plan.DeviceResult.{DeviceResult}
 use Rattle.alloc_rules.specs.declared.plan.Grant.{Grant}
 use Rattle.alloc_rules.specs.declared.state.ClaimState.{ClaimState}
 use Rattle.alloc_rules.specs.declared.state.Granted.{Granted}
@@ -19,7 +18,7 @@ use Rattle.alloc_rules.specs.declared.state.PodState.{PodState}
 use Rattle.alloc_rules.specs.declared.state.State.{State}
 use Rattle.alloc_rules.specs.Names.{at_key}
 use Rattle.alloc_rules.specs.Pools.{is_free}
-use Rattle.alloc_rules.specs.Claims.{Slot, add_ungranted, add_wanted, claim_built, claim_keys, claims_built, first_places, is_idle, most_users, pod_built, schedule_built, slots_of, wanted, wanted_of}
+use Rattle.alloc_rules.specs.Claims.{add_ungranted, add_wanted, claim_built, claim_keys, claims_built, first_places, is_idle, most_users, pod_built, schedule_built, slots_of, wanted, wanted_of}
 use Rattle.alloc_rules.specs.Rules.{grants_for, is_met, results_for}
 use Rattle.alloc_rules.specs.Fits.{fit_with, request_due, fits_by, fits_for, fits_of}
 

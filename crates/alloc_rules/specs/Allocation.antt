@@ -1,5 +1,5 @@
 -- What an allocation is.
-use Rattle.std.specs.Prelude.{ℕ, ◌<◌, ◌≡◌, ◌≢◌, true, List, Option, Some, IsSome, Contains, map, length, slice_get}
+use Rattle.std.specs.Prelude.{ℕ, ◌<◌, ◌≡◌, ◌≢◌, true, List, Some, IsSome, Contains, map, length, slice_get}
 use Rattle.object_fields.specs.declared.key.DeviceId.{DeviceId}
 use Rattle.api_claim.specs.declared.types.ResourceClaim.{ResourceClaim}
 use Rattle.alloc_rules.specs.declared.state.State.{State}

@@ -1,5 +1,5 @@
 -- The first device of each node for a pod with at most one request, and what is taken of them.
-use Rattle.std.specs.Prelude.{ℕ, List, [], ◌∷◌, Bool, true, false, not, ◌&&◌, Option, None, Some, find, map, if◌then◌else◌}
+use Rattle.std.specs.Prelude.{ℕ, List, [], ◌∷◌, Bool, true, false, ◌&&◌, Option, None, Some, find, map, if◌then◌else◌}
 use Rattle.std.specs.Map.{keys_of}
 use Rattle.object_fields.specs.declared.key.DeviceId.{DeviceId}
 use Rattle.object_fields.specs.declared.key.Key.{Key}

@@ -1,5 +1,5 @@
 -- When a plan and a verdict are true.
-use Rattle.std.specs.Prelude.{ℕ, ◌≡◌, true, not, List, [], Option, Some, Contains, All, find, map, take_while}
+use Rattle.std.specs.Prelude.{ℕ, ◌≡◌, true, not, List, [], Some, Contains, All, find, map, take_while}
 use Rattle.std.specs.Map.{keys_of}
 use Rattle.walk.specs.Walk.{Item, Full, Fault}
 use Rattle.walk.specs.Outcome.{Ended, Unsat, ends}

@@ -1,5 +1,5 @@
 -- What each change does to the state.
-use Rattle.std.specs.Prelude.{ℕ, true, false, List, [], ◌∷◌, Option, None, Some, option_map, ◌≡◌}
+use Rattle.std.specs.Prelude.{ℕ, true, false, List, [], ◌∷◌, None, Some, option_map, ◌≡◌}
 use Rattle.std.specs.BTreeMap.{insert_entry, is_at}
 use Rattle.std.specs.Map.{set_value}
 use Rattle.std.specs.Option.{option_map_or}
@@ -12,7 +12,6 @@ use Rattle.alloc_rules.specs.declared.state.Phase.{Phase}
 use Rattle.alloc_rules.specs.declared.state.Phase.TheVariants.{Idle, Taken, Bound}
 use Rattle.alloc_rules.specs.declared.state.ClaimState.{ClaimState}
 use Rattle.alloc_rules.specs.declared.state.PodState.{PodState}
-use Rattle.alloc_rules.specs.declared.state.Use.{Use}
 use Rattle.alloc_rules.specs.declared.state.Use.TheVariants.{Assumed, Written}
 use Rattle.alloc_rules.specs.declared.state.Granted.{Granted}
 use Rattle.alloc_rules.specs.declared.plan.DeviceResult.{DeviceResult}

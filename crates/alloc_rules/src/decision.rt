@@ -41,12 +41,7 @@ pub fn decide(alloc: Global, state: &State, pod: &Key, at: u64) -> Result<Decisi
     }
 }
 
-fn decide_for(
-    alloc: Global,
-    state: &State,
-    pod: &PodState,
-    at: u64,
-) -> Result<Decision, AllocError>
+fn decide_for(alloc: Global, state: &State, pod: &PodState, at: u64) -> Result<Decision, AllocError>
     requires { claims_built state.now (claim_keys pod.now.pod.object) ≡ true }
     ensures { IfOk result (λ decision. decision ≡ decision_among state.now pod.now at (fits_for state.now pod.now)) }
 {
@@ -132,12 +127,7 @@ fn plan(
 }
 
 /// What the pod's claim is granted, if it has one.
-fn grants(
-    alloc: Global,
-    state: &State,
-    pod: &Pod,
-    fit: &Fit,
-) -> Result<Seq<Grant>, AllocError>
+fn grants(alloc: Global, state: &State, pod: &Pod, fit: &Fit) -> Result<Seq<Grant>, AllocError>
     requires { claims_built state.now (claim_keys pod.now) ≡ true }
     ensures { IfOk result (λ grants. grants ≡ grants_for (wanted state.now pod.now) (devices_for fit.now)) }
 {
@@ -147,12 +137,7 @@ fn grants(
     }
 }
 
-fn grants_at(
-    alloc: Global,
-    state: &State,
-    key: &Key,
-    fit: &Fit,
-) -> Result<Seq<Grant>, AllocError>
+fn grants_at(alloc: Global, state: &State, key: &Key, fit: &Fit) -> Result<Seq<Grant>, AllocError>
     requires { claim_built (at_key state.now.claims key.now) ≡ true }
     ensures { IfOk result (λ grants. grants ≡ grants_for (add_wanted key.now (at_key state.now.claims key.now) []) (devices_for fit.now)) }
 {

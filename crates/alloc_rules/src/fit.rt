@@ -50,11 +50,7 @@ pub fn first_fit(alloc: Global, state: &State, pod: &Key) -> Result<Seq<NodeFit>
 }
 
 /// What each node has for a pod that has at most one claim of the form that is built.
-pub fn fits_of_pod(
-    alloc: Global,
-    state: &State,
-    pod: &PodState,
-) -> Result<Seq<NodeFit>, AllocError>
+pub fn fits_of_pod(alloc: Global, state: &State, pod: &PodState) -> Result<Seq<NodeFit>, AllocError>
     requires { claims_built state.now (claim_keys pod.now.pod.object) ≡ true }
     ensures { IfOk result (λ fits. fits ≡ fits_for state.now pod.now) }
 {

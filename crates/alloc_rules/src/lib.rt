@@ -13,8 +13,8 @@ mod plan;
 mod pool;
 mod state;
 
-pub use decision::{decide, Decision};
-pub use fit::{first_fit, Fit, NodeFit};
+pub use decision::{Decision, decide};
+pub use fit::{Fit, NodeFit, first_fit};
 pub use laws::{plan_holds, unsat_is_true, walk_is_allocations};
 pub use object::Object;
 pub use one_grant::grants_at_most_one;

@@ -3,9 +3,9 @@ ghost use Rattle.alloc_rules.specs.Names.{at_key};
 ghost use Rattle.alloc_rules.specs.Claims.{is_idle, claim_built, claim_keys, claims_built};
 ghost use Rattle.alloc_rules.specs.State.{changed_at, with_phase, with_grant, with_grants, written_by};
 
+use crate::pool::{MOST_DEVICES, has_room};
 use crate::{DeviceResult, Grant, Object, Plan};
 use api_claim::ResourceClaim;
-use crate::pool::{has_room, MOST_DEVICES};
 use api_cluster::{DeviceClass, Node, Pod, PodResourceClaim};
 use api_slice::ResourceSlice;
 use dra_values::{Seq, Table, Text};
@@ -55,10 +55,7 @@ pub struct ClaimState {
 pub enum Phase {
     Idle,
     /// A job has reserved its claims for a node.
-    Taken {
-        job: u64,
-        node: Text,
-    },
+    Taken { job: u64, node: Text },
     /// It was bound to this node.
     Bound(Text),
 }

@@ -1,4 +1,4 @@
-use Rattle.std.proofs.Common.{◌≡◌, ◌+◌, ◌-◌, ◌≤◌}
+use Rattle.std.proofs.Common.{◌≡◌, ◌+◌, ◌≤◌}
 use Rattle.alloc_rules.specs.declared.pool.TheConstants.{MOST_DEVICES}
 use Rattle.alloc_rules.specs.Pools.{device_count}
 use Rattle.alloc_rules.proofs.pool.has_room.Given as goal

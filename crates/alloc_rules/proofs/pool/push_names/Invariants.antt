@@ -1,5 +1,4 @@
 use Rattle.std.proofs.Common.{◌≡◌, ◌++◌, map, take}
-use Rattle.alloc_rules.specs.Pools.{device_names}
 use Rattle.alloc_rules.proofs.pool.push_names.Given as goal
 
 abbrev pub invariant-loop-device : goal.invariant-loop-device
