@@ -4,8 +4,10 @@
 mod built;
 mod jobs;
 mod reader;
+mod scan;
 mod status;
 mod stop;
+mod work;
 
 pub use status::Status;
 pub use stop::Stop;
