@@ -1,2 +1,6 @@
 pub mod Readers
 pub mod Stopping
+pub mod Known
+pub mod Running
+pub mod Scripts
+pub mod Ending

@@ -5,9 +5,11 @@ mod built;
 mod jobs;
 mod reader;
 mod scan;
+mod script;
 mod status;
 mod stop;
 mod work;
 
+pub use script::replay;
 pub use status::Status;
 pub use stop::Stop;

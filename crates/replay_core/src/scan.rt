@@ -40,6 +40,7 @@ fn do_line<K: Sink>(
     ensures did { OnOk result (LineDid line.now work.old work.new (K.written output.old) (K.written output.new)) }
     ensures stops { IfErr result (LineStops at line.now work.old work.new (K.written output.old) (K.written output.new)) }
     ensures write { IfErr result (λ s. s ≡ Status.Write → Rose (K.faults output.old) (K.faults output.new)) }
+    ensures later { K.faults output.old ≤ K.faults output.new }
     ensures legal { Legal work.new.ledger.entries }
 {
     match line {
@@ -59,13 +60,18 @@ fn end_line<K: Sink>(alloc: Global, scan: &mut Scan, output: &mut K) -> Result<(
     ensures ok { OnOk result ((limit : ℕ) (left now next before : Option (List ℕ)) → Progress limit left now before (K.written output.old) scan.old → Consumes now next (10 ∷ []) → Progress limit left next before (K.written output.new) scan.new) }
     ensures stops { IfErr result (λ s. (limit : ℕ) (left now next before : Option (List ℕ)) → Progress limit left now before (K.written output.old) scan.old → Consumes now next (10 ∷ []) → Ends limit left next before (K.written output.new) s) }
     ensures write { IfErr result (λ s. s ≡ Status.Write → Rose (K.faults output.old) (K.faults output.new)) }
+    ensures later { K.faults output.old ≤ K.faults output.new }
 {
     histories_grow();
     lines_of_more();
-    do_line(alloc, &mut scan.work, scan.at, &scan.line, output)?;
-    scan.at = scan.at + scan.line.len() as u64 + 1;
-    scan.line.clear();
-    Ok(())
+    match do_line(alloc, &mut scan.work, scan.at, &scan.line, output) {
+        Ok(()) => {
+            scan.at = scan.at + scan.line.len() as u64 + 1;
+            scan.line.clear();
+            Ok(())
+        }
+        Err(status) => Err(status),
+    }
 }
 
 /// Adds a byte to the line.
@@ -98,6 +104,7 @@ pub fn take_byte<K: Sink>(
     ensures ok { OnOk result ((limit : ℕ) (left now next before : Option (List ℕ)) → Progress limit left now before (K.written output.old) scan.old → Consumes now next (byte ∷ []) → Progress limit left next before (K.written output.new) scan.new) }
     ensures stops { IfErr result (λ s. (limit : ℕ) (left now next before : Option (List ℕ)) → Progress limit left now before (K.written output.old) scan.old → Consumes now next (byte ∷ []) → Ends limit left next before (K.written output.new) s) }
     ensures write { IfErr result (λ s. s ≡ Status.Write → Rose (K.faults output.old) (K.faults output.new)) }
+    ensures later { K.faults output.old ≤ K.faults output.new }
 {
     if byte == b'\n' {
         end_line(alloc, scan, output)
@@ -112,6 +119,7 @@ pub fn end_input<K: Sink>(alloc: Global, scan: &mut Scan, output: &mut K) -> Sta
     requires room { scan.old.work.commands + 1 < 2 ^ 64 }
     ensures ends { (limit : ℕ) (left now before : Option (List ℕ)) → Progress limit left now before (K.written output.old) scan.old → IsAtEnd now → Ends limit left now before (K.written output.new) result }
     ensures write { result ≡ Status.Write → Rose (K.faults output.old) (K.faults output.new) }
+    ensures later { K.faults output.old ≤ K.faults output.new }
 {
     histories_grow();
     lines_of_more();
@@ -125,6 +133,7 @@ pub fn end_input<K: Sink>(alloc: Global, scan: &mut Scan, output: &mut K) -> Sta
 fn print_summary<K: Sink>(alloc: Global, work: &Work, output: &mut K) -> Status
     ensures printed { Summarized work.now (K.written output.old) (K.written output.new) result }
     ensures write { result ≡ Status.Write → Rose (K.faults output.old) (K.faults output.new) }
+    ensures later { K.faults output.old ≤ K.faults output.new }
 {
     let Ok(text) = summary(alloc, &work.ledger, work.commands) else {
         return Status::Memory;

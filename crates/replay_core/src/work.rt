@@ -1,4 +1,4 @@
-ghost use Rattle.std.specs.Prelude.{◌≡◌, ◌<◌, ◌+◌, ◌^◌, [], Some, IfOk, IfErr, OnOk, OnErr, drop};
+ghost use Rattle.std.specs.Prelude.{◌≡◌, ◌<◌, ◌≤◌, ◌+◌, ◌^◌, [], Some, IfOk, IfErr, OnOk, OnErr, drop};
 ghost use Rattle.std.specs.Io.KnownBytes.{Appends};
 ghost use Rattle.dra_ports.specs.Causes.{HasCause, Rose};
 ghost use Rattle.dra_ports.specs.Fronts.{AppendsFront};
@@ -60,6 +60,7 @@ pub fn do_next<K: Sink>(
     ensures did { OnOk result (Did command work.old work.new (K.written output.old) (K.written output.new)) }
     ensures stops { IfErr result (Stops at command work.old work.new (K.written output.old) (K.written output.new)) }
     ensures write { IfErr result (λ s. s ≡ Status.Write → Rose (K.faults output.old) (K.faults output.new)) }
+    ensures later { K.faults output.old ≤ K.faults output.new }
     ensures legal { Legal work.new.ledger.entries }
 {
     let job = work.commands + 1;
@@ -96,6 +97,7 @@ pub fn do_document<K: Sink>(
     ensures did { OnOk result (DocumentDid document.now work.old work.new (K.written output.old) (K.written output.new)) }
     ensures stops { IfErr result (DocumentStops at document.now work.old work.new (K.written output.old) (K.written output.new)) }
     ensures write { IfErr result (λ s. s ≡ Status.Write → Rose (K.faults output.old) (K.faults output.new)) }
+    ensures later { K.faults output.old ≤ K.faults output.new }
     ensures legal { Legal work.new.ledger.entries }
 {
     let _entries = work.ledger.len();
