@@ -1,1 +1,3 @@
+pub mod Created
+pub mod JobSteps
 pub mod Readers
