@@ -1,6 +1,6 @@
 -- How a job's entries come to be its whole run.
 use Rattle.std.proofs.Common.{ℕ, ◌+◌, ◌≤◌, ◌<◌, List, [], ◌∷◌, ◌++◌, ◌≡◌, ◌∙◌, Bool, true, false, cond, eqb, Result, Ok, Err, length, count_by, refl, sym, ap, arith, subst, append-nil, append_assoc, length-append}
-use Rattle.std.specs.Result.{OnOk, OnErr, IsErrOf}
+use Rattle.std.specs.Result.{OnOk, OnErr}
 use Rattle.std.proofs.lemmas.List.{take_all}
 use Rattle.std.proofs.lemmas.List.Sums.{sum_by-cons}
 use Rattle.std.proofs.lemmas.Bool.{eq-eqb}
@@ -18,10 +18,8 @@ use Rattle.ledger_core.specs.History.{state_at, state_of, stand_of}
 use Rattle.ledger_core.specs.Ledger.{History, appended}
 use Rattle.commands.specs.declared.command.Command.{Command}
 use Rattle.commands.specs.declared.command.Command.TheVariants as command
-use Rattle.ledger_core.specs.declared.error.LedgerError.{LedgerError}
-use Rattle.ledger_core.specs.declared.error.LedgerError.TheVariants as error
 use Rattle.replay_core.specs.Jobs.{IsOf, IsSearched, IsTimely, IsMade, AllMade, JobRun, JobBegun, HasNone, is_failure, failures, last_from, last_place}
-use Rattle.replay_core.specs.Doing.{Doing, Ran, Met, StepsOn, MayFinish, IsFull}
+use Rattle.replay_core.specs.Doing.{Begun, Doing, Ran, Met, StepsOn, MayFinish, IsFull}
 use Rattle.replay_core.specs.Claims.{keys_by, keys_at}
 
 never_fails : (event : Event) → is_failure event ≡ false
@@ -94,10 +92,10 @@ ran_from job c budget attempts old new d limit ended some =
       };
     }
 
--- a job that isn't ended, at the limit of the history
-pub met_from : (job : ℕ) (c : Command) (budget attempts : ℕ) (old new : History) (n : ℕ) (d : Doing job c budget old.entries new.entries) → new.limit ≡ old.limit
-    → ((place : ℕ) → stand_of new.entries job ≡ stand.Ended place → ⊥) → HasNone c d.segment → IsFull new n → 0 < attempts → Met job c budget attempts old new n
-met_from job c budget attempts old new n d limit begun none full some =
+-- a job that isn't ended was begun
+pub begun_from : (job : ℕ) (c : Command) (budget attempts : ℕ) (old new : History) (d : Doing job c budget old.entries new.entries) → new.limit ≡ old.limit
+    → ((place : ℕ) → stand_of new.entries job ≡ stand.Ended place → ⊥) → HasNone c d.segment → 0 < attempts → Begun job c budget attempts old new
+begun_from job c budget attempts old new d limit begun none some =
     record {
       segment = d.segment;
       is = same_history old new d.segment d.is limit;
@@ -107,9 +105,11 @@ met_from job c budget attempts old new n d limit begun none full some =
         none = none;
         attempted = omega (arith, d.unfailed, some);
       };
-      count_is = full.count_is;
-      full = full.full;
     }
+
+-- one that met the limit of the history
+pub met_from : (job : ℕ) (c : Command) (budget attempts : ℕ) (old new : History) (n : ℕ) → Begun job c budget attempts old new → IsFull new n → Met job c budget attempts old new n
+met_from job c budget attempts old new n b full = record { segment = b.segment; is = b.is; begun = b.begun; count_is = full.count_is; full = full.full }
 
 fresh_goes : (job : ℕ) (h : List Entry) → stand_of h job ≡ stand.Fresh → (place : ℕ) → stand_of h job ≡ stand.Ended place → ⊥
 fresh_goes job h fresh place ended = let e : stand.Fresh ≡ stand.Ended place = sym fresh ∙ ended in absurd (cc)
@@ -119,15 +119,26 @@ none_before (command.Apply object) = refl
 none_before (command.Schedule pod) = tt
 none_before command.NotBuilt = refl
 
--- a job that met the limit before its first entry
-pub met_at_first : (job : ℕ) (c : Command) (budget attempts : ℕ) (old new : History) (n : ℕ) → new ≡ old → stand_of old.entries job ≡ stand.Fresh
-    → IsFull old n → 0 < attempts → Met job c budget attempts old new n
+-- a job that has no entry yet
+pub begun_at_first : (job : ℕ) (c : Command) (budget attempts : ℕ) (old new : History) → new ≡ old → stand_of old.entries job ≡ stand.Fresh → 0 < attempts
+    → Begun job c budget attempts old new
 unfolding doing_begin
-met_at_first job c budget attempts old new n same fresh full some =
-    subst (λ (h : History). Met job c budget attempts old h n) (sym same)
-    (met_from job c budget attempts old old n (doing_begin job c budget old.entries) refl (fresh_goes job old.entries fresh) (none_before c) full some)
+begun_at_first job c budget attempts old new same fresh some =
+    subst (λ (h : History). Begun job c budget attempts old h) (sym same)
+    (begun_from job c budget attempts old old (doing_begin job c budget old.entries) refl (fresh_goes job old.entries fresh) (none_before c) some)
 
--- a job that met the limit once it had reserved
+on_err : {X E : Type 0} (P : Type 0) (r : Result X E) → P → OnErr r P
+on_err P (Ok x) p = tt
+on_err P (Err e) p = p
+
+-- an error before the first entry
+pub begun_on_err : {X E : Type 0} (r : Result X E) (job : ℕ) (c : Command) (old new : History) → new ≡ old → stand_of old.entries job ≡ stand.Fresh
+    → OnErr r ((budget attempts : ℕ) → 2 ≤ budget → 0 < attempts → Begun job c budget attempts old new)
+begun_on_err r job c old new same fresh =
+    on_err ((budget attempts : ℕ) → 2 ≤ budget → 0 < attempts → Begun job c budget attempts old new) r
+    (λ budget attempts two some. begun_at_first job c budget attempts old new same fresh some)
+
+-- a job that has reserved isn't ended
 pub reserved_goes : (job : ℕ) (h : List Entry) → stand_of h job ≡ stand.Reserved → (place : ℕ) → stand_of h job ≡ stand.Ended place → ⊥
 reserved_goes job h reserved place ended = let e : stand.Reserved ≡ stand.Ended place = sym reserved ∙ ended in absurd (cc)
 
@@ -205,11 +216,12 @@ ran_at_end (Ok x) job c old mid new begun limit steps ended =
     λ budget attempts two some. ran_from job c budget attempts old new (steps.doing budget old.entries (begun budget two)) (steps.limit ∙ limit) ended some
 ran_at_end (Err e) job c old mid new begun limit steps ended = tt
 
--- one that began well and was not ended met the limit
-pub met_later : {X : Type 0} (r : Result X LedgerError) (job : ℕ) (pod : Key) (old mid new : History)
+-- one that began well and was not ended was begun
+pub begun_later : {X E : Type 0} (r : Result X E) (job : ℕ) (pod : Key) (old mid new : History)
     → ((budget : ℕ) → 2 ≤ budget → Doing job (command.Schedule pod) budget old.entries mid.entries) → mid.limit ≡ old.limit → StepsOn job (command.Schedule pod) mid new
-    → OnErr r (stand_of new.entries job ≡ stand.Reserved) → ((n : ℕ) → IsErrOf r (error.Full n) → IsFull new n)
-    → (n : ℕ) → IsErrOf r (error.Full n) → (budget attempts : ℕ) → 2 ≤ budget → 0 < attempts → Met job (command.Schedule pod) budget attempts old new n
-met_later (Ok x) job pod old mid new begun limit steps stands full n e budget attempts two some = absurd (cc)
-met_later (Err x) job pod old mid new begun limit steps stands full n e budget attempts two some =
-    met_from job (command.Schedule pod) budget attempts old new n (steps.doing budget old.entries (begun budget two)) (steps.limit ∙ limit) (reserved_goes job new.entries stands) tt (full n e) some
+    → OnErr r (stand_of new.entries job ≡ stand.Reserved)
+    → OnErr r ((budget attempts : ℕ) → 2 ≤ budget → 0 < attempts → Begun job (command.Schedule pod) budget attempts old new)
+begun_later (Ok x) job pod old mid new begun limit steps stands = tt
+begun_later (Err e) job pod old mid new begun limit steps stands =
+    λ budget attempts two some.
+    begun_from job (command.Schedule pod) budget attempts old new (steps.doing budget old.entries (begun budget two)) (steps.limit ∙ limit) (reserved_goes job new.entries stands) tt some

@@ -22,6 +22,12 @@ pub record Ran (job : ℕ) (c : Command) (budget attempts : ℕ) (old new : Hist
   pub is : new ≡ record old { entries = old.entries ++ segment }
   pub run : JobRun job c budget attempts old.entries segment
 
+-- the job was begun, and isn't ended
+pub record Begun (job : ℕ) (c : Command) (budget attempts : ℕ) (old new : History) : Type 0 where
+  pub segment : List Entry
+  pub is : new ≡ record old { entries = old.entries ++ segment }
+  pub begun : JobBegun job c budget attempts old.entries segment
+
 -- the job was begun, and met the limit of the history
 pub record Met (job : ℕ) (c : Command) (budget attempts : ℕ) (old new : History) (count : ℕ) : Type 0 where
   pub segment : List Entry

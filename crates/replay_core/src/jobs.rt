@@ -6,7 +6,7 @@ ghost use Rattle.ledger_core.specs.declared.entry.Stand.TheVariants.{Fresh, Rese
 ghost use Rattle.ledger_core.specs.History.{state_of, stand_of};
 ghost use Rattle.commands.specs.declared.command.Command.TheVariants.{Apply, Schedule};
 ghost use Rattle.replay_core.specs.Built.{is_built};
-ghost use Rattle.replay_core.specs.Doing.{Doing, IsFull, MayFinish, Met, Ran, StepsOn};
+ghost use Rattle.replay_core.specs.Doing.{Begun, Doing, IsFull, MayFinish, Met, Ran, StepsOn};
 ghost use Rattle.replay_core.specs.Claims.{keys_at};
 
 use crate::Stop;
@@ -28,6 +28,7 @@ pub fn do_command(
 ) -> Result<(), Stop>
     requires { stand_of ledger.old.entries job ≡ Fresh }
     ensures ran { OnOk result ((budget attempts : ℕ) → 2 ≤ budget → 0 < attempts → Ran job command budget attempts ledger.old ledger.new) }
+    ensures begun { OnErr result ((budget attempts : ℕ) → 2 ≤ budget → 0 < attempts → Begun job command budget attempts ledger.old ledger.new) }
     ensures not_built { IsErrOf result Stop.NotBuilt → (is_built (state_of ledger.old.entries) command ≡ false) × (ledger.new ≡ ledger.old) }
     ensures full { (n : ℕ) → IsErrOf result (Stop.Full n) → (budget attempts : ℕ) → 2 ≤ budget → 0 < attempts → Met job command budget attempts ledger.old ledger.new n }
 {
@@ -49,7 +50,8 @@ fn do_built(
     requires fresh { stand_of ledger.old.entries job ≡ Fresh }
     requires built { is_built (state_of ledger.old.entries) command ≡ true }
     ensures ran { OnOk result ((budget attempts : ℕ) → 2 ≤ budget → 0 < attempts → Ran job command budget attempts ledger.old ledger.new) }
-    ensures full { (n : ℕ) → IsErrOf result (LedgerError.Full n) → (budget attempts : ℕ) → 2 ≤ budget → 0 < attempts → Met job command budget attempts ledger.old ledger.new n }
+    ensures begun { OnErr result ((budget attempts : ℕ) → 2 ≤ budget → 0 < attempts → Begun job command budget attempts ledger.old ledger.new) }
+    ensures full { (n : ℕ) → IsErrOf result (LedgerError.Full n) → IsFull ledger.new n }
 {
     match command {
         Command::Apply(object) => apply(alloc, ledger, job, object),
@@ -68,7 +70,8 @@ fn apply(
     requires fresh { stand_of ledger.old.entries job ≡ Fresh }
     requires built { is_built (state_of ledger.old.entries) (Apply object) ≡ true }
     ensures ran { OnOk result ((budget attempts : ℕ) → 2 ≤ budget → 0 < attempts → Ran job (Apply object) budget attempts ledger.old ledger.new) }
-    ensures full { (n : ℕ) → IsErrOf result (LedgerError.Full n) → (budget attempts : ℕ) → 2 ≤ budget → 0 < attempts → Met job (Apply object) budget attempts ledger.old ledger.new n }
+    ensures begun { OnErr result ((budget attempts : ℕ) → 2 ≤ budget → 0 < attempts → Begun job (Apply object) budget attempts ledger.old ledger.new) }
+    ensures full { (n : ℕ) → IsErrOf result (LedgerError.Full n) → IsFull ledger.new n }
 {
     histories_grow();
     ledger.apply(alloc, job, object)?;
@@ -85,7 +88,8 @@ fn schedule(
     requires fresh { stand_of ledger.old.entries job ≡ Fresh }
     requires built { schedule_built (state_of ledger.old.entries) pod.now ≡ true }
     ensures ran { OnOk result ((budget attempts : ℕ) → 2 ≤ budget → 0 < attempts → Ran job (Schedule pod.now) budget attempts ledger.old ledger.new) }
-    ensures full { (n : ℕ) → IsErrOf result (LedgerError.Full n) → (budget attempts : ℕ) → 2 ≤ budget → 0 < attempts → Met job (Schedule pod.now) budget attempts ledger.old ledger.new n }
+    ensures begun { OnErr result ((budget attempts : ℕ) → 2 ≤ budget → 0 < attempts → Begun job (Schedule pod.now) budget attempts ledger.old ledger.new) }
+    ensures full { (n : ℕ) → IsErrOf result (LedgerError.Full n) → IsFull ledger.new n }
 {
     let at = ledger.len();
     match decide(alloc, ledger.state(), pod, at)? {
@@ -105,7 +109,8 @@ fn judge(
     requires fresh { stand_of ledger.old.entries job ≡ Fresh }
     requires verdict { IsUnsatisfiable (state_of ledger.old.entries) pod.now (length ledger.old.entries) verdict }
     ensures ran { OnOk result ((budget attempts : ℕ) → 2 ≤ budget → 0 < attempts → Ran job (Schedule pod.now) budget attempts ledger.old ledger.new) }
-    ensures full { (n : ℕ) → IsErrOf result (LedgerError.Full n) → (budget attempts : ℕ) → 2 ≤ budget → 0 < attempts → Met job (Schedule pod.now) budget attempts ledger.old ledger.new n }
+    ensures begun { OnErr result ((budget attempts : ℕ) → 2 ≤ budget → 0 < attempts → Begun job (Schedule pod.now) budget attempts ledger.old ledger.new) }
+    ensures full { (n : ℕ) → IsErrOf result (LedgerError.Full n) → IsFull ledger.new n }
 {
     histories_grow();
     ledger.record_verdict(alloc, job, pod, verdict)?;
@@ -123,7 +128,8 @@ fn carry_out(
     requires fresh { stand_of ledger.old.entries job ≡ Fresh }
     requires plan { IsReserve (state_of ledger.old.entries) pod.now (length ledger.old.entries) plan.now }
     ensures ran { OnOk result ((budget attempts : ℕ) → 2 ≤ budget → 0 < attempts → Ran job (Schedule pod.now) budget attempts ledger.old ledger.new) }
-    ensures full { (n : ℕ) → IsErrOf result (LedgerError.Full n) → (budget attempts : ℕ) → 2 ≤ budget → 0 < attempts → Met job (Schedule pod.now) budget attempts ledger.old ledger.new n }
+    ensures begun { OnErr result ((budget attempts : ℕ) → 2 ≤ budget → 0 < attempts → Begun job (Schedule pod.now) budget attempts ledger.old ledger.new) }
+    ensures full { (n : ℕ) → IsErrOf result (LedgerError.Full n) → IsFull ledger.new n }
 {
     let claims = claims_of_pod(alloc, ledger.state(), pod)?;
     begin(alloc, ledger, job, pod, plan)?;
@@ -144,7 +150,7 @@ fn begin(
     ensures may_finish { OnOk result (MayFinish job pod.now (keys_at (state_of ledger.old.entries) pod.now) ledger.new.entries) }
     ensures limit { ledger.new.limit ≡ ledger.old.limit }
     ensures err { OnErr result (ledger.new ≡ ledger.old) }
-    ensures full { (n : ℕ) → IsErrOf result (LedgerError.Full n) → IsFull ledger.old n }
+    ensures full { (n : ℕ) → IsErrOf result (LedgerError.Full n) → IsFull ledger.new n }
 {
     histories_grow();
     reserved_goes_on();

@@ -1,17 +1,14 @@
-use Rattle.std.proofs.Common.{length, refl, rules, subst}
+use Rattle.std.proofs.Common.{length, refl, subst}
 use Rattle.alloc_rules.specs.declared.state.State.{State}
 use Rattle.alloc_rules.specs.Plans.{VerdictBy}
 use Rattle.commands.specs.declared.command.Command.TheVariants.{Schedule}
 use Rattle.ledger_core.specs.declared.entry.Event.TheVariants.{Judged}
 use Rattle.replay_core.specs.Jobs.{IsSearched}
-use Rattle.replay_core.specs.Doing.{IsFull}
-use Rattle.replay_core.proofs.JobSteps.{met_at_first, ran_first, state_at-end, timely_now}
+use Rattle.replay_core.proofs.JobSteps.{begun_on_err, ran_first, state_at-end, timely_now}
 use Rattle.replay_core.proofs.jobs.judge.Goals as goal
 
-pub returns-in_err-record_verdict-clause-full : goal.returns-in_err-record_verdict-clause-full
-returns-in_err-record_verdict-clause-full c = λ n e budget attempts two some.
-    let full : IsFull c.args.ledger.now n = search (rules, e) in
-    met_at_first c.args.job (Schedule c.args.pod.now) budget attempts c.args.ledger.now c.record_verdict.new.self n c.in_err-record_verdict.ensures.err c.requires.fresh full some
+pub returns-in_err-record_verdict-clause-begun : goal.returns-in_err-record_verdict-clause-begun
+returns-in_err-record_verdict-clause-begun c = begun_on_err c.from_residual.result c.args.job (Schedule c.args.pod.now) c.args.ledger.now c.record_verdict.new.self c.in_err-record_verdict.ensures.err c.requires.fresh
 
 pub returns-clause-ran : goal.returns-clause-ran
 returns-clause-ran c = λ budget attempts two some.
