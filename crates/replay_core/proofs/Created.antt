@@ -11,7 +11,7 @@ use Rattle.alloc_rules.specs.Names.{at_name, at_key}
 use Rattle.ledger_core.specs.Entry.{HasRoom}
 use Rattle.ledger_core.specs.History.{MayCreate}
 use Rattle.commands.specs.declared.command.Command.TheVariants as command
-use Rattle.replay_core.specs.Built.{is_new, slice_built, object_built, is_built}
+use Rattle.replay_core.specs.Built.{is_new, object_built, is_built}
 
 none_by : {X : Type 0} (o : Option X) → is_none o ≡ true → o ≡ None
 none_by None e = refl

@@ -1,5 +1,5 @@
 -- How a job's entries come to be its whole run.
-use Rattle.std.proofs.Common.{ℕ, ◌+◌, ◌≤◌, ◌<◌, List, [], ◌∷◌, ◌++◌, ◌≡◌, ◌∙◌, Bool, true, false, cond, eqb, Result, Ok, Err, length, count_by, refl, sym, ap, arith, subst, append-nil, append_assoc, length-append}
+use Rattle.std.proofs.Common.{ℕ, ◌+◌, ◌≤◌, ◌<◌, List, [], ◌∷◌, ◌++◌, ◌≡◌, ◌∙◌, Bool, true, false, cond, eqb, Result, Ok, Err, length, refl, sym, ap, arith, subst, append-nil, append_assoc}
 use Rattle.std.specs.Result.{OnOk, OnErr}
 use Rattle.std.proofs.lemmas.List.{take_all}
 use Rattle.std.proofs.lemmas.List.Sums.{sum_by-cons}
@@ -18,7 +18,7 @@ use Rattle.ledger_core.specs.History.{state_at, state_of, stand_of}
 use Rattle.ledger_core.specs.Ledger.{History, appended}
 use Rattle.commands.specs.declared.command.Command.{Command}
 use Rattle.commands.specs.declared.command.Command.TheVariants as command
-use Rattle.replay_core.specs.Jobs.{IsOf, IsSearched, IsTimely, IsMade, AllMade, JobRun, JobBegun, HasNone, is_failure, failures, last_from, last_place}
+use Rattle.replay_core.specs.Jobs.{IsOf, IsSearched, IsTimely, IsMade, AllMade, HasNone, is_failure, failures, last_from, last_place}
 use Rattle.replay_core.specs.Doing.{Begun, Doing, Ran, Met, StepsOn, MayFinish, IsFull}
 use Rattle.replay_core.specs.Claims.{keys_by, keys_at}
 

@@ -1,5 +1,5 @@
 -- How far a job has come.
-use Rattle.std.specs.Prelude.{ℕ, ◌≡◌, ◌≤◌, ◌<◌, List, ◌++◌, length}
+use Rattle.std.specs.Prelude.{ℕ, ◌≡◌, ◌≤◌, List, ◌++◌, length}
 use Rattle.object_fields.specs.declared.key.Key.{Key}
 use Rattle.ledger_core.specs.declared.entry.Entry.{Entry}
 use Rattle.ledger_core.specs.declared.entry.Stand.TheVariants as stand

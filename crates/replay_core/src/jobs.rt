@@ -61,12 +61,7 @@ fn do_built(
 }
 
 /// Applies an object that is of a form that is done.
-fn apply(
-    alloc: Global,
-    ledger: &mut Ledger,
-    job: u64,
-    object: Object,
-) -> Result<(), LedgerError>
+fn apply(alloc: Global, ledger: &mut Ledger, job: u64, object: Object) -> Result<(), LedgerError>
     requires fresh { stand_of ledger.old.entries job ≡ Fresh }
     requires built { is_built (state_of ledger.old.entries) (Apply object) ≡ true }
     ensures ran { OnOk result ((budget attempts : ℕ) → 2 ≤ budget → 0 < attempts → Ran job (Apply object) budget attempts ledger.old ledger.new) }
@@ -79,12 +74,7 @@ fn apply(
 }
 
 /// Schedules a pod of a form that is done.
-fn schedule(
-    alloc: Global,
-    ledger: &mut Ledger,
-    job: u64,
-    pod: &Key,
-) -> Result<(), LedgerError>
+fn schedule(alloc: Global, ledger: &mut Ledger, job: u64, pod: &Key) -> Result<(), LedgerError>
     requires fresh { stand_of ledger.old.entries job ≡ Fresh }
     requires built { schedule_built (state_of ledger.old.entries) pod.now ≡ true }
     ensures ran { OnOk result ((budget attempts : ℕ) → 2 ≤ budget → 0 < attempts → Ran job (Schedule pod.now) budget attempts ledger.old ledger.new) }
