@@ -1,5 +1,5 @@
 -- Which commands are of a form that is done.
-use Rattle.std.specs.Prelude.{ℕ, ◌+◌, ◌==◌, List, [], Bool, true, false, ◌&&◌, is_none, length, nat_le}
+use Rattle.std.specs.Prelude.{◌+◌, ◌==◌, Bool, true, false, ◌&&◌, is_none, length, nat_le}
 use Rattle.api_slice.specs.declared.types.ResourceSlice.{ResourceSlice}
 use Rattle.alloc_rules.specs.declared.object.Object.{Object}
 use Rattle.alloc_rules.specs.declared.object.Object.TheVariants as object
