@@ -28,6 +28,11 @@ abbrev pub output_status : PortError → Status
 output_status port.Failed = status.Write
 output_status port.Memory = status.Memory
 
+-- the status for a fault of the input
+abbrev pub input_status : PortError → Status
+input_status port.Failed = status.Read
+input_status port.Memory = status.Memory
+
 -- the lines of the entries that are new
 abbrev pub new_lines : History → History → List ℕ
 new_lines old new = lines_from (length old.entries) (drop (length old.entries) new.entries)
@@ -123,3 +128,25 @@ Summarized work before after status.Read = ⊥
 Summarized work before after status.Write = AppendsFront before after (summary_of work.ledger.entries work.commands)
 Summarized work before after (status.Limit count) = ⊥
 Summarized work before after (status.NotYet at) = ⊥
+
+-- a replay that stops within its input, for want of memory, by a fault of the output, or at a command
+abbrev pub IsStop : Status → Type 0
+IsStop status.Done = ⊥
+IsStop status.Usage = ⊥
+IsStop (status.Document at) = Unit {0}
+IsStop status.Memory = Unit {0}
+IsStop status.Read = ⊥
+IsStop status.Write = Unit {0}
+IsStop (status.Limit count) = Unit {0}
+IsStop (status.NotYet at) = Unit {0}
+
+-- a replay that stops at the end of its input
+abbrev pub IsEnd : Status → Type 0
+IsEnd status.Done = Unit {0}
+IsEnd status.Usage = ⊥
+IsEnd (status.Document at) = Unit {0}
+IsEnd status.Memory = Unit {0}
+IsEnd status.Read = ⊥
+IsEnd status.Write = Unit {0}
+IsEnd (status.Limit count) = Unit {0}
+IsEnd (status.NotYet at) = Unit {0}

@@ -46,6 +46,7 @@ impl Reader {
         ensures byte { IfOk result (λ b. Consumes (prepend_known self.old (S.left source.old)) (prepend_known self.new (S.left source.new)) (option_to_list b)) }
         ensures end { IfOk result (λ b. IfNone b (IsAtEnd (prepend_known self.new (S.left source.new)))) }
         ensures kept { OnErr result (Consumes (prepend_known self.old (S.left source.old)) (prepend_known self.new (S.left source.new)) []) }
+        ensures empty { OnErr result (self.new ≡ []) }
         ensures cause { HasCause (S.faults source.old) (S.faults source.new) result }
     {
         if self.is_empty() {
@@ -65,6 +66,7 @@ impl Reader {
         requires { self.old ≡ [] }
         ensures kept { Consumes (prepend_known self.old (S.left source.old)) (prepend_known self.new (S.left source.new)) [] }
         ensures end { OnOk result (self.new ≡ [] → IsAtEnd (S.left source.new)) }
+        ensures empty { OnErr result (self.new ≡ []) }
         ensures cause { HasCause (S.faults source.old) (S.faults source.new) result }
     {
         let count = source.read(&mut self.piece)?;

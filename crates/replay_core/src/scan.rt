@@ -3,7 +3,7 @@ ghost use Rattle.std.specs.Io.KnownBytes.{Consumes, IsAtEnd};
 ghost use Rattle.dra_ports.specs.Causes.{Rose};
 ghost use Rattle.ledger_core.specs.declared.entry.Stand.TheVariants.{Fresh};
 ghost use Rattle.ledger_core.specs.History.{stand_of, Legal};
-ghost use Rattle.replay_core.specs.Lines.{LineDid, LineStops, Summarized};
+ghost use Rattle.replay_core.specs.Lines.{IsEnd, IsStop, LineDid, LineStops, Summarized};
 ghost use Rattle.replay_core.specs.Progress.{Progress};
 ghost use Rattle.replay_core.specs.Replay.{Ends};
 ghost use Rattle.replay_core.specs.Script.{most_document, most_input};
@@ -57,10 +57,12 @@ fn end_line<K: Sink>(alloc: Global, scan: &mut Scan, output: &mut K) -> Result<(
     requires fresh { stand_of scan.old.work.ledger.entries (scan.old.work.commands + 1) ≡ Fresh }
     requires room { scan.old.work.commands + 1 < 2 ^ 64 }
     requires seen { scan.old.at + length scan.old.line.items < most_input }
+    ensures seen { OnOk result (scan.new.at + length scan.new.line.items ≡ scan.old.at + length scan.old.line.items + 1) }
     ensures ok { OnOk result ((limit : ℕ) (left now next before : Option (List ℕ)) → Progress limit left now before (K.written output.old) scan.old → Consumes now next (10 ∷ []) → Progress limit left next before (K.written output.new) scan.new) }
     ensures stops { IfErr result (λ s. (limit : ℕ) (left now next before : Option (List ℕ)) → Progress limit left now before (K.written output.old) scan.old → Consumes now next (10 ∷ []) → Ends limit left next before (K.written output.new) s) }
     ensures write { IfErr result (λ s. s ≡ Status.Write → Rose (K.faults output.old) (K.faults output.new)) }
     ensures later { K.faults output.old ≤ K.faults output.new }
+    ensures kind { IfErr result IsStop }
 {
     histories_grow();
     lines_of_more();
@@ -78,9 +80,11 @@ fn end_line<K: Sink>(alloc: Global, scan: &mut Scan, output: &mut K) -> Result<(
 fn add_byte<K: Sink>(scan: &mut Scan, byte: u8, output: &K) -> Result<(), Status>
     requires other { byte ≡ 10 → ⊥ }
     requires seen { scan.old.at + length scan.old.line.items < most_input }
+    ensures seen { OnOk result (scan.new.at + length scan.new.line.items ≡ scan.old.at + length scan.old.line.items + 1) }
     ensures ok { OnOk result ((limit : ℕ) (left now next before : Option (List ℕ)) → Progress limit left now before (K.written output.now) scan.old → Consumes now next (byte ∷ []) → Progress limit left next before (K.written output.now) scan.new) }
     ensures stops { IfErr result (λ s. (limit : ℕ) (left now next before : Option (List ℕ)) → Progress limit left now before (K.written output.now) scan.old → Consumes now next (byte ∷ []) → Ends limit left next before (K.written output.now) s) }
     ensures other { IfErr result (λ s. s ≡ Status.Write → ⊥) }
+    ensures kind { IfErr result IsStop }
 {
     if scan.line.len() == MOST_DOCUMENT {
         return Err(Status::Document(scan.at));
@@ -101,10 +105,12 @@ pub fn take_byte<K: Sink>(
     requires fresh { stand_of scan.old.work.ledger.entries (scan.old.work.commands + 1) ≡ Fresh }
     requires room { scan.old.work.commands + 1 < 2 ^ 64 }
     requires seen { scan.old.at + length scan.old.line.items < most_input }
+    ensures seen { OnOk result (scan.new.at + length scan.new.line.items ≡ scan.old.at + length scan.old.line.items + 1) }
     ensures ok { OnOk result ((limit : ℕ) (left now next before : Option (List ℕ)) → Progress limit left now before (K.written output.old) scan.old → Consumes now next (byte ∷ []) → Progress limit left next before (K.written output.new) scan.new) }
     ensures stops { IfErr result (λ s. (limit : ℕ) (left now next before : Option (List ℕ)) → Progress limit left now before (K.written output.old) scan.old → Consumes now next (byte ∷ []) → Ends limit left next before (K.written output.new) s) }
     ensures write { IfErr result (λ s. s ≡ Status.Write → Rose (K.faults output.old) (K.faults output.new)) }
     ensures later { K.faults output.old ≤ K.faults output.new }
+    ensures kind { IfErr result IsStop }
 {
     if byte == b'\n' {
         end_line(alloc, scan, output)
@@ -120,6 +126,7 @@ pub fn end_input<K: Sink>(alloc: Global, scan: &mut Scan, output: &mut K) -> Sta
     ensures ends { (limit : ℕ) (left now before : Option (List ℕ)) → Progress limit left now before (K.written output.old) scan.old → IsAtEnd now → Ends limit left now before (K.written output.new) result }
     ensures write { result ≡ Status.Write → Rose (K.faults output.old) (K.faults output.new) }
     ensures later { K.faults output.old ≤ K.faults output.new }
+    ensures kind { IsEnd result }
 {
     histories_grow();
     lines_of_more();

@@ -2,6 +2,7 @@ use Rattle.std.proofs.Common.{◌≡◌, ◌∙◌, ◌+◌, refl, length, arith
 use Rattle.replay_core.specs.Script.{Clean, nothing}
 use Rattle.replay_core.proofs.Ending.{line_moves, line_stops, summary_ends, tells_at_end}
 use Rattle.replay_core.proofs.Scripts.{prepend_nothing}
+use Rattle.replay_core.proofs.Stopping.{end_kind, line_kind, summary_kind}
 use Rattle.replay_core.proofs.scan.end_input.Goals as goal
 
 pub returns-in-Ok-clause-ends : goal.returns-in-Ok-clause-ends
@@ -17,3 +18,9 @@ returns-in-Err-clause-ends g c = λ limit left now before p end.
 
 pub returns-in-Ok-clause-write : goal.returns-in-Ok-clause-write
 returns-in-Ok-clause-write g c = λ is. omega (arith, c.print_summary.ensures.write is, c.in-Ok.ensures.later)
+
+pub returns-in-Err-clause-kind : goal.returns-in-Err-clause-kind
+returns-in-Err-clause-kind g c = end_kind c.in-Err.status (line_kind _ _ _ _ _ _ c.in-Err.status c.in-Err.ensures.stops)
+
+pub returns-in-Ok-clause-kind : goal.returns-in-Ok-clause-kind
+returns-in-Ok-clause-kind g c = summary_kind c.do_line.new.work (g.K.Sink.written c.do_line.new.output) (g.K.Sink.written c.print_summary.new.output) c.print_summary.result c.print_summary.ensures.printed
