@@ -1,4 +1,5 @@
 pub mod Usable
+pub mod OneGrant
 pub mod Lists
 pub mod Names
 pub mod Picked

@@ -1,0 +1,8 @@
+use Rattle.std.proofs.Common.{append_assoc}
+use Rattle.journal_text.proofs.event.event_text.Goals as goal
+
+pub returns-in-Wrote : goal.returns-in-Wrote
+returns-in-Wrote c = rw c.in-Wrote.is (simp append_assoc c.format-in-Wrote.ensures.ok)
+
+pub returns-in-Bound : goal.returns-in-Bound
+returns-in-Bound c = rw c.in-Bound.is (simp append_assoc c.format-in-Bound.ensures.ok)

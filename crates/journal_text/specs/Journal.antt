@@ -1,0 +1,110 @@
+-- The text of a history.
+use Rattle.std.specs.Prelude.{ℕ, ◌+◌, ◌==◌, nat_lt, Bool, true, false, ◌||◌, if◌then◌else◌, List, [], ◌∷◌, ◌++◌, Option, is_some, map, codes, count_by, decimal, length}
+use Rattle.std.specs.List.{join_by}
+use Rattle.object_fields.specs.declared.key.Key.{Key}
+use Rattle.object_fields.specs.Keys.{key_text, device_text}
+use Rattle.alloc_rules.specs.declared.object.Object.{Object}
+use Rattle.alloc_rules.specs.declared.object.Object.TheVariants as object
+use Rattle.alloc_rules.specs.declared.plan.Cause.{Cause}
+use Rattle.alloc_rules.specs.declared.plan.Cause.TheVariants.{Unsat}
+use Rattle.alloc_rules.specs.declared.plan.DeviceResult.{DeviceResult}
+use Rattle.alloc_rules.specs.declared.plan.Grant.{Grant}
+use Rattle.alloc_rules.specs.declared.plan.Passed.{Passed}
+use Rattle.alloc_rules.specs.declared.plan.Plan.{Plan}
+use Rattle.alloc_rules.specs.declared.plan.Verdict.{Verdict}
+use Rattle.alloc_rules.specs.declared.state.State.{State}
+use Rattle.alloc_rules.specs.declared.state.Phase.{Phase}
+use Rattle.alloc_rules.specs.declared.state.Phase.TheVariants as phase
+use Rattle.ledger_core.specs.declared.entry.Entry.{Entry}
+use Rattle.ledger_core.specs.declared.entry.Event.{Event}
+use Rattle.ledger_core.specs.declared.entry.Event.TheVariants.{Applied, Reserved, Wrote, Bound, Judged}
+use Rattle.ledger_core.specs.History.{state_of}
+
+-- an object's kind and name
+abbrev pub object_text : Object → List ℕ
+object_text (object.Node x) = codes "Node " ++ x.name
+object_text (object.Slice x) = codes "ResourceSlice " ++ x.name
+object_text (object.Class x) = codes "DeviceClass " ++ x.name
+object_text (object.Claim x) = codes "ResourceClaim " ++ key_text x.key
+object_text (object.Pod x) = codes "Pod " ++ key_text x.key
+
+-- a list: what its items say, joined by `,`, and `-` where there are none
+abbrev pub listed : {T : Type 0} → (T → List ℕ) → List T → List ℕ
+listed words [] = codes "-"
+listed words (x ∷ xs) = join_by words (codes ",") (x ∷ xs)
+
+abbrev pub cause_word : Cause → List ℕ
+cause_word Unsat = codes "unsat"
+
+-- a node that wasn't taken, and why
+abbrev pub passed_text : Passed → List ℕ
+passed_text x = x.node ++ codes ":" ++ cause_word x.cause
+
+abbrev pub admin_mark : Bool → List ℕ
+admin_mark true = codes "!"
+admin_mark false = []
+
+-- a request's name and the device that was picked for it
+abbrev pub result_text : DeviceResult → List ℕ
+result_text x = x.name ++ codes "@" ++ device_text x.device ++ admin_mark x.admin
+
+-- a claim and its results
+abbrev pub grant_text : Grant → List ℕ
+grant_text x = key_text x.claim ++ codes ":" ++ join_by result_text (codes "+") x.results
+
+abbrev pub reserved_text : Key → Plan → List ℕ
+reserved_text pod plan =
+    codes "reserved " ++ key_text pod ++ codes " " ++ plan.node ++ codes " at=" ++ decimal plan.at
+    ++ codes " passed=" ++ listed passed_text plan.passed
+    ++ codes " grants=" ++ listed grant_text plan.grants
+    ++ codes " joins=" ++ listed key_text plan.joins
+
+abbrev pub verdict_text : Key → Verdict → List ℕ
+verdict_text pod verdict =
+    codes "verdict " ++ key_text pod ++ codes " unsatisfiable at=" ++ decimal verdict.at
+    ++ codes " nodes=" ++ listed passed_text verdict.nodes
+
+-- what a line says after its place and job
+abbrev pub event_text : Event → List ℕ
+event_text (Applied object) = codes "applied " ++ object_text object
+event_text (Reserved pod plan) = reserved_text pod plan
+event_text (Wrote pod claim seen) = codes "wrote " ++ key_text pod ++ codes " " ++ key_text claim ++ codes " seen=" ++ decimal seen
+event_text (Bound pod node) = codes "bound " ++ key_text pod ++ codes " " ++ node
+event_text (Judged pod verdict) = verdict_text pod verdict
+
+-- `?` for a byte below 0x20 and for 0x7f
+abbrev pub clean : ℕ → ℕ
+clean b = if nat_lt b 32 || (b == 127) then 63 else b
+
+-- an entry's line: its place, its job, its kind and the rest, without control characters, and LF
+unfoldable pub line_of : ℕ → Entry → List ℕ
+line_of place e = map clean (decimal place ++ codes " " ++ decimal e.job ++ codes " " ++ event_text e.event) ++ codes "\n"
+
+-- the lines of entries that follow n others
+unfoldable pub lines_from : ℕ → List Entry → List ℕ
+lines_from n [] = []
+lines_from n (e ∷ es) = line_of (n + 1) e ++ lines_from (n + 1) es
+
+-- how many claims have a grant
+abbrev pub granted_count : State → ℕ
+granted_count s = count_by (λ e. is_some e.1.grant) s.claims
+
+abbrev pub is_bound : Phase → Bool
+is_bound phase.Idle = false
+is_bound (phase.Taken job node) = false
+is_bound (phase.Bound node) = true
+
+-- how many pods are bound
+abbrev pub bound_count : State → ℕ
+bound_count s = count_by (λ e. is_bound e.1.phase) s.pods
+
+-- the last line, after a history that so many commands made
+unfoldable pub summary_of : List Entry → ℕ → List ℕ
+summary_of history commands =
+    codes "summary entries=" ++ decimal (length history) ++ codes " commands=" ++ decimal commands
+    ++ codes " granted=" ++ decimal (granted_count (state_of history))
+    ++ codes " bound=" ++ decimal (bound_count (state_of history)) ++ codes "\n"
+
+-- the whole text of a history
+unfoldable pub text_of : List Entry → ℕ → List ℕ
+text_of history commands = lines_from 0 history ++ summary_of history commands

@@ -1,0 +1,61 @@
+ghost use Rattle.std.specs.Prelude.{◌≡◌, IfOk, string_bytes};
+ghost use Rattle.journal_text.specs.Journal.{event_text, object_text, reserved_text, verdict_text};
+
+use crate::worded::listed;
+use alloc_rules::{Object, Plan, Verdict};
+use ledger_core::Event;
+use object_fields::Key;
+use std::alloc::{AllocError, Global};
+
+/// An object's kind and name.
+fn object_text(alloc: Global, object: &Object) -> Result<String, AllocError>
+    ensures { IfOk result (λ s. string_bytes s ≡ object_text object.now) }
+{
+    match object {
+        Object::Node(node) => format!(in alloc; "Node {}", node.name),
+        Object::Slice(slice) => format!(in alloc; "ResourceSlice {}", slice.name),
+        Object::Class(class) => format!(in alloc; "DeviceClass {}", class.name),
+        Object::Claim(claim) => format!(in alloc; "ResourceClaim {}", claim.key),
+        Object::Pod(pod) => format!(in alloc; "Pod {}", pod.key),
+    }
+}
+
+fn reserved_text(alloc: Global, pod: &Key, plan: &Plan) -> Result<String, AllocError>
+    ensures { IfOk result (λ s. string_bytes s ≡ reserved_text pod.now plan.now) }
+{
+    let passed = listed(alloc, plan.passed.as_slice())?;
+    let grants = listed(alloc, plan.grants.as_slice())?;
+    let joins = listed(alloc, plan.joins.as_slice())?;
+    format!(in alloc;
+        "reserved {pod} {} at={} passed={passed} grants={grants} joins={joins}",
+        plan.node, plan.at
+    )
+}
+
+fn verdict_text(alloc: Global, pod: &Key, verdict: &Verdict) -> Result<String, AllocError>
+    ensures { IfOk result (λ s. string_bytes s ≡ verdict_text pod.now verdict.now) }
+{
+    let nodes = listed(alloc, verdict.nodes.as_slice())?;
+    format!(in alloc;
+        "verdict {pod} unsatisfiable at={} nodes={nodes}",
+        verdict.at
+    )
+}
+
+/// An event's kind and the rest of its line.
+pub fn event_text(alloc: Global, event: &Event) -> Result<String, AllocError>
+    ensures { IfOk result (λ s. string_bytes s ≡ event_text event.now) }
+{
+    match event {
+        Event::Applied(object) => {
+            let object = object_text(alloc, object)?;
+            format!(in alloc; "applied {object}")
+        }
+        Event::Reserved { pod, plan } => reserved_text(alloc, pod, plan),
+        Event::Wrote { pod, claim, seen } => {
+            format!(in alloc; "wrote {pod} {claim} seen={seen}")
+        }
+        Event::Bound { pod, node } => format!(in alloc; "bound {pod} {node}"),
+        Event::Judged { pod, verdict } => verdict_text(alloc, pod, verdict),
+    }
+}

@@ -1,0 +1,34 @@
+ghost use Rattle.std.specs.Prelude.{◌≡◌, IfOk, drop};
+ghost use Rattle.journal_text.specs.Journal.{line_of, lines_from};
+
+use crate::clean::cleaned;
+use crate::event::event_text;
+use ledger_core::{Entry, Ledger};
+use std::alloc::{AllocError, Global};
+
+/// The line of an entry at a place, from 1: the place, the job, the kind of the event and the
+/// rest, with one space between, ended by LF. Each byte below 0x20 and 0x7f before the LF stands as
+/// `?`. `AllocError` comes only where memory runs out. The format is this project's own.
+pub fn line(alloc: Global, place: u64, entry: &Entry) -> Result<Vec<u8>, AllocError>
+    ensures { IfOk result (λ v. v.items ≡ line_of place entry.now) }
+{
+    let event = event_text(alloc, &entry.event)?;
+    let text = format!(in alloc; "{place} {} {event}", entry.job)?;
+    let mut line = cleaned(alloc, text.as_bytes())?;
+    line.push(b'\n')?;
+    Ok(line)
+}
+
+/// The lines of all entries after the first `from`, in order; none where there are no more.
+/// `AllocError` comes only where memory runs out.
+pub fn lines(alloc: Global, ledger: &Ledger, from: u64) -> Result<Vec<u8>, AllocError>
+    ensures { IfOk result (λ v. v.items ≡ lines_from from (drop from ledger.now.entries)) }
+{
+    let entries = ledger.entries();
+    let mut out = Vec::new(alloc);
+    for place in from..ledger.len() {
+        let line = line(alloc, place + 1, &entries[place as usize])?;
+        out.extend_from_slice(&line)?;
+    }
+    Ok(out)
+}

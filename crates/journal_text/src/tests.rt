@@ -1,0 +1,237 @@
+use crate::{line, line_is_one_line, lines, lines_of_more, summary};
+use alloc_rules::{Cause, DeviceResult, Grant, Known, Object, Passed, Plan, Verdict};
+use api_claim::ResourceClaim;
+use api_cluster::{DeviceClass, Node, Pod};
+use api_slice::{Pool, ResourceSlice};
+use dra_values::{Seq, Text};
+use ledger_core::{Entry, Event, Ledger};
+use object_fields::{DeviceId, Key};
+use std::alloc::{AllocError, Global};
+use std::test::Fail;
+
+fn text(alloc: Global, chars: &str) -> Result<Text, AllocError> {
+    Text::from_str(alloc, chars)
+}
+
+fn key(alloc: Global, name: &str) -> Result<Key, AllocError> {
+    Ok(Key {
+        namespace: text(alloc, "default")?,
+        name: text(alloc, name)?,
+    })
+}
+
+fn passed(alloc: Global, node: &str) -> Result<Passed, AllocError> {
+    Ok(Passed {
+        node: text(alloc, node)?,
+        cause: Cause::Unsat,
+    })
+}
+
+fn picked(alloc: Global, device: &str, admin: bool) -> Result<DeviceResult, AllocError> {
+    Ok(DeviceResult {
+        name: text(alloc, "gpu")?,
+        device: DeviceId {
+            driver: text(alloc, "gpu.example.com")?,
+            pool: text(alloc, "n2")?,
+            device: text(alloc, device)?,
+        },
+        admin,
+    })
+}
+
+fn grant(alloc: Global, claim: &str, results: Vec<DeviceResult>) -> Result<Grant, AllocError> {
+    Ok(Grant {
+        claim: key(alloc, claim)?,
+        results: Seq::new(results),
+    })
+}
+
+fn plan(
+    alloc: Global,
+    passed: Vec<Passed>,
+    grants: Vec<Grant>,
+    joins: Vec<Key>,
+) -> Result<Plan, AllocError> {
+    Ok(Plan {
+        at: 6,
+        node: text(alloc, "n2")?,
+        passed: Seq::new(passed),
+        grants: Seq::new(grants),
+        joins: Seq::new(joins),
+        known: Known {
+            pod: 5,
+            claims: Seq::empty(alloc),
+        },
+    })
+}
+
+fn reserved(alloc: Global, plan: Plan) -> Result<Event, AllocError> {
+    Ok(Event::Reserved {
+        pod: key(alloc, "p")?,
+        plan,
+    })
+}
+
+fn judged(alloc: Global, nodes: Vec<Passed>) -> Result<Event, AllocError> {
+    Ok(Event::Judged {
+        pod: key(alloc, "q")?,
+        verdict: Verdict {
+            at: 11,
+            nodes: Seq::new(nodes),
+        },
+    })
+}
+
+fn slice(alloc: Global) -> Result<ResourceSlice, AllocError> {
+    Ok(ResourceSlice {
+        name: text(alloc, "s1")?,
+        driver: text(alloc, "gpu.example.com")?,
+        pool: Pool {
+            name: text(alloc, "n1")?,
+            generation: 1,
+            slices: 1,
+        },
+        node: text(alloc, "n1")?,
+        devices: Seq::empty(alloc),
+    })
+}
+
+fn node(alloc: Global, name: &str) -> Result<Object, AllocError> {
+    Ok(Object::Node(Node {
+        name: text(alloc, name)?,
+    }))
+}
+
+fn shown(alloc: Global, place: u64, job: u64, event: Event) -> Result<Vec<u8>, AllocError> {
+    line(alloc, place, &Entry { job, event })
+}
+
+#[test]
+fn objects_have_lines(rt: HostRuntime) -> Result<(), Fail> {
+    let alloc = rt.alloc();
+    let class = Object::Class(DeviceClass {
+        name: text(alloc, "gpu")?,
+    });
+    let claim = Object::Claim(ResourceClaim {
+        key: key(alloc, "c")?,
+        requests: Seq::empty(alloc),
+    });
+    let pod = Object::Pod(Pod {
+        key: Key {
+            namespace: text(alloc, "")?,
+            name: text(alloc, "p")?,
+        },
+        claims: Seq::empty(alloc),
+    });
+    let odd = node(alloc, "a\u{1}\nb\u{1f}\u{7f} c")?;
+    let objects = vec![in alloc;
+        node(alloc, "n1")?,
+        Object::Slice(slice(alloc)?),
+        class,
+        claim,
+        pod,
+        odd,
+    ]?;
+    let mut text = Vec::new(alloc);
+    let mut place = 0;
+    for object in objects {
+        place += 1;
+        let line = shown(alloc, place, place + 10, Event::Applied(object))?;
+        text.extend_from_slice(&line)?;
+    }
+    let want =
+        "1 11 applied Node n1\n2 12 applied ResourceSlice s1\n3 13 applied DeviceClass gpu\n4 14 applied ResourceClaim default/c\n5 15 applied Pod p\n6 16 applied Node a??b?? c\n";
+    assert_eq!(rt; text.as_slice(), want.as_bytes());
+    Ok(())
+}
+
+#[test]
+fn schedules_have_lines(rt: HostRuntime) -> Result<(), Fail> {
+    let alloc = rt.alloc();
+    line_is_one_line();
+    let one = vec![in alloc; grant(alloc, "c", vec![in alloc; picked(alloc, "gpu-0", false)?]?)?]?;
+    let two = vec![in alloc;
+        picked(alloc, "gpu-0", true)?,
+        picked(alloc, "gpu-1", false)?,
+    ]?;
+    let more = vec![in alloc;
+        grant(alloc, "c", two)?,
+        grant(alloc, "d", Vec::new(alloc))?,
+    ]?;
+    let first = plan(
+        alloc,
+        vec![in alloc; passed(alloc, "n1")?]?,
+        one,
+        Vec::new(alloc),
+    )?;
+    let second = plan(
+        alloc,
+        Vec::new(alloc),
+        Vec::new(alloc),
+        vec![in alloc; key(alloc, "e")?]?,
+    )?;
+    let third = plan(
+        alloc,
+        vec![in alloc; passed(alloc, "n0")?, passed(alloc, "n1")?]?,
+        more,
+        vec![in alloc; key(alloc, "e")?, key(alloc, "f")?]?,
+    )?;
+    let nodes = vec![in alloc; passed(alloc, "n1")?, passed(alloc, "n2")?]?;
+    let wrote = Event::Wrote {
+        pod: key(alloc, "p")?,
+        claim: key(alloc, "c")?,
+        seen: 4,
+    };
+    let bound = Event::Bound {
+        pod: key(alloc, "p")?,
+        node: text(alloc, "n2")?,
+    };
+    let lines = [
+        (
+            shown(alloc, 7, 7, reserved(alloc, first)?)?,
+            "7 7 reserved default/p n2 at=6 passed=n1:unsat grants=default/c:gpu@gpu.example.com/n2/gpu-0 joins=-\n",
+        ),
+        (
+            shown(alloc, 7, 8, reserved(alloc, second)?)?,
+            "7 8 reserved default/p n2 at=6 passed=- grants=- joins=default/e\n",
+        ),
+        (
+            shown(alloc, 9, 8, reserved(alloc, third)?)?,
+            "9 8 reserved default/p n2 at=6 passed=n0:unsat,n1:unsat grants=default/c:gpu@gpu.example.com/n2/gpu-0!+gpu@gpu.example.com/n2/gpu-1,default/d: joins=default/e,default/f\n",
+        ),
+        (
+            shown(alloc, 8, 7, wrote)?,
+            "8 7 wrote default/p default/c seen=4\n",
+        ),
+        (shown(alloc, 9, 7, bound)?, "9 7 bound default/p n2\n"),
+        (
+            shown(alloc, 12, 10, judged(alloc, nodes)?)?,
+            "12 10 verdict default/q unsatisfiable at=11 nodes=n1:unsat,n2:unsat\n",
+        ),
+        (
+            shown(
+                alloc,
+                18446744073709551615,
+                0,
+                judged(alloc, Vec::new(alloc))?,
+            )?,
+            "18446744073709551615 0 verdict default/q unsatisfiable at=11 nodes=-\n",
+        ),
+    ];
+    for (got, want) in &lines {
+        assert_eq!(rt; got.as_slice(), want.as_bytes(), "{want}");
+    }
+    Ok(())
+}
+
+#[test]
+fn an_empty_history_has_a_summary(rt: HostRuntime) -> Result<(), Fail> {
+    let alloc = rt.alloc();
+    lines_of_more();
+    let ledger = Ledger::new(alloc, 9)?;
+    assert_eq!(rt; lines(alloc, &ledger, 0)?.as_slice(), b"".as_slice());
+    assert_eq!(rt; lines(alloc, &ledger, 3)?.as_slice(), b"".as_slice());
+    let want = "summary entries=0 commands=2 granted=0 bound=0\n";
+    assert_eq!(rt; summary(alloc, &ledger, 2)?.as_slice(), want.as_bytes());
+    Ok(())
+}

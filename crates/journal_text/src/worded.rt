@@ -1,0 +1,110 @@
+ghost use Rattle.std.specs.Prelude.{◌≡◌, ◌++◌, OnOk, IfOk, List, ℕ, string_bytes, codes};
+ghost use Rattle.std.specs.List.{flat_map, join_by};
+ghost use Rattle.object_fields.specs.Keys.{key_text};
+ghost use Rattle.journal_text.specs.Journal.{admin_mark, cause_word, grant_text, listed, passed_text, result_text};
+
+use alloc_rules::{Cause, DeviceResult, Grant, Passed};
+use object_fields::Key;
+use std::alloc::{AllocError, Global};
+use std::fmt::Write;
+
+/// What stands in a list of a line.
+pub trait Worded {
+    ghost words: { Self → List ℕ };
+
+    /// Writes it at the end of a text. `AllocError` comes only where memory runs out.
+    fn push_to(&self, out: &mut String) -> Result<(), AllocError>
+        ensures { OnOk result (string_bytes out.new ≡ string_bytes out.old ++ words self.now) };
+}
+
+impl Worded for Key {
+    ghost words = { key_text };
+
+    fn push_to(&self, out: &mut String) -> Result<(), AllocError> {
+        write!(out, "{self}")
+    }
+}
+
+fn cause_word(cause: &Cause) -> &'static str
+    ensures { result.now ≡ cause_word cause.now }
+{
+    match cause {
+        Cause::Unsat => "unsat",
+    }
+}
+
+/// As `node:cause`.
+impl Worded for Passed {
+    ghost words = { passed_text };
+
+    fn push_to(&self, out: &mut String) -> Result<(), AllocError> {
+        write!(out, "{}:{}", self.node, cause_word(&self.cause))
+    }
+}
+
+fn admin_mark(admin: bool) -> &'static str
+    ensures { result.now ≡ admin_mark admin }
+{
+    if admin { "!" } else { "" }
+}
+
+/// As `name@driver/pool/device`, with `!` at the end for admin access.
+impl Worded for DeviceResult {
+    ghost words = { result_text };
+
+    fn push_to(&self, out: &mut String) -> Result<(), AllocError> {
+        write!(
+            out,
+            "{}@{}{}",
+            self.name,
+            self.device,
+            admin_mark(self.admin)
+        )
+    }
+}
+
+/// As the claim, `:` and its results, joined by `+`.
+impl Worded for Grant {
+    ghost words = { grant_text };
+
+    fn push_to(&self, out: &mut String) -> Result<(), AllocError> {
+        write!(out, "{}:", self.claim)?;
+        push_joined(out, "+", self.results.as_slice())
+    }
+}
+
+/// Writes each item after a separator.
+fn push_each<T: Worded>(out: &mut String, separator: &str, items: &[T]) -> Result<(), AllocError>
+    ensures { OnOk result (string_bytes out.new ≡ string_bytes out.old ++ flat_map (λ x. separator.now ++ T.words x) items.now) }
+{
+    for item in items {
+        out.push_str(separator)?;
+        item.push_to(out)?;
+    }
+    Ok(())
+}
+
+/// Writes the items with a separator between each two.
+fn push_joined<T: Worded>(out: &mut String, separator: &str, items: &[T]) -> Result<(), AllocError>
+    ensures { OnOk result (string_bytes out.new ≡ string_bytes out.old ++ join_by T.words separator.now items.now) }
+{
+    match items.split_first() {
+        None => Ok(()),
+        Some((first, rest)) => {
+            first.push_to(out)?;
+            push_each(out, separator, rest)
+        }
+    }
+}
+
+/// The items joined by `,`, and `-` where there are none.
+pub fn listed<T: Worded>(alloc: Global, items: &[T]) -> Result<String, AllocError>
+    ensures { IfOk result (λ s. string_bytes s ≡ listed T.words items.now) }
+{
+    if items.is_empty() {
+        return String::from_str(alloc, "-");
+    }
+    let mut out = String::new(alloc);
+    push_joined(&mut out, ",", items)?;
+    Ok(out)
+}

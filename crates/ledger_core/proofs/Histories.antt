@@ -1,0 +1,70 @@
+-- What one entry more does to a history.
+use Rattle.std.proofs.Common.{ℕ, ◌+◌, ◌≤◌, ◌<◌, List, [], ◌∷◌, ◌++◌, ◌≡◌, ◌∙◌, length, refl, ap, arith, take, append_assoc, subst, sym, append-nil, length-append}
+use Rattle.std.proofs.lemmas.List.{take_all}
+use Rattle.object_fields.specs.declared.key.Key.{Key}
+use Rattle.alloc_rules.specs.declared.state.State.{State}
+use Rattle.alloc_rules.specs.declared.plan.Plan.{Plan}
+use Rattle.alloc_rules.specs.declared.plan.Verdict.{Verdict}
+use Rattle.alloc_rules.specs.Plans.{PlanTrue, Holds, VerdictTrue}
+use Rattle.alloc_rules.specs.State.{empty_state}
+use Rattle.ledger_core.specs.declared.entry.Entry.{Entry}
+use Rattle.ledger_core.specs.Entry.{after}
+use Rattle.ledger_core.specs.History.{state_from, state_of, state_at, MayReserve, MayJudge, Step, LegalAfter, Legal}
+use Rattle.ledger_core.specs.Ledger.{IsKept}
+
+pub state_from-more : (s : State) (n : ℕ) (es : List Entry) (e : Entry) → state_from s n (es ++ e ∷ []) ≡ after (n + length es + 1) e.job e.event (state_from s n es)
+unfolding state_from
+state_from-more s n [] e = let eq : n + 1 ≡ n + 0 + 1 = omega arith in ap (λ (k : ℕ). after k e.job e.event s) eq
+state_from-more s n (d ∷ es) e =
+    let s' = after (n + 1) d.job d.event s in
+    let eq : n + 1 + length es + 1 ≡ n + length (d ∷ es) + 1 = omega arith in
+    state_from-more s' (n + 1) es e ∙ ap (λ (k : ℕ). after k e.job e.event (state_from s' (n + 1) es)) eq
+
+pub state_of-empty : state_of [] ≡ empty_state
+unfolding state_of state_from
+state_of-empty = refl
+
+-- the state after one entry more
+pub state_of-more : (es : List Entry) (e : Entry) → state_of (es ++ e ∷ []) ≡ after (length es + 1) e.job e.event (state_of es)
+unfolding state_of
+state_of-more es e =
+    let eq : 0 + length es + 1 ≡ length es + 1 = omega arith in
+    state_from-more empty_state 0 es e ∙ ap (λ (k : ℕ). after k e.job e.event (state_from empty_state 0 es)) eq
+
+pub LegalAfter-more : (before es : List Entry) (e : Entry) → LegalAfter before es → Step (before ++ es) e → LegalAfter before (es ++ e ∷ [])
+unfolding LegalAfter
+LegalAfter-more before [] e legal step = (subst (λ (xs : List Entry). Step xs e) (append-nil before) step, tt)
+LegalAfter-more before (d ∷ es) e legal step =
+    (legal.0, LegalAfter-more (before ++ d ∷ []) es e legal.1 (subst (λ (xs : List Entry). Step xs e) (sym (append_assoc before (d ∷ []) es)) step))
+
+pub Legal-empty : Legal []
+unfolding Legal LegalAfter
+Legal-empty = tt
+
+-- a legal history stays so with an entry that may follow it
+pub Legal-more : (es : List Entry) (e : Entry) → Legal es → Step es e → Legal (es ++ e ∷ [])
+unfolding Legal
+Legal-more es e legal step = LegalAfter-more [] es e legal step
+
+-- what a ledger keeps, it keeps with one entry more
+pub IsKept-more : (es : List Entry) (e : Entry) (s s' : State) (limit : ℕ) → IsKept es s limit → Step es e → length es < limit
+    → s' ≡ after (length es + 1) e.job e.event s → IsKept (es ++ e ∷ []) s' limit
+IsKept-more es e s s' limit kept step room is = record {
+  legal = Legal-more es e kept.legal step;
+  state_is = is ∙ ap (λ (t : State). after (length es + 1) e.job e.event t) kept.state_is ∙ sym (state_of-more es e);
+  within = omega (arith, length-append es (e ∷ []));
+  small = kept.small;
+}
+
+-- the state at the end of a history is the one after it
+pub state_at-end : (h : List Entry) (at : ℕ) → at ≡ length h → state_of h ≡ state_at h at
+state_at-end h at e = ap state_of (sym (take_all at h (omega arith)))
+
+-- a verdict that is true now may stand now
+pub judged_now : (h : List Entry) (pod : Key) (verdict : Verdict) → verdict.at ≡ length h → VerdictTrue (state_of h) pod verdict → MayJudge h pod verdict
+judged_now h pod verdict e t = record { at = omega arith; true_then = subst (λ (s : State). VerdictTrue s pod verdict) (state_at-end h verdict.at e) t }
+
+-- a plan that is true now, and against which nothing stands, may stand now
+pub reserved_now : (h : List Entry) (pod : Key) (plan : Plan) → plan.at ≡ length h → PlanTrue (state_of h) pod plan → Holds (state_of h) pod plan → MayReserve h pod plan
+reserved_now h pod plan e t holds =
+    record { at = omega arith; true_then = subst (λ (s : State). PlanTrue s pod plan) (state_at-end h plan.at e) t; holds_now = holds }

@@ -1,0 +1,3 @@
+pub mod Histories
+pub mod Stands
+pub mod GoingOn

@@ -1,0 +1,12 @@
+use Rattle.ledger_core.proofs.Histories.{state_of-more}
+use Rattle.ledger_core.proofs.Stands.{stand_of-more, stand_of-empty}
+use Rattle.ledger_core.proofs.laws.histories_grow.Goals as goal
+
+pub returns-clause-state : goal.returns-clause-state
+returns-clause-state c = state_of-more
+
+pub returns-clause-stand : goal.returns-clause-stand
+returns-clause-stand c = stand_of-more
+
+pub returns-clause-start : goal.returns-clause-start
+returns-clause-start c = stand_of-empty

@@ -1,0 +1,24 @@
+ghost use Rattle.std.specs.Prelude.{◌≡◌, ◌+◌, ◌==◌, ◌++◌, ◌∷◌, [], ℕ, List, length, if◌then◌else◌};
+ghost use Rattle.object_fields.specs.declared.key.Key.{Key};
+ghost use Rattle.alloc_rules.specs.declared.state.State.{State};
+ghost use Rattle.alloc_rules.specs.declared.plan.Plan.{Plan};
+ghost use Rattle.alloc_rules.specs.Plans.{PlanTrue};
+ghost use Rattle.alloc_rules.specs.State.{empty_state, with_reserved};
+ghost use Rattle.ledger_core.specs.declared.entry.Entry.{Entry};
+ghost use Rattle.ledger_core.specs.declared.entry.Stand.{Stand};
+ghost use Rattle.ledger_core.specs.Entry.{after, claims_of, stand_after, GoesOn};
+ghost use Rattle.ledger_core.specs.History.{state_of, stand_of};
+
+/// What one entry more does to the state after a history, and to the stand of each job.
+pub fn histories_grow()
+    ensures state { (h : List Entry) (e : Entry) → state_of (h ++ e ∷ []) ≡ after (length h + 1) e.job e.event (state_of h) }
+    ensures stand { (h : List Entry) (e : Entry) (job : ℕ) → stand_of (h ++ e ∷ []) job ≡ (if e.job == job then stand_after (length h + 1) e.event else stand_of h job) }
+    ensures start { (job : ℕ) → stand_of [] job ≡ Stand.Fresh }
+{}
+
+/// A job that has reserved by a true plan may write each of the pod's uses, and then bind the pod to
+/// the plan's node.
+pub fn reserved_goes_on()
+    ensures { (s : State) (pod : Key) (plan : Plan) (job : ℕ) (t : PlanTrue s pod plan) →
+        GoesOn (with_reserved job pod plan s) pod job plan.node (claims_of t.state) }
+{}

@@ -1,0 +1,323 @@
+ghost use Rattle.std.specs.Prelude.{◌≡◌, ◌≤◌, ◌<◌, ◌^◌, ◌+◌, ◌-◌, [], length, ℕ, List, true, IfOk, OnOk, OnErr, IsErrOf, vec_len, option_copied, if◌then◌else◌, ◌==◌};
+ghost use Rattle.std.specs.Vec.{vec_capacity};
+ghost use Rattle.alloc_rules.specs.State.{with_object, with_reserved};
+ghost use Rattle.alloc_rules.specs.Plans.{PlanTrue, VerdictTrue};
+ghost use Rattle.ledger_core.specs.declared.entry.Event.TheVariants.{Applied, Reserved, Wrote, Bound, Judged};
+ghost use Rattle.ledger_core.specs.Entry.{allows, stand_after, taken_node, version_of, MayWrite, MayBind};
+ghost use Rattle.ledger_core.specs.Ledger.{appended};
+ghost use Rattle.ledger_core.specs.History.{entry_at, state_of, stand_of, Legal, MayCreate};
+
+use crate::room::make_room;
+use crate::{Entry, Event, LedgerError, Stand};
+use alloc_rules::{Object, Phase, Plan, State, Verdict, grants_at_most_one, plan_holds};
+use dra_values::Text;
+use object_fields::Key;
+use std::alloc::{AllocError, Global};
+use std::marker::Model;
+
+/// The place of an entry that was appended, from 1.
+#[derive(Clone, Copy, Debug, PartialEq, Eq, Drop)]
+pub struct Done {
+    pub place: u64,
+}
+
+/// A legal history, and the state after it.
+#[derive(Drop)]
+pub struct Ledger {
+    entries: Vec<Entry>,
+    state: State,
+    limit: u64,
+}
+
+impl Model for Ledger {
+    ghost use Rattle.ledger_core.specs.Ledger.{History, IsKept};
+
+    ghost Value = { History };
+
+    ghost view = { λ l. record { entries = l.entries.items; limit = l.limit } };
+
+    ghost invariant = { λ l. IsKept l.entries.items l.state l.limit };
+}
+
+impl Ledger {
+    /// The empty ledger, which may have so many entries.
+    pub fn new(alloc: Global, limit: u64) -> Result<Ledger, AllocError>
+        requires { limit < 2 ^ 48 }
+        ensures { IfOk result (λ ledger. ledger ≡ record { entries = []; limit = limit }) }
+    {
+        Ok(Ledger {
+            entries: Vec::new(alloc),
+            state: State::new(alloc),
+            limit,
+        })
+    }
+
+    /// How many entries there are.
+    pub fn len(&self) -> u64
+        ensures length { result ≡ length self.now.entries }
+        ensures within { result ≤ self.now.limit }
+        ensures legal { Legal self.now.entries }
+    {
+        self.entries.len() as u64
+    }
+
+    /// All entries in order.
+    pub fn entries(&self) -> &[Entry]
+        ensures { result.now ≡ self.now.entries }
+    {
+        &self.entries
+    }
+
+    /// The state after all entries.
+    pub fn state(&self) -> &State
+        ensures { result.now ≡ state_of self.now.entries }
+    {
+        &self.state
+    }
+
+    /// The entry at a place, from 1.
+    pub fn entry(&self, place: u64) -> Option<&Entry>
+        ensures { option_copied result ≡ entry_at self.now.entries place }
+    {
+        if place == 0 {
+            return None;
+        }
+        self.entries.get((place - 1) as usize)
+    }
+
+    /// What the job's entries leave.
+    pub fn stand(&self, job: u64) -> Stand
+        ensures { result ≡ stand_of self.now.entries job }
+    {
+        stand_in(&self.entries, job)
+    }
+
+    /// Creates an object.
+    pub fn apply(&mut self, alloc: Global, job: u64, object: Object) -> Result<Done, LedgerError>
+        requires stand { allows (stand_of self.old.entries job) (Applied object) ≡ true }
+        requires created { MayCreate (state_of self.old.entries) object }
+        ensures ok { OnOk result (self.new ≡ appended self.old job (Applied object)) }
+        ensures place { IfOk result (λ done. done.place ≡ length self.new.entries) }
+        ensures legal { Legal self.new.entries }
+        ensures full { (n : ℕ) → IsErrOf result (LedgerError.Full n) → (length self.old.entries ≡ n) × (self.old.limit ≤ n) }
+        ensures err { OnErr result (self.new ≡ self.old) }
+    {
+        let place = create(
+            alloc,
+            &mut self.entries,
+            &mut self.state,
+            self.limit,
+            &object,
+        )?;
+        self.entries.push_reserved(Entry {
+            job,
+            event: Event::Applied(object),
+        });
+        Ok(Done { place })
+    }
+
+    /// Takes the pod for the job, and makes the plan's grants.
+    pub fn reserve(
+        &mut self,
+        alloc: Global,
+        job: u64,
+        pod: &Key,
+        plan: &Plan,
+    ) -> Result<Done, LedgerError>
+        requires stand { allows (stand_of self.old.entries job) (Reserved pod.now plan.now) ≡ true }
+        requires plan { PlanTrue (state_of self.old.entries) pod.now plan.now }
+        requires at { plan.now.at ≡ length self.old.entries }
+        ensures ok { OnOk result (self.new ≡ appended self.old job (Reserved pod.now plan.now)) }
+        ensures place { IfOk result (λ done. done.place ≡ length self.new.entries) }
+        ensures legal { Legal self.new.entries }
+        ensures full { (n : ℕ) → IsErrOf result (LedgerError.Full n) → (length self.old.entries ≡ n) × (self.old.limit ≤ n) }
+        ensures err { OnErr result (self.new ≡ self.old) }
+    {
+        plan_holds();
+        grants_at_most_one();
+        let place = make_room(&mut self.entries, self.limit)?;
+        let (pod, plan) = grant(alloc, &mut self.state, job, pod, plan)?;
+        self.entries.push_reserved(Entry {
+            job,
+            event: Event::Reserved { pod, plan },
+        });
+        Ok(Done { place })
+    }
+
+    /// Writes the pod's use of its next claim.
+    pub fn write_status(
+        &mut self,
+        alloc: Global,
+        job: u64,
+        pod: &Key,
+        claim: &Key,
+    ) -> Result<Done, LedgerError>
+        requires stand { stand_of self.old.entries job ≡ Stand.Reserved }
+        requires step { MayWrite (state_of self.old.entries) pod.now job claim.now (version_of (state_of self.old.entries) claim.now) }
+        ensures ok { OnOk result (self.new ≡ appended self.old job (Wrote pod.now claim.now (version_of (state_of self.old.entries) claim.now))) }
+        ensures place { IfOk result (λ done. done.place ≡ length self.new.entries) }
+        ensures legal { Legal self.new.entries }
+        ensures full { (n : ℕ) → IsErrOf result (LedgerError.Full n) → (length self.old.entries ≡ n) × (self.old.limit ≤ n) }
+        ensures err { OnErr result (self.new ≡ self.old) }
+    {
+        let place = make_room(&mut self.entries, self.limit)?;
+        let kept_pod = pod.copy(alloc)?;
+        let kept_claim = claim.copy(alloc)?;
+        let seen = version(&self.state, claim);
+        self.state.write(place, pod, claim);
+        self.entries.push_reserved(Entry {
+            job,
+            event: Event::Wrote {
+                pod: kept_pod,
+                claim: kept_claim,
+                seen,
+            },
+        });
+        Ok(Done { place })
+    }
+
+    /// Binds the pod to the node that the job took it for, once each of its uses is written.
+    pub fn bind(&mut self, alloc: Global, job: u64, pod: &Key) -> Result<Done, LedgerError>
+        requires stand { stand_of self.old.entries job ≡ Stand.Reserved }
+        requires step { MayBind (state_of self.old.entries) pod.now job (taken_node (state_of self.old.entries) pod.now) }
+        ensures ok { OnOk result (self.new ≡ appended self.old job (Bound pod.now (taken_node (state_of self.old.entries) pod.now))) }
+        ensures place { IfOk result (λ done. done.place ≡ length self.new.entries) }
+        ensures legal { Legal self.new.entries }
+        ensures full { (n : ℕ) → IsErrOf result (LedgerError.Full n) → (length self.old.entries ≡ n) × (self.old.limit ≤ n) }
+        ensures err { OnErr result (self.new ≡ self.old) }
+    {
+        let place = make_room(&mut self.entries, self.limit)?;
+        let kept_pod = pod.copy(alloc)?;
+        let node = node_of(alloc, &self.state, pod)?;
+        let kept_node = node.copy(alloc)?;
+        self.state.bind(pod, node);
+        self.entries.push_reserved(Entry {
+            job,
+            event: Event::Bound {
+                pod: kept_pod,
+                node: kept_node,
+            },
+        });
+        Ok(Done { place })
+    }
+
+    /// Says that a pod can't be scheduled.
+    pub fn record_verdict(
+        &mut self,
+        alloc: Global,
+        job: u64,
+        pod: &Key,
+        verdict: Verdict,
+    ) -> Result<Done, LedgerError>
+        requires stand { allows (stand_of self.old.entries job) (Judged pod.now verdict) ≡ true }
+        requires verdict { VerdictTrue (state_of self.old.entries) pod.now verdict }
+        requires at { verdict.at ≡ length self.old.entries }
+        ensures ok { OnOk result (self.new ≡ appended self.old job (Judged pod.now verdict)) }
+        ensures place { IfOk result (λ done. done.place ≡ length self.new.entries) }
+        ensures legal { Legal self.new.entries }
+        ensures full { (n : ℕ) → IsErrOf result (LedgerError.Full n) → (length self.old.entries ≡ n) × (self.old.limit ≤ n) }
+        ensures err { OnErr result (self.new ≡ self.old) }
+    {
+        let place = make_room(&mut self.entries, self.limit)?;
+        let pod = pod.copy(alloc)?;
+        self.entries.push_reserved(Entry {
+            job,
+            event: Event::Judged { pod, verdict },
+        });
+        Ok(Done { place })
+    }
+}
+
+/// Takes all memory for an entry, and creates its object.
+fn create(
+    alloc: Global,
+    entries: &mut Vec<Entry>,
+    state: &mut State,
+    limit: u64,
+    object: &Object,
+) -> Result<u64, LedgerError>
+    requires { limit < 2 ^ 48 }
+    ensures entries { entries.new.items ≡ entries.old.items }
+    ensures room { OnOk result (vec_len entries.new < vec_capacity entries.new) }
+    ensures within { OnOk result (length entries.old.items < limit) }
+    ensures place { IfOk result (λ place. place ≡ length entries.old.items + 1) }
+    ensures ok { OnOk result (state.new ≡ with_object (length entries.old.items + 1) object.now state.old) }
+    ensures full { (n : ℕ) → IsErrOf result (LedgerError.Full n) → (length entries.old.items ≡ n) × (limit ≤ n) }
+    ensures err { OnErr result (state.new ≡ state.old) }
+{
+    let place = make_room(entries, limit)?;
+    state.put(alloc, place, object)?;
+    Ok(place)
+}
+
+/// Makes the plan's grants, and answers the pod's key and the plan again.
+fn grant(
+    alloc: Global,
+    state: &mut State,
+    job: u64,
+    pod: &Key,
+    plan: &Plan,
+) -> Result<(Key, Plan), AllocError>
+    requires { length plan.now.grants ≤ 1 }
+    ensures kept { IfOk result (λ kept. (kept.0 ≡ pod.now) × (kept.1 ≡ plan.now)) }
+    ensures ok { OnOk result (state.new ≡ with_reserved job pod.now plan.now state.old) }
+    ensures err { OnErr result (state.new ≡ state.old) }
+{
+    let kept_pod = pod.copy(alloc)?;
+    let kept_plan = plan.copy(alloc)?;
+    state.reserve(alloc, job, pod, plan)?;
+    Ok((kept_pod, kept_plan))
+}
+
+/// The version of a claim that is there.
+fn version(state: &State, claim: &Key) -> u64
+    ensures { result ≡ version_of state.now claim.now }
+{
+    match state.claims.get(claim) {
+        None => 0,
+        Some(claim) => claim.claim.version,
+    }
+}
+
+/// The node that a pod is taken for.
+fn node_of(alloc: Global, state: &State, pod: &Key) -> Result<Text, AllocError>
+    ensures { IfOk result (λ node. node ≡ taken_node state.now pod.now) }
+{
+    match state.pods.get(pod) {
+        None => Text::from_str(alloc, ""),
+        Some(pod) => match &pod.phase {
+            Phase::Taken { node, .. } => node.copy(alloc),
+            Phase::Idle | Phase::Bound(_) => Text::from_str(alloc, ""),
+        },
+    }
+}
+
+fn stand_after(place: u64, event: &Event) -> Stand
+    ensures { result ≡ stand_after place event.now }
+{
+    match event {
+        Event::Applied(_) | Event::Bound { .. } | Event::Judged { .. } => Stand::Ended(place),
+        Event::Reserved { .. } | Event::Wrote { .. } => Stand::Reserved,
+    }
+}
+
+/// The stand after one entry more.
+fn next_stand(stand: Stand, entry: &Entry, job: u64, place: u64) -> Stand
+    ensures { result ≡ (if entry.now.job == job then stand_after place entry.now.event else stand) }
+{
+    if entry.job == job {
+        stand_after(place, &entry.event)
+    } else {
+        stand
+    }
+}
+
+fn stand_in(entries: &[Entry], job: u64) -> Stand
+    ensures { result ≡ stand_of entries.now job }
+{
+    let mut stand = Stand::Fresh;
+    for i in 0..entries.len() {
+        stand = next_stand(stand, &entries[i], job, i as u64 + 1);
+    }
+    stand
+}

@@ -1,0 +1,13 @@
+//! The history of a cluster, which stays legal, and the state after it.
+#![tactic(auto)]
+
+mod entry;
+mod error;
+mod laws;
+mod ledger;
+mod room;
+
+pub use entry::{Entry, Event, Stand};
+pub use error::LedgerError;
+pub use laws::{histories_grow, reserved_goes_on};
+pub use ledger::{Done, Ledger};

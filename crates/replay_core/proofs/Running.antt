@@ -1,0 +1,113 @@
+-- One command more.
+use Rattle.std.proofs.Common.{ℕ, ◌+◌, ◌≤◌, ◌<◌, ◌≡◌, ◌∙◌, List, [], ◌∷◌, ◌++◌, Bool, true, false, cond, eqb, map, length, refl, sym, ap, subst, arith, append_assoc, append-nil, length-append}
+use Rattle.std.proofs.lemmas.Bool.{ne_eqb}
+use Rattle.std.specs.Prelude.{Option, None, Some, drop}
+use Rattle.std.specs.Io.KnownBytes.{Appends}
+use Rattle.ledger_core.specs.declared.entry.Entry.{Entry}
+use Rattle.ledger_core.specs.declared.entry.Stand.{Stand}
+use Rattle.ledger_core.specs.declared.entry.Stand.TheVariants.{Fresh}
+use Rattle.ledger_core.specs.Entry.{stand_after}
+use Rattle.ledger_core.specs.Ledger.{History}
+use Rattle.ledger_core.specs.History.{Legal, stand_of}
+use Rattle.journal_text.specs.Journal.{lines_from}
+use Rattle.commands.specs.declared.command.Command.{Command}
+use Rattle.replay_core.specs.declared.work.Work.{Work}
+use Rattle.replay_core.specs.Script.{commands_of}
+use Rattle.replay_core.specs.Jobs.{AllMade, IsMade, JobRun, RunFrom, RunOf}
+use Rattle.replay_core.specs.Doing.{Ran}
+use Rattle.replay_core.specs.Lines.{Did, RanNext, new_lines, search_budget, schedule_attempts}
+use Rattle.replay_core.specs.Replay.{IsRun}
+use Rattle.replay_core.specs.Progress.{Standing}
+use Rattle.replay_core.proofs.Known.{appends_more}
+
+-- the laws of histories and of lines, which the calls of lower crates state
+abbrev pub StandLaw : Type 0
+StandLaw = (h : List Entry) (e : Entry) (job : ℕ) → stand_of (h ++ e ∷ []) job ≡ cond (eqb e.job job) (stand_after (length h + 1) e.event) (stand_of h job)
+
+abbrev pub LinesLaw : Type 0
+LinesLaw = (n : ℕ) (xs ys : List Entry) → lines_from n (xs ++ ys) ≡ lines_from n xs ++ lines_from (n + length xs) ys
+
+RunFrom-more : (b a n : ℕ) (before : List Entry) (cs : List Command) (mid : List Entry) (c : Command) (seg : List Entry)
+    → RunFrom b a n before cs mid → JobRun (n + length cs + 1) c b a mid seg → RunFrom b a n before (cs ++ c ∷ []) (mid ++ seg)
+unfolding RunFrom
+RunFrom-more b a n before [] mid c seg is run =
+    let eq : n + 0 + 1 ≡ n + 1 = omega arith in
+    (seg, subst (λ (h : List Entry). JobRun (n + 1) c b a h seg) is (subst (λ (k : ℕ). JobRun k c b a mid seg) eq run), ap (λ (h : List Entry). h ++ seg) is)
+RunFrom-more b a n before (d ∷ ds) mid c seg r run =
+    let eq : n + length (d ∷ ds) + 1 ≡ n + 1 + length ds + 1 = omega arith in
+    (r.0, r.1, RunFrom-more b a (n + 1) (before ++ r.0) ds mid c seg r.2 (subst (λ (k : ℕ). JobRun k c b a mid seg) eq run))
+
+commands_len : (done : List (ℕ × Command)) → length (commands_of done) ≡ length done
+commands_len [] = refl
+commands_len (d ∷ ds) = omega (arith, commands_len ds)
+
+commands_more : (done : List (ℕ × Command)) (at : ℕ) (c : Command) → commands_of (done ++ (at, c) ∷ []) ≡ commands_of done ++ c ∷ []
+commands_more [] at c = refl
+commands_more (d ∷ ds) at c = ap (λ (l : List Command). d.1 ∷ l) (commands_more ds at c)
+
+-- the run of one command more
+pub RunOf-more : (b a : ℕ) (done : List (ℕ × Command)) (mid : List Entry) (at : ℕ) (c : Command) (seg : List Entry) (n : ℕ) → n ≡ length done
+    → RunOf b a (commands_of done) mid → JobRun (n + 1) c b a mid seg → RunOf b a (commands_of (done ++ (at, c) ∷ [])) (mid ++ seg)
+unfolding RunOf
+RunOf-more b a done mid at c seg n is run job =
+    let eq : n + 1 ≡ 0 + length (commands_of done) + 1 = omega (arith, commands_len done) in
+    subst (λ (cs : List Command). RunFrom b a 0 [] cs (mid ++ seg)) (sym (commands_more done at c))
+    (RunFrom-more b a 0 [] (commands_of done) mid c seg run (subst (λ (k : ℕ). JobRun k c b a mid seg) eq job))
+
+-- a job's entries leave other jobs as they stood
+pub own_only : StandLaw → (job : ℕ) (c : Command) (begun b : ℕ) (before seg : List Entry) (other : ℕ) → AllMade job c begun b before seg → (job ≡ other → ⊥) → stand_of (before ++ seg) other ≡ stand_of before other
+unfolding AllMade
+own_only law job c begun b before [] other made apart = ap (λ (h : List Entry). stand_of h other) (append-nil before)
+own_only law job c begun b before (e ∷ es) other made apart =
+    let differs : eqb e.job other ≡ false = ne_eqb e.job other (λ same. apart (sym made.0.own ∙ same)) in
+    ap (λ (h : List Entry). stand_of h other) (sym (append_assoc before (e ∷ []) es))
+    ∙ own_only law job c begun b (before ++ e ∷ []) es other made.1 apart
+    ∙ law before e other
+    ∙ ap (λ (t : Bool). cond t (stand_after (length before + 1) e.event) (stand_of before other)) differs
+
+drop_front : (xs ys : List Entry) → drop (length xs) (xs ++ ys) ≡ ys
+drop_front [] ys = refl
+drop_front (x ∷ xs) ys = drop_front xs ys
+
+-- the lines of a history that grew
+pub lines_more : LinesLaw → (old new : History) (seg : List Entry) → new ≡ record old { entries = old.entries ++ seg }
+    → lines_from 0 new.entries ≡ lines_from 0 old.entries ++ new_lines old new
+lines_more law old new seg is =
+    let grown : new.entries ≡ old.entries ++ seg = ap (λ (h : History). h.entries) is in
+    let rest : drop (length old.entries) new.entries ≡ seg = ap (drop (length old.entries)) grown ∙ drop_front old.entries seg in
+    let zero : 0 + length old.entries ≡ length old.entries = omega arith in
+    ap (lines_from 0) grown ∙ law 0 old.entries seg
+    ∙ ap (λ (k : ℕ). lines_from 0 old.entries ++ lines_from k seg) zero
+    ∙ ap (λ (l : List Entry). lines_from 0 old.entries ++ lines_from (length old.entries) l) (sym rest)
+
+-- the history of one command more
+pub run_more : (done : List (ℕ × Command)) (at : ℕ) (c : Command) (old new : Work) → IsRun done old.ledger.entries → old.commands ≡ length done → Legal new.ledger.entries → RanNext c old new
+    → IsRun (done ++ (at, c) ∷ []) new.ledger.entries
+run_more done at c old new run count legal ran =
+    let grown : new.ledger.entries ≡ old.ledger.entries ++ ran.segment = ap (λ (h : History). h.entries) ran.is in
+    record {
+      legal = legal;
+      run = subst (λ (h : List Entry). RunOf search_budget schedule_attempts (commands_of (done ++ (at, c) ∷ [])) h) (sym grown)
+        (RunOf-more search_budget schedule_attempts done old.ledger.entries at c ran.segment old.commands count run.run ran.run);
+    }
+
+-- one command more was done
+pub standing_more : StandLaw → LinesLaw → (limit : ℕ) (before now next : Option (List ℕ)) (done : List (ℕ × Command)) (at : ℕ) (c : Command) (old new : Work)
+    → Standing limit before now done old → Did c old new now next → Legal new.ledger.entries → Standing limit before next (done ++ (at, c) ∷ []) new
+standing_more stands lines limit before now next done at c old new s did legal =
+    let ran = did.ran in
+    let grown : new.ledger.entries ≡ old.ledger.entries ++ ran.segment = ap (λ (h : History). h.entries) ran.is in
+    let same : new.ledger.limit ≡ old.ledger.limit = ap (λ (h : History). h.limit) ran.is in
+    record {
+      run = run_more done at c old new s.run s.count_is legal ran;
+      count_is = omega (arith, did.counted, s.count_is, length-append done ((at, c) ∷ []));
+      fresh = λ job above.
+        let past : old.commands < job = omega (arith, did.counted) in
+        let apart : old.commands + 1 ≡ job → ⊥ = λ e. omega (arith, did.counted) in
+        ap (λ (h : List Entry). stand_of h job) grown
+        ∙ own_only stands (old.commands + 1) c (length old.ledger.entries) search_budget old.ledger.entries ran.segment job ran.run.made apart
+        ∙ s.fresh job past;
+      printed = subst (λ (t : List ℕ). Appends before next t) (sym (lines_more lines old.ledger new.ledger ran.segment ran.is))
+        (appends_more before now next (lines_from 0 old.ledger.entries) (new_lines old.ledger new.ledger) s.printed did.printed);
+      limit_is = same ∙ s.limit_is;
+    }

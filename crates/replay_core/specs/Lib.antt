@@ -1,0 +1,9 @@
+pub mod Script
+pub mod Jobs
+pub mod Built
+pub mod Claims
+pub mod Doing
+pub mod Stops
+pub mod Lines
+pub mod Replay
+pub mod Progress

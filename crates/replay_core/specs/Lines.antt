@@ -1,0 +1,152 @@
+-- What doing one line's document does.
+use Rattle.std.specs.Prelude.{ℕ, ◌≡◌, ◌≤◌, ◌<◌, ◌+◌, ◌⊎◌, List, [], ◌∷◌, Option, None, Some, false, drop, length}
+use Rattle.std.specs.Io.KnownBytes.{Appends}
+use Rattle.dra_ports.specs.Fronts.{AppendsFront}
+use Rattle.dra_ports.specs.declared.error.PortError.{PortError}
+use Rattle.dra_ports.specs.declared.error.PortError.TheVariants as port
+use Rattle.ledger_core.specs.declared.entry.Entry.{Entry}
+use Rattle.ledger_core.specs.Ledger.{History}
+use Rattle.ledger_core.specs.History.{state_of}
+use Rattle.journal_text.specs.Journal.{lines_from, summary_of}
+use Rattle.commands.specs.declared.command.Command.{Command}
+use Rattle.commands.specs.Commands.{command_of}
+use Rattle.replay_core.specs.declared.status.Status.{Status}
+use Rattle.replay_core.specs.declared.status.Status.TheVariants as status
+use Rattle.replay_core.specs.declared.work.Work.{Work}
+use Rattle.replay_core.specs.Built.{is_built}
+use Rattle.replay_core.specs.Doing.{Ran, Met}
+
+-- the search budget, and the attempts to schedule a pod
+abbrev pub search_budget : ℕ
+search_budget = 100000
+
+abbrev pub schedule_attempts : ℕ
+schedule_attempts = 32
+
+-- the status for a fault of the output
+abbrev pub output_status : PortError → Status
+output_status port.Failed = status.Write
+output_status port.Memory = status.Memory
+
+-- the status for a fault of the input
+abbrev pub input_status : PortError → Status
+input_status port.Failed = status.Read
+input_status port.Memory = status.Memory
+
+-- the lines of the entries that are new
+abbrev pub new_lines : History → History → List ℕ
+new_lines old new = lines_from (length old.entries) (drop (length old.entries) new.entries)
+
+-- the command was done as the next job
+abbrev pub RanNext : Command → Work → Work → Type 0
+RanNext c old new = Ran (old.commands + 1) c search_budget schedule_attempts old.ledger new.ledger
+
+-- the command met the limit
+abbrev pub MetNext : Command → Work → Work → ℕ → Type 0
+MetNext c old new n = Met (old.commands + 1) c search_budget schedule_attempts old.ledger new.ledger n
+
+-- the command was done, and its lines are printed
+pub record Did (c : Command) (old new : Work) (before after : Option (List ℕ)) : Type 0 where
+  pub ran : RanNext c old new
+  pub counted : new.commands ≡ old.commands + 1
+  pub printed : Appends before after (new_lines old.ledger new.ledger)
+
+-- the command isn't done, for its form isn't
+pub record Undone (c : Command) (old : Work) (before after : Option (List ℕ)) : Type 0 where
+  pub unbuilt : is_built (state_of old.ledger.entries) c ≡ false
+  pub printed : Appends before after []
+
+-- the command met the limit, and its lines are printed
+pub record MetPrinted (c : Command) (old new : Work) (before after : Option (List ℕ)) (n : ℕ) : Type 0 where
+  pub met : MetNext c old new n
+  pub printed : Appends before after (new_lines old.ledger new.ledger)
+
+-- a front of the command's lines is printed
+pub record RanShort (c : Command) (old new : Work) (before after : Option (List ℕ)) : Type 0 where
+  pub ran : RanNext c old new
+  pub printed : AppendsFront before after (new_lines old.ledger new.ledger)
+
+pub record MetShort (c : Command) (old new : Work) (before after : Option (List ℕ)) : Type 0 where
+  pub count : ℕ
+  pub met : MetNext c old new count
+  pub printed : AppendsFront before after (new_lines old.ledger new.ledger)
+
+abbrev pub PrintedShort : Command → Work → Work → Option (List ℕ) → Option (List ℕ) → Type 0
+PrintedShort c old new before after = RanShort c old new before after ⊎ MetShort c old new before after
+
+-- why a command that stands at an offset wasn't done
+abbrev pub Stops : ℕ → Command → Work → Work → Option (List ℕ) → Option (List ℕ) → Status → Type 0
+Stops at c old new before after status.Done = ⊥
+Stops at c old new before after status.Usage = ⊥
+Stops at c old new before after (status.Document place) = ⊥
+Stops at c old new before after status.Memory = Appends before after [] ⊎ PrintedShort c old new before after
+Stops at c old new before after status.Read = ⊥
+Stops at c old new before after status.Write = PrintedShort c old new before after
+Stops at c old new before after (status.Limit n) = MetPrinted c old new before after n
+Stops at c old new before after (status.NotYet place) = (place ≡ at) × Undone c old before after
+
+-- a document's command was done
+abbrev pub DocumentDid : List ℕ → Work → Work → Option (List ℕ) → Option (List ℕ) → Type 0
+DocumentDid document old new before after = (c : Command) × (command_of document ≡ Some c) × Did c old new before after
+
+-- the document isn't a command
+pub record IsRefused (at place : ℕ) (document : List ℕ) (before after : Option (List ℕ)) : Type 0 where
+  pub place_is : place ≡ at
+  pub refused : command_of document ≡ None
+  pub printed : Appends before after []
+
+-- why a document wasn't done
+abbrev pub DocumentStops : ℕ → List ℕ → Work → Work → Option (List ℕ) → Option (List ℕ) → Status → Type 0
+DocumentStops at document old new before after status.Done = ⊥
+DocumentStops at document old new before after status.Usage = ⊥
+DocumentStops at document old new before after (status.Document place) = IsRefused at place document before after
+DocumentStops at document old new before after status.Memory =
+    Appends before after [] ⊎ ((c : Command) × (command_of document ≡ Some c) × PrintedShort c old new before after)
+DocumentStops at document old new before after status.Read = ⊥
+DocumentStops at document old new before after status.Write = (c : Command) × (command_of document ≡ Some c) × PrintedShort c old new before after
+DocumentStops at document old new before after (status.Limit n) = (c : Command) × (command_of document ≡ Some c) × MetPrinted c old new before after n
+DocumentStops at document old new before after (status.NotYet place) =
+    (c : Command) × (command_of document ≡ Some c) × (place ≡ at) × Undone c old before after
+
+-- a line's document, if it has one, was done
+abbrev pub LineDid : List ℕ → Work → Work → Option (List ℕ) → Option (List ℕ) → Type 0
+LineDid [] old new before after = (new ≡ old) × Appends before after []
+LineDid (b ∷ bs) old new before after = DocumentDid (b ∷ bs) old new before after
+
+-- why it wasn't
+abbrev pub LineStops : ℕ → List ℕ → Work → Work → Option (List ℕ) → Option (List ℕ) → Status → Type 0
+LineStops at [] old new before after s = ⊥
+LineStops at (b ∷ bs) old new before after s = DocumentStops at (b ∷ bs) old new before after s
+
+-- how printing the summary ends
+abbrev pub Summarized : Work → Option (List ℕ) → Option (List ℕ) → Status → Type 0
+Summarized work before after status.Done = Appends before after (summary_of work.ledger.entries work.commands)
+Summarized work before after status.Usage = ⊥
+Summarized work before after (status.Document at) = ⊥
+Summarized work before after status.Memory = AppendsFront before after (summary_of work.ledger.entries work.commands)
+Summarized work before after status.Read = ⊥
+Summarized work before after status.Write = AppendsFront before after (summary_of work.ledger.entries work.commands)
+Summarized work before after (status.Limit count) = ⊥
+Summarized work before after (status.NotYet at) = ⊥
+
+-- a replay that stops within its input, for want of memory, by a fault of the output, or at a command
+abbrev pub IsStop : Status → Type 0
+IsStop status.Done = ⊥
+IsStop status.Usage = ⊥
+IsStop (status.Document at) = Unit {0}
+IsStop status.Memory = Unit {0}
+IsStop status.Read = ⊥
+IsStop status.Write = Unit {0}
+IsStop (status.Limit count) = Unit {0}
+IsStop (status.NotYet at) = Unit {0}
+
+-- a replay that stops at the end of its input
+abbrev pub IsEnd : Status → Type 0
+IsEnd status.Done = Unit {0}
+IsEnd status.Usage = ⊥
+IsEnd (status.Document at) = Unit {0}
+IsEnd status.Memory = Unit {0}
+IsEnd status.Read = ⊥
+IsEnd status.Write = Unit {0}
+IsEnd (status.Limit count) = Unit {0}
+IsEnd (status.NotYet at) = Unit {0}

@@ -1,0 +1,9 @@
+-- Why a command wasn't done, by what the ledger says.
+use Rattle.ledger_core.specs.declared.error.LedgerError.{LedgerError}
+use Rattle.ledger_core.specs.declared.error.LedgerError.TheVariants as error
+use Rattle.replay_core.specs.declared.stop.Stop.{Stop}
+use Rattle.replay_core.specs.declared.stop.Stop.TheVariants as stop
+
+abbrev pub stop_for : LedgerError → Stop
+stop_for (error.Full count) = stop.Full count
+stop_for error.Memory = stop.Memory

@@ -1,0 +1,63 @@
+ghost use Rattle.std.specs.Prelude.{◌≡◌, ◌==◌, IfOk, length};
+ghost use Rattle.alloc_rules.specs.Pools.{slices_of};
+ghost use Rattle.replay_core.specs.Built.{is_built, is_new, object_built, slice_built};
+
+use alloc_rules::{Object, State};
+use api_slice::ResourceSlice;
+use commands::Command;
+use std::alloc::{AllocError, Global};
+
+/// Whether the command is of a form that is done, at its turn.
+#[tactic(auto, unfolding(crate::specs::Built::is_built))]
+pub fn is_built(alloc: Global, state: &State, command: &Command) -> Result<bool, AllocError>
+    ensures { IfOk result (λ built. built ≡ is_built state.now command.now) }
+{
+    match command {
+        Command::Apply(object) => Ok(is_new(state, object) && object_built(state, object)),
+        Command::Schedule(pod) => state.may_schedule(alloc, pod),
+        Command::NotBuilt => Ok(false),
+    }
+}
+
+fn is_new(state: &State, object: &Object) -> bool
+    ensures { result ≡ is_new state.now object.now }
+{
+    match object {
+        Object::Node(node) => state.nodes.get(&node.name).is_none(),
+        Object::Slice(slice) => state.slices.get(&slice.name).is_none(),
+        Object::Class(class) => state.classes.get(&class.name).is_none(),
+        Object::Claim(claim) => state.claims.get(&claim.key).is_none(),
+        Object::Pod(pod) => state.pods.get(&pod.key).is_none(),
+    }
+}
+
+fn object_built(state: &State, object: &Object) -> bool
+    ensures { result ≡ object_built state.now object.now }
+{
+    match object {
+        Object::Slice(slice) => slice_built(state, slice),
+        Object::Node(_) | Object::Class(_) | Object::Claim(_) | Object::Pod(_) => true,
+    }
+}
+
+/// Whether the slice is the only one of its pool, and there is room for its devices.
+fn slice_built(state: &State, slice: &ResourceSlice) -> bool
+    ensures { result ≡ slice_built state.now slice.now }
+{
+    slice.pool.slices == 1
+        && is_first(state, slice)
+        && state.has_room(slice.devices.as_slice().len())
+}
+
+/// Whether no slice is of the same pool.
+fn is_first(state: &State, slice: &ResourceSlice) -> bool
+    ensures { result ≡ (length (slices_of slice.now.driver slice.now.pool.name state.now.slices) == 0) }
+{
+    for (_, stored) in state.slices.as_map() {
+        let other = &stored.object;
+        if other.driver == slice.driver && other.pool.name == slice.pool.name {
+            return false;
+        }
+    }
+    true
+}

@@ -1,0 +1,253 @@
+ghost use Rattle.std.specs.Prelude.{◌≡◌, ◌≤◌, ◌<◌, ◌∷◌, [], ℕ, List, true, false, length, IfOk, OnOk, OnErr, IsErrOf};
+ghost use Rattle.alloc_rules.specs.Claims.{claim_keys, claims_built, first_places, schedule_built};
+ghost use Rattle.alloc_rules.specs.Decisions.{IsReserve, IsUnsatisfiable};
+ghost use Rattle.object_fields.specs.declared.key.Key.{Key};
+ghost use Rattle.ledger_core.specs.declared.entry.Stand.TheVariants.{Fresh, Reserved, Ended};
+ghost use Rattle.ledger_core.specs.History.{state_of, stand_of};
+ghost use Rattle.commands.specs.declared.command.Command.TheVariants.{Apply, Schedule};
+ghost use Rattle.replay_core.specs.Built.{is_built};
+ghost use Rattle.replay_core.specs.Doing.{Begun, Doing, IsFull, MayFinish, Met, Ran, StepsOn};
+ghost use Rattle.replay_core.specs.Claims.{keys_at};
+
+use crate::Stop;
+use crate::built::is_built;
+use alloc_rules::{Decision, Object, Plan, State, Verdict, decide};
+use api_cluster::{Pod, PodResourceClaim};
+use commands::Command;
+use dra_values::Seq;
+use ledger_core::{Ledger, LedgerError, histories_grow, reserved_goes_on};
+use object_fields::Key;
+use std::alloc::{AllocError, Global};
+
+/// Does a command as a job that has no entry yet.
+pub fn do_command(
+    alloc: Global,
+    ledger: &mut Ledger,
+    job: u64,
+    command: Command,
+) -> Result<(), Stop>
+    requires { stand_of ledger.old.entries job ≡ Fresh }
+    ensures ran { OnOk result ((budget attempts : ℕ) → 2 ≤ budget → 0 < attempts → Ran job command budget attempts ledger.old ledger.new) }
+    ensures begun { OnErr result ((budget attempts : ℕ) → 2 ≤ budget → 0 < attempts → Begun job command budget attempts ledger.old ledger.new) }
+    ensures not_built { IsErrOf result Stop.NotBuilt → (is_built (state_of ledger.old.entries) command ≡ false) × (ledger.new ≡ ledger.old) }
+    ensures full { (n : ℕ) → IsErrOf result (Stop.Full n) → (budget attempts : ℕ) → 2 ≤ budget → 0 < attempts → Met job command budget attempts ledger.old ledger.new n }
+{
+    if !is_built(alloc, ledger.state(), &command)? {
+        return Err(Stop::NotBuilt);
+    }
+    do_built(alloc, ledger, job, command)?;
+    Ok(())
+}
+
+/// Does a command that is of a form that is done.
+#[tactic(auto, unfolding(crate::specs::Built::is_built))]
+fn do_built(
+    alloc: Global,
+    ledger: &mut Ledger,
+    job: u64,
+    command: Command,
+) -> Result<(), LedgerError>
+    requires fresh { stand_of ledger.old.entries job ≡ Fresh }
+    requires built { is_built (state_of ledger.old.entries) command ≡ true }
+    ensures ran { OnOk result ((budget attempts : ℕ) → 2 ≤ budget → 0 < attempts → Ran job command budget attempts ledger.old ledger.new) }
+    ensures begun { OnErr result ((budget attempts : ℕ) → 2 ≤ budget → 0 < attempts → Begun job command budget attempts ledger.old ledger.new) }
+    ensures full { (n : ℕ) → IsErrOf result (LedgerError.Full n) → IsFull ledger.new n }
+{
+    match command {
+        Command::Apply(object) => apply(alloc, ledger, job, object),
+        Command::Schedule(pod) => schedule(alloc, ledger, job, &pod),
+        Command::NotBuilt => unreachable!(),
+    }
+}
+
+/// Applies an object that is of a form that is done.
+fn apply(alloc: Global, ledger: &mut Ledger, job: u64, object: Object) -> Result<(), LedgerError>
+    requires fresh { stand_of ledger.old.entries job ≡ Fresh }
+    requires built { is_built (state_of ledger.old.entries) (Apply object) ≡ true }
+    ensures ran { OnOk result ((budget attempts : ℕ) → 2 ≤ budget → 0 < attempts → Ran job (Apply object) budget attempts ledger.old ledger.new) }
+    ensures begun { OnErr result ((budget attempts : ℕ) → 2 ≤ budget → 0 < attempts → Begun job (Apply object) budget attempts ledger.old ledger.new) }
+    ensures full { (n : ℕ) → IsErrOf result (LedgerError.Full n) → IsFull ledger.new n }
+{
+    histories_grow();
+    ledger.apply(alloc, job, object)?;
+    Ok(())
+}
+
+/// Schedules a pod of a form that is done.
+fn schedule(alloc: Global, ledger: &mut Ledger, job: u64, pod: &Key) -> Result<(), LedgerError>
+    requires fresh { stand_of ledger.old.entries job ≡ Fresh }
+    requires built { schedule_built (state_of ledger.old.entries) pod.now ≡ true }
+    ensures ran { OnOk result ((budget attempts : ℕ) → 2 ≤ budget → 0 < attempts → Ran job (Schedule pod.now) budget attempts ledger.old ledger.new) }
+    ensures begun { OnErr result ((budget attempts : ℕ) → 2 ≤ budget → 0 < attempts → Begun job (Schedule pod.now) budget attempts ledger.old ledger.new) }
+    ensures full { (n : ℕ) → IsErrOf result (LedgerError.Full n) → IsFull ledger.new n }
+{
+    let at = ledger.len();
+    match decide(alloc, ledger.state(), pod, at)? {
+        Decision::Reserve(plan) => carry_out(alloc, ledger, job, pod, &plan),
+        Decision::Unsatisfiable(verdict) => judge(alloc, ledger, job, pod, verdict),
+    }
+}
+
+/// Says that a pod can't be scheduled, by a true verdict.
+fn judge(
+    alloc: Global,
+    ledger: &mut Ledger,
+    job: u64,
+    pod: &Key,
+    verdict: Verdict,
+) -> Result<(), LedgerError>
+    requires fresh { stand_of ledger.old.entries job ≡ Fresh }
+    requires verdict { IsUnsatisfiable (state_of ledger.old.entries) pod.now (length ledger.old.entries) verdict }
+    ensures ran { OnOk result ((budget attempts : ℕ) → 2 ≤ budget → 0 < attempts → Ran job (Schedule pod.now) budget attempts ledger.old ledger.new) }
+    ensures begun { OnErr result ((budget attempts : ℕ) → 2 ≤ budget → 0 < attempts → Begun job (Schedule pod.now) budget attempts ledger.old ledger.new) }
+    ensures full { (n : ℕ) → IsErrOf result (LedgerError.Full n) → IsFull ledger.new n }
+{
+    histories_grow();
+    ledger.record_verdict(alloc, job, pod, verdict)?;
+    Ok(())
+}
+
+/// Reserves by a true plan, writes each use of the pod and binds it.
+fn carry_out(
+    alloc: Global,
+    ledger: &mut Ledger,
+    job: u64,
+    pod: &Key,
+    plan: &Plan,
+) -> Result<(), LedgerError>
+    requires fresh { stand_of ledger.old.entries job ≡ Fresh }
+    requires plan { IsReserve (state_of ledger.old.entries) pod.now (length ledger.old.entries) plan.now }
+    ensures ran { OnOk result ((budget attempts : ℕ) → 2 ≤ budget → 0 < attempts → Ran job (Schedule pod.now) budget attempts ledger.old ledger.new) }
+    ensures begun { OnErr result ((budget attempts : ℕ) → 2 ≤ budget → 0 < attempts → Begun job (Schedule pod.now) budget attempts ledger.old ledger.new) }
+    ensures full { (n : ℕ) → IsErrOf result (LedgerError.Full n) → IsFull ledger.new n }
+{
+    let claims = claims_of_pod(alloc, ledger.state(), pod)?;
+    begin(alloc, ledger, job, pod, plan)?;
+    finish(alloc, ledger, job, pod, claims.as_slice())
+}
+
+/// Reserves by a true plan.
+fn begin(
+    alloc: Global,
+    ledger: &mut Ledger,
+    job: u64,
+    pod: &Key,
+    plan: &Plan,
+) -> Result<(), LedgerError>
+    requires fresh { stand_of ledger.old.entries job ≡ Fresh }
+    requires plan { IsReserve (state_of ledger.old.entries) pod.now (length ledger.old.entries) plan.now }
+    ensures ok { OnOk result ((budget : ℕ) → 2 ≤ budget → Doing job (Schedule pod.now) budget ledger.old.entries ledger.new.entries) }
+    ensures may_finish { OnOk result (MayFinish job pod.now (keys_at (state_of ledger.old.entries) pod.now) ledger.new.entries) }
+    ensures limit { ledger.new.limit ≡ ledger.old.limit }
+    ensures err { OnErr result (ledger.new ≡ ledger.old) }
+    ensures full { (n : ℕ) → IsErrOf result (LedgerError.Full n) → IsFull ledger.new n }
+{
+    histories_grow();
+    reserved_goes_on();
+    ledger.reserve(alloc, job, pod, plan)?;
+    Ok(())
+}
+
+/// The claims of a pod of the form that is done.
+#[tactic(auto, unfolding(alloc_rules::specs::Claims::schedule_built))]
+fn claims_of_pod(alloc: Global, state: &State, pod: &Key) -> Result<Seq<Key>, AllocError>
+    requires { schedule_built state.now pod.now ≡ true }
+    ensures { IfOk result (λ claims. claims ≡ keys_at state.now pod.now) }
+{
+    match state.pods.get(pod) {
+        Some(pod) => claims_of(alloc, &pod.pod.object),
+        None => Ok(Seq::empty(alloc)),
+    }
+}
+
+/// The claims of a pod that has at most one.
+fn claims_of(alloc: Global, pod: &Pod) -> Result<Seq<Key>, AllocError>
+    requires { length (claim_keys pod.now) ≤ 1 }
+    ensures { IfOk result (λ claims. claims ≡ first_places [] (claim_keys pod.now)) }
+{
+    match pod.claims.as_slice() {
+        [] => Ok(Seq::empty(alloc)),
+        [entry, ..] => one_claim(alloc, pod, entry),
+    }
+}
+
+/// The claim that an entry of a pod names.
+fn one_claim(alloc: Global, pod: &Pod, entry: &PodResourceClaim) -> Result<Seq<Key>, AllocError>
+    ensures { IfOk result (λ claims. claims ≡ record { namespace = pod.now.key.namespace; name = entry.now.claim } ∷ []) }
+{
+    let namespace = pod.key.namespace.copy(alloc)?;
+    let name = entry.claim.copy(alloc)?;
+    let mut claims = Seq::empty(alloc);
+    claims.push(Key { namespace, name })?;
+    Ok(claims)
+}
+
+/// Writes each use of a pod that is taken, and binds it.
+fn finish(
+    alloc: Global,
+    ledger: &mut Ledger,
+    job: u64,
+    pod: &Key,
+    claims: &[Key],
+) -> Result<(), LedgerError>
+    requires { MayFinish job pod.now claims.now ledger.old.entries }
+    ensures steps { StepsOn job (Schedule pod.now) ledger.old ledger.new }
+    ensures ended { OnOk result ((place : ℕ) × (stand_of ledger.new.entries job ≡ Ended place)) }
+    ensures begun { OnErr result (stand_of ledger.new.entries job ≡ Reserved) }
+    ensures full { (n : ℕ) → IsErrOf result (LedgerError.Full n) → IsFull ledger.new n }
+{
+    write_uses(alloc, ledger, job, pod, claims)?;
+    bind(alloc, ledger, job, pod)
+}
+
+/// Writes each use of a pod that is taken.
+fn write_uses(
+    alloc: Global,
+    ledger: &mut Ledger,
+    job: u64,
+    pod: &Key,
+    claims: &[Key],
+) -> Result<(), LedgerError>
+    requires { MayFinish job pod.now claims.now ledger.old.entries }
+    ensures steps { StepsOn job (Schedule pod.now) ledger.old ledger.new }
+    ensures ok { OnOk result (MayFinish job pod.now [] ledger.new.entries) }
+    ensures begun { stand_of ledger.new.entries job ≡ Reserved }
+    ensures full { (n : ℕ) → IsErrOf result (LedgerError.Full n) → IsFull ledger.new n }
+{
+    for claim in claims {
+        write_use(alloc, ledger, job, pod, claim)?;
+    }
+    Ok(())
+}
+
+/// Writes the next use of a pod that is taken.
+fn write_use(
+    alloc: Global,
+    ledger: &mut Ledger,
+    job: u64,
+    pod: &Key,
+    claim: &Key,
+) -> Result<(), LedgerError>
+    requires { (rest : List Key) × MayFinish job pod.now (claim.now ∷ rest) ledger.old.entries }
+    ensures steps { StepsOn job (Schedule pod.now) ledger.old ledger.new }
+    ensures ok { OnOk result ((rest : List Key) → MayFinish job pod.now (claim.now ∷ rest) ledger.old.entries → MayFinish job pod.now rest ledger.new.entries) }
+    ensures begun { stand_of ledger.new.entries job ≡ Reserved }
+    ensures full { (n : ℕ) → IsErrOf result (LedgerError.Full n) → IsFull ledger.new n }
+{
+    histories_grow();
+    ledger.write_status(alloc, job, pod, claim)?;
+    Ok(())
+}
+
+/// Binds a pod that is taken, where each of its uses is written.
+fn bind(alloc: Global, ledger: &mut Ledger, job: u64, pod: &Key) -> Result<(), LedgerError>
+    requires { MayFinish job pod.now [] ledger.old.entries }
+    ensures steps { StepsOn job (Schedule pod.now) ledger.old ledger.new }
+    ensures ended { OnOk result ((place : ℕ) × (stand_of ledger.new.entries job ≡ Ended place)) }
+    ensures begun { OnErr result (stand_of ledger.new.entries job ≡ Reserved) }
+    ensures full { (n : ℕ) → IsErrOf result (LedgerError.Full n) → IsFull ledger.new n }
+{
+    histories_grow();
+    ledger.bind(alloc, job, pod)?;
+    Ok(())
+}

@@ -1,0 +1,15 @@
+//! Replays a script: reads its commands, does each as a job of a ledger, and prints what was decided.
+#![tactic(auto)]
+
+mod built;
+mod jobs;
+mod reader;
+mod scan;
+mod script;
+mod status;
+mod stop;
+mod work;
+
+pub use script::replay;
+pub use status::Status;
+pub use stop::Stop;

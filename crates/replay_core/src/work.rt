@@ -1,0 +1,109 @@
+ghost use Rattle.std.specs.Prelude.{◌≡◌, ◌<◌, ◌≤◌, ◌+◌, ◌^◌, [], Some, IfOk, IfErr, OnOk, OnErr, drop};
+ghost use Rattle.std.specs.Io.KnownBytes.{Appends};
+ghost use Rattle.dra_ports.specs.Causes.{HasCause, Rose};
+ghost use Rattle.dra_ports.specs.Fronts.{AppendsFront};
+ghost use Rattle.ledger_core.specs.declared.entry.Stand.TheVariants.{Fresh};
+ghost use Rattle.ledger_core.specs.History.{stand_of, Legal};
+ghost use Rattle.journal_text.specs.Journal.{lines_from};
+ghost use Rattle.replay_core.specs.Lines.{output_status, Did, DocumentDid, DocumentStops, Stops};
+
+use crate::jobs::do_command;
+use crate::{Status, Stop};
+use commands::{Command, read_command};
+use dra_ports::{PortError, Sink, write_all};
+use journal_text::lines;
+use ledger_core::Ledger;
+use std::alloc::Global;
+
+/// The ledger, and how many commands were done.
+#[derive(Drop)]
+pub struct Work {
+    pub ledger: Ledger,
+    pub commands: u64,
+}
+
+/// The status for a fault of the output.
+pub fn write_status(error: PortError) -> Status
+    ensures { result ≡ output_status error }
+{
+    match error {
+        PortError::Failed => Status::Write,
+        PortError::Memory => Status::Memory,
+    }
+}
+
+/// Prints the lines of the entries after the first ones.
+pub fn print_from<K: Sink>(
+    alloc: Global,
+    ledger: &Ledger,
+    from: u64,
+    output: &mut K,
+) -> Result<(), PortError>
+    ensures ok { OnOk result (Appends (K.written output.old) (K.written output.new) (lines_from from (drop from ledger.now.entries))) }
+    ensures short { OnErr result (AppendsFront (K.written output.old) (K.written output.new) (lines_from from (drop from ledger.now.entries))) }
+    ensures cause { HasCause (K.faults output.old) (K.faults output.new) result }
+{
+    let text = lines(alloc, ledger, from)?;
+    write_all(output, &text)
+}
+
+/// Does a command as the next job, and prints its lines.
+pub fn do_next<K: Sink>(
+    alloc: Global,
+    work: &mut Work,
+    at: u64,
+    command: Command,
+    output: &mut K,
+) -> Result<(), Status>
+    requires fresh { stand_of work.old.ledger.entries (work.old.commands + 1) ≡ Fresh }
+    requires room { work.old.commands + 1 < 2 ^ 64 }
+    ensures did { OnOk result (Did command work.old work.new (K.written output.old) (K.written output.new)) }
+    ensures stops { IfErr result (Stops at command work.old work.new (K.written output.old) (K.written output.new)) }
+    ensures write { IfErr result (λ s. s ≡ Status.Write → Rose (K.faults output.old) (K.faults output.new)) }
+    ensures later { K.faults output.old ≤ K.faults output.new }
+    ensures legal { Legal work.new.ledger.entries }
+{
+    let job = work.commands + 1;
+    let from = work.ledger.len();
+    let done = do_command(alloc, &mut work.ledger, job, command);
+    let _entries = work.ledger.len();
+    match done {
+        Ok(()) => {
+            work.commands = job;
+            match print_from(alloc, &work.ledger, from, output) {
+                Ok(()) => Ok(()),
+                Err(error) => Err(write_status(error)),
+            }
+        }
+        Err(Stop::Full(count)) => match print_from(alloc, &work.ledger, from, output) {
+            Ok(()) => Err(Status::Limit(count)),
+            Err(error) => Err(write_status(error)),
+        },
+        Err(Stop::NotBuilt) => Err(Status::NotYet(at)),
+        Err(Stop::Memory) => Err(Status::Memory),
+    }
+}
+
+/// Does a document's command as the next job, and prints its lines.
+pub fn do_document<K: Sink>(
+    alloc: Global,
+    work: &mut Work,
+    at: u64,
+    document: &[u8],
+    output: &mut K,
+) -> Result<(), Status>
+    requires fresh { stand_of work.old.ledger.entries (work.old.commands + 1) ≡ Fresh }
+    requires room { work.old.commands + 1 < 2 ^ 64 }
+    ensures did { OnOk result (DocumentDid document.now work.old work.new (K.written output.old) (K.written output.new)) }
+    ensures stops { IfErr result (DocumentStops at document.now work.old work.new (K.written output.old) (K.written output.new)) }
+    ensures write { IfErr result (λ s. s ≡ Status.Write → Rose (K.faults output.old) (K.faults output.new)) }
+    ensures later { K.faults output.old ≤ K.faults output.new }
+    ensures legal { Legal work.new.ledger.entries }
+{
+    let _entries = work.ledger.len();
+    match read_command(alloc, document) {
+        Ok(Some(command)) => do_next(alloc, work, at, command, output),
+        Ok(None) => Err(Status::Document(at)),
+        Err(_) => Err(Status::Memory),
+    }
+}
