@@ -1,0 +1,22 @@
+-- The object that a document of an object kind is.
+use Rattle.std.specs.Prelude.{Option, option_map, Result, Ok}
+use Rattle.serde_json.specs.Data.{Data}
+use Rattle.object_fields.specs.Fields.{◌>>=◌}
+use Rattle.object_fields.specs.declared.error.FieldError.{FieldError}
+use Rattle.api_slice.specs.Slices.{slice_of}
+use Rattle.api_claim.specs.Claims.{claim_of}
+use Rattle.api_cluster.specs.Classes.{class_of}
+use Rattle.api_cluster.specs.Nodes.{node_of}
+use Rattle.api_cluster.specs.Pods.{pod_of}
+use Rattle.alloc_rules.specs.declared.object.Object.{Object}
+use Rattle.alloc_rules.specs.declared.object.Object.TheVariants as object
+use Rattle.commands.specs.declared.document.ObjectKind.{ObjectKind}
+use Rattle.commands.specs.declared.document.ObjectKind.TheVariants.{ResourceSlice, DeviceClass, ResourceClaim, Node, Pod}
+
+-- None where its form isn't built
+abbrev pub object_of : ObjectKind → Data → Result (Option Object) FieldError
+object_of ResourceSlice d = slice_of d >>= λ x. Ok (option_map object.Slice x)
+object_of DeviceClass d = class_of d >>= λ x. Ok (option_map object.Class x)
+object_of ResourceClaim d = claim_of d >>= λ x. Ok (option_map object.Claim x)
+object_of Node d = node_of d >>= λ x. Ok (option_map object.Node x)
+object_of Pod d = pod_of d >>= λ x. Ok (option_map object.Pod x)

@@ -1,0 +1,164 @@
+use crate::{Command, read_command};
+use alloc_rules::Object;
+use std::test::Fail;
+
+/// What each document asks for, and the document behind it.
+const DOCUMENTS: &str = r#"
+apply Node n1|{"apiVersion":"v1","kind":"Node","metadata":{"name":"n1"}}
+apply Node n2|{"apiVersion":"v1","kind":"Node","metadata":{"name":"n2"}}
+apply ResourceSlice n2-gpu|{"apiVersion":"resource.k8s.io/v1","kind":"ResourceSlice","metadata":{"name":"n2-gpu"},"spec":{"driver":"gpu.example.com","nodeName":"n2","pool":{"name":"n2","generation":1,"resourceSliceCount":1},"devices":[{"name":"gpu-0"}]}}
+apply DeviceClass gpu|{"apiVersion":"resource.k8s.io/v1","kind":"DeviceClass","metadata":{"name":"gpu"},"spec":{}}
+apply ResourceClaim default/c|{"apiVersion":"resource.k8s.io/v1","kind":"ResourceClaim","metadata":{"namespace":"default","name":"c"},"spec":{"devices":{"requests":[{"name":"gpu","exactly":{"deviceClassName":"gpu"}}]}}}
+apply Pod default/p|{"apiVersion":"v1","kind":"Pod","metadata":{"namespace":"default","name":"p"},"spec":{"resourceClaims":[{"name":"g","resourceClaimName":"c"}]}}
+schedule default/p|{"apiVersion":"dra.replay/v1","kind":"Schedule","namespace":"default","name":"p"}
+not built|{"apiVersion":"v1","kind":"Node"}
+not built|{"apiVersion":"v1","kind":"Node","metadata":{"name":"N1"}}
+not built|{"apiVersion":"v1","kind":"Node","metadata":{"name":"n1","labels":{"zone":"a"}}}
+not built|{"apiVersion":"v1","kind":"Pod","metadata":7}
+not built|{"apiVersion":"resource.k8s.io/v1","kind":"ResourceSlice","spec":[]}
+not built|{"apiVersion":"resource.k8s.io/v1","kind":"DeviceClass","metadata":{"name":"gpu"},"spec":{"selectors":[{}]}}
+not built|{"apiVersion":"resource.k8s.io/v1","kind":"ResourceClaim","metadata":{"name":"c"}}
+no command|{"apiVersion":"v1","kind":"ResourceSlice","metadata":{"name":"s"}}
+no command|{"apiVersion":"resource.k8s.io/v1","kind":"Node","metadata":{"name":"n1"}}
+no command|{"apiVersion":"dra.replay/v1","kind":"List","items":[]}
+no command|{"apiVersion":"v1","kind":"Reopen"}
+no command|{"apiVersion":"v2","kind":"Node","metadata":{"name":"n1"}}
+no command|{"kind":"Node","metadata":{"name":"n1"}}
+no command|{"apiVersion":"v1","metadata":{"name":"n1"}}
+no command|{"apiVersion":1,"kind":"Node","metadata":{"name":"n1"}}
+no command|{"apiVersion":"v1","kind":["Node"],"metadata":{"name":"n1"}}
+no command|{"apiVersion":"v1","kind":"node","metadata":{"name":"n1"}}
+no command|
+no command|null
+no command|7
+no command|"Node"
+no command|[{"apiVersion":"dra.replay/v1","kind":"Reopen"}]
+no command|{"apiVersion":"dra.replay/v1","kind":"Reopen"
+no command|{"apiVersion":"dra.replay/v1","kind":"Reopen"} {}
+not built| {"apiVersion":"dra.replay/v1","kind":"Reopen"} 
+apply Node n2|{"apiVersion":"v1","kind":"Pod","kind":"Node","metadata":{"name":"n1"},"metadata":{"name":"n2"}}
+schedule default/p|{"apiVersion":"dra.replay/v1","kind":"Schedule","name":7,"name":"p"}
+schedule default/p|{"apiVersion":"dra.replay/v1","kind":"Schedule","name":"p"}
+schedule default/p|{"apiVersion":"dra.replay/v1","kind":"Schedule","namespace":null,"name":"p"}
+schedule Any text/|{"apiVersion":"dra.replay/v1","kind":"Schedule","namespace":"Any text","name":""}
+schedule p|{"apiVersion":"dra.replay/v1","kind":"Schedule","namespace":"","name":"p"}
+no command|{"apiVersion":"dra.replay/v1","kind":"Schedule","namespace":7,"name":"p"}
+no command|{"apiVersion":"dra.replay/v1","kind":"Schedule","namespace":"a","name":null}
+no command|{"apiVersion":"dra.replay/v1","kind":"Schedule","namespace":"a"}
+no command|{"apiVersion":"dra.replay/v1","kind":"Schedule","namespace":"a","name":["p"]}
+not built|{"apiVersion":"dra.replay/v1","kind":"Release","name":"p"}
+no command|{"apiVersion":"dra.replay/v1","kind":"Release","name":null}
+no command|{"apiVersion":"dra.replay/v1","kind":"Release","namespace":{},"name":"p"}
+not built|{"apiVersion":"dra.replay/v1","kind":"Prepare","name":"p"}
+no command|{"apiVersion":"dra.replay/v1","kind":"Prepare","name":null}
+no command|{"apiVersion":"dra.replay/v1","kind":"Prepare","namespace":{},"name":"p"}
+not built|{"apiVersion":"dra.replay/v1","kind":"Unprepare","name":"p"}
+no command|{"apiVersion":"dra.replay/v1","kind":"Unprepare","name":null}
+no command|{"apiVersion":"dra.replay/v1","kind":"Unprepare","namespace":{},"name":"p"}
+not built|{"apiVersion":"dra.replay/v1","kind":"Reopen"}
+not built|{"apiVersion":"dra.replay/v1","kind":"Reopen","name":7}
+not built|{"apiVersion":"dra.replay/v1","kind":"Delete","target":"ResourceSlice","name":"x"}
+not built|{"apiVersion":"dra.replay/v1","kind":"Delete","target":"DeviceClass","name":"x"}
+not built|{"apiVersion":"dra.replay/v1","kind":"Delete","target":"ResourceClaim","name":"x"}
+not built|{"apiVersion":"dra.replay/v1","kind":"Delete","target":"Node","name":"x"}
+not built|{"apiVersion":"dra.replay/v1","kind":"Delete","target":"Pod","name":"x"}
+not built|{"apiVersion":"dra.replay/v1","kind":"Delete","target":"Node","namespace":"a","name":"x"}
+not built|{"apiVersion":"dra.replay/v1","kind":"Delete","target":"Node","namespace":null,"name":"x"}
+no command|{"apiVersion":"dra.replay/v1","kind":"Delete","target":"Node","namespace":7,"name":"x"}
+no command|{"apiVersion":"dra.replay/v1","kind":"Delete","target":"List","name":"x"}
+no command|{"apiVersion":"dra.replay/v1","kind":"Delete","target":null,"name":"x"}
+no command|{"apiVersion":"dra.replay/v1","kind":"Delete","name":"x"}
+no command|{"apiVersion":"dra.replay/v1","kind":"Delete","target":"Pod","name":null}
+no command|{"apiVersion":"dra.replay/v1","kind":"Delete","target":"Pod"}
+not built|{"apiVersion":"v1","kind":"List","items":[]}
+not built|{"apiVersion":"v1","kind":"List","items":[{"apiVersion":"v1","kind":"Node","metadata":{"name":"n1"}},{"apiVersion":"resource.k8s.io/v1","kind":"ResourceClaim"}]}
+no command|{"apiVersion":"v1","kind":"List"}
+no command|{"apiVersion":"v1","kind":"List","items":null}
+no command|{"apiVersion":"v1","kind":"List","items":{}}
+no command|{"apiVersion":"v1","kind":"List","items":[{"apiVersion":"v1","kind":"Node","metadata":{"name":"n1"}},7]}
+no command|{"apiVersion":"v1","kind":"List","items":[{"apiVersion":"v1","kind":"Node","metadata":{"name":"n1"}},{"apiVersion":"dra.replay/v1","kind":"Schedule","name":"p"}]}
+no command|{"apiVersion":"v1","kind":"List","items":[{"apiVersion":"v1","kind":"List","items":[]}]}
+no command|{"apiVersion":"v1","kind":"List","items":[[{"apiVersion":"v1","kind":"Node","metadata":{"name":"n1"}}]]}
+not built|{"apiVersion":"dra.replay/v1","kind":"Together","commands":[{"apiVersion":"v1","kind":"Node","metadata":{"name":"n1"}},{"apiVersion":"dra.replay/v1","kind":"Delete","target":"Node","name":"n2"},{"apiVersion":"dra.replay/v1","kind":"Schedule","name":"p"},{"apiVersion":"dra.replay/v1","kind":"Release","name":"p"}]}
+not built|{"apiVersion":"dra.replay/v1","kind":"Together","commands":[{"apiVersion":"v1","kind":"Pod"}]}
+no command|{"apiVersion":"dra.replay/v1","kind":"Together","commands":[]}
+no command|{"apiVersion":"dra.replay/v1","kind":"Together"}
+no command|{"apiVersion":"dra.replay/v1","kind":"Together","commands":null}
+no command|{"apiVersion":"dra.replay/v1","kind":"Together","commands":{}}
+no command|{"apiVersion":"dra.replay/v1","kind":"Together","commands":[{"apiVersion":"v1","kind":"Node","metadata":{"name":"n1"}},null]}
+no command|{"apiVersion":"dra.replay/v1","kind":"Together","commands":[{"apiVersion":"dra.replay/v1","kind":"Delete","target":"Nodes","name":"n2"}]}
+no command|{"apiVersion":"dra.replay/v1","kind":"Together","commands":[{"apiVersion":"dra.replay/v1","kind":"Schedule"}]}
+no command|{"apiVersion":"dra.replay/v1","kind":"Together","commands":[{"apiVersion":"dra.replay/v1","kind":"Release","name":7}]}
+no command|{"apiVersion":"dra.replay/v1","kind":"Together","commands":[{"apiVersion":"dra.replay/v1","kind":"Prepare","name":"p"}]}
+no command|{"apiVersion":"dra.replay/v1","kind":"Together","commands":[{"apiVersion":"dra.replay/v1","kind":"Unprepare","name":"p"}]}
+no command|{"apiVersion":"dra.replay/v1","kind":"Together","commands":[{"apiVersion":"dra.replay/v1","kind":"Reopen"}]}
+no command|{"apiVersion":"dra.replay/v1","kind":"Together","commands":[{"apiVersion":"v1","kind":"List","items":[]}]}
+no command|{"apiVersion":"dra.replay/v1","kind":"Together","commands":[{"apiVersion":"dra.replay/v1","kind":"Together","commands":[{"apiVersion":"v1","kind":"Node","metadata":{"name":"n1"}}]}]}
+"#;
+
+/// The object's name, behind its kind and its namespace where it has one.
+fn object_text(rt: &HostRuntime, object: &Object) -> Result<String, Fail> {
+    let alloc = rt.alloc();
+    Ok(match object {
+        Object::Slice(slice) => format!(in alloc; "apply ResourceSlice {}", slice.name)?,
+        Object::Class(class) => format!(in alloc; "apply DeviceClass {}", class.name)?,
+        Object::Claim(claim) => format!(in alloc; "apply ResourceClaim {}", claim.key)?,
+        Object::Node(node) => format!(in alloc; "apply Node {}", node.name)?,
+        Object::Pod(pod) => format!(in alloc; "apply Pod {}", pod.key)?,
+    })
+}
+
+/// What the document asks for, in words.
+fn asked(rt: &HostRuntime, document: &[u8]) -> Result<String, Fail> {
+    let alloc = rt.alloc();
+    Ok(match read_command(alloc, document)? {
+        None => format!(in alloc; "no command")?,
+        Some(Command::NotBuilt) => format!(in alloc; "not built")?,
+        Some(Command::Schedule(key)) => format!(in alloc; "schedule {key}")?,
+        Some(Command::Apply(object)) => object_text(rt, &object)?,
+    })
+}
+
+#[test]
+fn documents_are_commands_by_the_table(rt: HostRuntime) -> Result<(), Fail> {
+    let mut count = 0u32;
+    for line in DOCUMENTS.lines() {
+        if let Some((command, document)) = line.split_once('|') {
+            assert_eq!(rt;
+                asked(&rt, document.as_bytes())?.as_str(),
+                command,
+                "{document}"
+            );
+            count = count.saturating_add(1);
+        }
+    }
+    assert_eq!(rt; count, 90);
+    let no_text = b"{\"apiVersion\":\"dra.replay/v1\",\"kind\":\"Reopen\",\"of\":\"\xff\"}";
+    assert_eq!(rt; asked(&rt, no_text)?.as_str(), "no command");
+    Ok(())
+}
+
+/// A Together that applies a node so many times.
+fn together(rt: &HostRuntime, count: u64) -> Result<String, Fail> {
+    let mut text = String::from_str(
+        rt.alloc(),
+        r#"{"apiVersion":"dra.replay/v1","kind":"Together","commands":["#,
+    )?;
+    for i in 0..count {
+        if i > 0 {
+            text.push_str(",")?;
+        }
+        text.push_str(r#"{"apiVersion":"v1","kind":"Node","metadata":{"name":"n1"}}"#)?;
+    }
+    text.push_str("]}")?;
+    Ok(text)
+}
+
+#[test]
+fn a_together_has_at_most_256_members(rt: HostRuntime) -> Result<(), Fail> {
+    for (count, command) in [(1, "not built"), (256, "not built"), (257, "no command")] {
+        let text = together(&rt, count)?;
+        assert_eq!(rt; asked(&rt, text.as_bytes())?.as_str(), command);
+    }
+    Ok(())
+}
