@@ -39,7 +39,11 @@ pub line_moves : StandLaw → LinesLaw → (limit : ℕ) (before now next : Opti
 line_moves stands lines limit before now next done at [] old new s did legal = record {
   now_done = done;
   standing = subst (λ (w : Work). Standing limit before next done w) (sym did.0) (record {
-    run = s.run; count_is = s.count_is; fresh = s.fresh; printed = appends_kept before now next (lines_from 0 old.ledger.entries) s.printed did.1; limit_is = s.limit_is;
+    run = s.run;
+    count_is = s.count_is;
+    fresh = s.fresh;
+    printed = appends_kept before now next (lines_from 0 old.ledger.entries) s.printed did.1;
+    limit_is = s.limit_is;
   });
   script = λ rest. refl;
   few = let e = ap (λ (w : Work). w.commands) did.0 in omega arith;
@@ -83,13 +87,13 @@ short_command lines limit left before now next done at c old new s tells legal (
   text = lines_from 0 new.ledger.entries;
   due = inl (record { done = done ++ (at, c) ∷ []; script = tells; history = new.ledger.entries; run = run_more done at c old new s.run s.count_is legal ran.ran; is = refl });
   written = subst (λ (t : List ℕ). AppendsFront before next t) (sym (lines_more lines old.ledger new.ledger ran.ran.segment ran.ran.is))
-    (appends_front before now next (lines_from 0 old.ledger.entries) (new_lines old.ledger new.ledger) s.printed ran.printed);
+      (appends_front before now next (lines_from 0 old.ledger.entries) (new_lines old.ledger new.ledger) s.printed ran.printed);
 }
 short_command lines limit left before now next done at c old new s tells legal (inr met) = record {
   text = lines_from 0 new.ledger.entries;
   due = inr (inl (record { done = done; at = at; command = c; script = tells; history = new.ledger.entries; part = part_of limit before now done c old new met.count s legal met.met; is = refl }));
   written = subst (λ (t : List ℕ). AppendsFront before next t) (sym (lines_more lines old.ledger new.ledger met.met.segment met.met.is))
-    (appends_front before now next (lines_from 0 old.ledger.entries) (new_lines old.ledger new.ledger) s.printed met.printed);
+      (appends_front before now next (lines_from 0 old.ledger.entries) (new_lines old.ledger new.ledger) s.printed met.printed);
 }
 
 full_command : LinesLaw → (limit : ℕ) (left before now next : Option (List ℕ)) (done : List (ℕ × Command)) (at : ℕ) (c : Command) (old new : Work) (n : ℕ) → Standing limit before now done old
@@ -103,7 +107,7 @@ full_command lines limit left before now next done at c old new n s tells legal 
   part = part_of limit before now done c old new n s legal met.met;
   count_is = sym met.met.count_is;
   written = subst (λ (t : List ℕ). Appends before next t) (sym (lines_more lines old.ledger new.ledger met.met.segment met.met.is))
-    (appends_more before now next (lines_from 0 old.ledger.entries) (new_lines old.ledger new.ledger) s.printed met.printed);
+      (appends_more before now next (lines_from 0 old.ledger.entries) (new_lines old.ledger new.ledger) s.printed met.printed);
 }
 
 tells_command : (left : Option (List ℕ)) (done : List (ℕ × Command)) (at b : ℕ) (bs : List ℕ) (c : Command) → TellsLine left done at (b ∷ bs) → command_of (b ∷ bs) ≡ Some c → TellsFirst left (done ++ (at, c) ∷ [])
@@ -152,9 +156,9 @@ pub tells_at_line : (limit : ℕ) (left now next before written : Option (List �
     → scan.at + length scan.line.items < most_input → TellsLine left p.done scan.at scan.line.items
 tells_at_line limit left now next before written scan p step room bytes e =
     let t = tells_by left next (p.taken ++ 10 ∷ []) p.done (λ more. add_line scan.at scan.line.items (script_from true (scan.at + length scan.line.items + 1) [] more))
-      (consumes_more left now next p.taken (10 ∷ []) p.consumed step)
-      (λ more. next_script p.taken p.done scan.at scan.line.items p.script 10 true more ∙ ap (prepend p.done) (script_line true scan.at scan.line.items more (below_input (scan.at + length scan.line.items) room)))
-      bytes e in
+    (consumes_more left now next p.taken (10 ∷ []) p.consumed step)
+    (λ more. next_script p.taken p.done scan.at scan.line.items p.script 10 true more ∙ ap (prepend p.done) (script_line true scan.at scan.line.items more (below_input (scan.at + length scan.line.items) room)))
+    bytes e in
     (script_from true (scan.at + length scan.line.items + 1) [] t.0, t.1)
 
 -- over a line's end
@@ -171,11 +175,11 @@ over_line limit left now next before was written scan work at line p step room m
       consumed = consumes_more left now next p.taken (10 ∷ []) p.consumed step;
       done = m.now_done;
       script = λ ended more.
-        next_script p.taken p.done scan.at scan.line.items p.script 10 ended more
-        ∙ ap (prepend p.done) (script_line ended scan.at scan.line.items more (below_input (scan.at + length scan.line.items) room))
-        ∙ m.script (script_from ended (scan.at + length scan.line.items + 1) [] more)
-        ∙ ap (λ (k : ℕ). prepend m.now_done (script_from ended k [] more)) (sym place)
-        ∙ ap (λ (l : List ℕ). prepend m.now_done (script_from ended s.at l more)) (sym empty);
+          next_script p.taken p.done scan.at scan.line.items p.script 10 ended more
+          ∙ ap (prepend p.done) (script_line ended scan.at scan.line.items more (below_input (scan.at + length scan.line.items) room))
+          ∙ m.script (script_from ended (scan.at + length scan.line.items + 1) [] more)
+          ∙ ap (λ (k : ℕ). prepend m.now_done (script_from ended k [] more)) (sym place)
+          ∙ ap (λ (l : List ℕ). prepend m.now_done (script_from ended s.at l more)) (sym empty);
       standing = subst (λ (w : Work). Standing limit before written m.now_done w) (sym sw) m.standing;
       seen = omega (arith, p.seen, length-append p.taken (10 ∷ []));
       small = omega arith;
@@ -194,10 +198,10 @@ over_byte limit left now next before written scan s b p step room other short sw
       consumed = consumes_more left now next p.taken (b ∷ []) p.consumed step;
       done = p.done;
       script = λ ended more.
-        next_script p.taken p.done scan.at scan.line.items p.script b ended more
-        ∙ ap (prepend p.done) (script_byte ended scan.at scan.line.items b more (below_input (scan.at + length scan.line.items) room) (ne_eqb b 10 other) (ne_eqb (length scan.line.items) most_document short))
-        ∙ ap (λ (k : ℕ). prepend p.done (script_from ended k (scan.line.items ++ b ∷ []) more)) (sym sa)
-        ∙ ap (λ (l : List ℕ). prepend p.done (script_from ended s.at l more)) (sym sl);
+          next_script p.taken p.done scan.at scan.line.items p.script b ended more
+          ∙ ap (prepend p.done) (script_byte ended scan.at scan.line.items b more (below_input (scan.at + length scan.line.items) room) (ne_eqb b 10 other) (ne_eqb (length scan.line.items) most_document short))
+          ∙ ap (λ (k : ℕ). prepend p.done (script_from ended k (scan.line.items ++ b ∷ []) more)) (sym sa)
+          ∙ ap (λ (l : List ℕ). prepend p.done (script_from ended s.at l more)) (sym sl);
       standing = subst (λ (w : Work). Standing limit before written p.done w) (sym sw) p.standing;
       seen = omega (arith, p.seen, sa, length-append p.taken (b ∷ []));
       small = omega (arith, p.small);
@@ -210,9 +214,9 @@ pub too_long : (limit : ℕ) (left now next before written : Option (List ℕ)) 
 too_long limit left now next before written scan b p step room other long = record {
   done = p.done;
   script = λ bytes e. (tells_by left next (p.taken ++ b ∷ []) p.done (λ more. nothing (Bad scan.at)) (consumes_more left now next p.taken (b ∷ []) p.consumed step)
-    (λ more. next_script p.taken p.done scan.at scan.line.items p.script b true more
+      (λ more. next_script p.taken p.done scan.at scan.line.items p.script b true more
       ∙ ap (prepend p.done) (script_long_line true scan.at scan.line.items b more (below_input (scan.at + length scan.line.items) room) (ne_eqb b 10 other) (eq-eqb (length scan.line.items) most_document long)))
-    bytes e).1 ∙ prepend_nothing p.done (Bad scan.at);
+      bytes e).1 ∙ prepend_nothing p.done (Bad scan.at);
   history = scan.work.ledger.entries;
   run = p.standing.run;
   written = p.standing.printed;
@@ -224,9 +228,9 @@ pub input_too_long : (limit : ℕ) (left now next before written : Option (List 
 input_too_long limit left now next before written scan b p step long = record {
   done = p.done;
   script = λ bytes e. (tells_by left next (p.taken ++ b ∷ []) p.done (λ more. nothing Long) (consumes_more left now next p.taken (b ∷ []) p.consumed step)
-    (λ more. next_script p.taken p.done scan.at scan.line.items p.script b true more
+      (λ more. next_script p.taken p.done scan.at scan.line.items p.script b true more
       ∙ ap (prepend p.done) (script_long true scan.at scan.line.items b more (eq-eqb (scan.at + length scan.line.items) most_input long)))
-    bytes e).1 ∙ prepend_nothing p.done Long;
+      bytes e).1 ∙ prepend_nothing p.done Long;
   history = scan.work.ledger.entries;
   run = p.standing.run;
   written = p.standing.printed;
@@ -272,7 +276,10 @@ unfolding text_of
 short_text limit left before now next done work standing tells printed = record {
   text = lines_from 0 work.ledger.entries ++ summary_of work.ledger.entries work.commands;
   due = inr (inr (record {
-    done = done; script = tells; history = work.ledger.entries; run = standing.run;
+    done = done;
+    script = tells;
+    history = work.ledger.entries;
+    run = standing.run;
     is = ap (λ (k : ℕ). lines_from 0 work.ledger.entries ++ summary_of work.ledger.entries k) standing.count_is;
   }));
   written = appends_front before now next (lines_from 0 work.ledger.entries) (summary_of work.ledger.entries work.commands) standing.printed printed;
@@ -288,7 +295,7 @@ summary_ends limit left left_now before now next done work status.Done standing 
   history = work.ledger.entries;
   run = standing.run;
   written = subst (λ (k : ℕ). Appends before next (lines_from 0 work.ledger.entries ++ summary_of work.ledger.entries k)) standing.count_is
-    (appends_more before now next (lines_from 0 work.ledger.entries) (summary_of work.ledger.entries work.commands) standing.printed printed);
+      (appends_more before now next (lines_from 0 work.ledger.entries) (summary_of work.ledger.entries work.commands) standing.printed printed);
 }
 summary_ends limit left left_now before now next done work status.Usage standing tells printed = absurd printed
 summary_ends limit left left_now before now next done work (status.Document at) standing tells printed = absurd printed

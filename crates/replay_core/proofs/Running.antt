@@ -88,7 +88,7 @@ run_more done at c old new run count legal ran =
     record {
       legal = legal;
       run = subst (λ (h : List Entry). RunOf search_budget schedule_attempts (commands_of (done ++ (at, c) ∷ [])) h) (sym grown)
-        (RunOf-more search_budget schedule_attempts done old.ledger.entries at c ran.segment old.commands count run.run ran.run);
+          (RunOf-more search_budget schedule_attempts done old.ledger.entries at c ran.segment old.commands count run.run ran.run);
     }
 
 -- one command more was done
@@ -102,12 +102,12 @@ standing_more stands lines limit before now next done at c old new s did legal =
       run = run_more done at c old new s.run s.count_is legal ran;
       count_is = omega (arith, did.counted, s.count_is, length-append done ((at, c) ∷ []));
       fresh = λ job above.
-        let past : old.commands < job = omega (arith, did.counted) in
-        let apart : old.commands + 1 ≡ job → ⊥ = λ e. omega (arith, did.counted) in
-        ap (λ (h : List Entry). stand_of h job) grown
-        ∙ own_only stands (old.commands + 1) c (length old.ledger.entries) search_budget old.ledger.entries ran.segment job ran.run.made apart
-        ∙ s.fresh job past;
+          let past : old.commands < job = omega (arith, did.counted) in
+          let apart : old.commands + 1 ≡ job → ⊥ = λ e. omega (arith, did.counted) in
+          ap (λ (h : List Entry). stand_of h job) grown
+          ∙ own_only stands (old.commands + 1) c (length old.ledger.entries) search_budget old.ledger.entries ran.segment job ran.run.made apart
+          ∙ s.fresh job past;
       printed = subst (λ (t : List ℕ). Appends before next t) (sym (lines_more lines old.ledger new.ledger ran.segment ran.is))
-        (appends_more before now next (lines_from 0 old.ledger.entries) (new_lines old.ledger new.ledger) s.printed did.printed);
+          (appends_more before now next (lines_from 0 old.ledger.entries) (new_lines old.ledger new.ledger) s.printed did.printed);
       limit_is = same ∙ s.limit_is;
     }

@@ -19,7 +19,12 @@ use ledger_core::{Ledger, LedgerError, histories_grow, reserved_goes_on};
 use object_fields::Key;
 use std::alloc::{AllocError, Global};
 
-/// Does a command as a job that has no entry yet.
+/// Does a command as a job that has no entry yet: an Apply has one entry, which creates the object,
+/// and a Schedule one for the reservation, one for each claim of the pod and one for the binding, or
+/// one for the verdict. `Stop::NotBuilt` comes where the command is of a form that isn't done yet,
+/// and the ledger stays as it was. `Stop::Full` comes where the history has as many entries as it may
+/// have and one more is due, and `Stop::Memory` only where memory runs out: the entries that were
+/// made before stay.
 pub fn do_command(
     alloc: Global,
     ledger: &mut Ledger,

@@ -69,9 +69,9 @@ impl Reader {
         ensures empty { OnErr result (self.new ≡ []) }
         ensures cause { HasCause (S.faults source.old) (S.faults source.new) result }
     {
-        let count = source.read(&mut self.piece)?;
         self.next = 0;
-        self.end = count;
+        self.end = 0;
+        self.end = source.read(&mut self.piece)?;
         Ok(())
     }
 

@@ -40,7 +40,10 @@ fn step<S: Source, K: Sink>(
     ensures later_out { K.faults output.old ≤ K.faults output.new }
 {
     match reader.next(input) {
-        Ok(Some(byte)) => take_byte(alloc, scan, byte, output),
+        Ok(Some(byte)) => match take_byte(alloc, scan, byte, output) {
+            Ok(()) => Ok(()),
+            Err(status) => Err(status),
+        },
         Ok(None) => Err(end_input(alloc, scan, output)),
         Err(error) => Err(input_status(error)),
     }

@@ -1,4 +1,3 @@
-
 /// How a run ended.
 #[derive(Clone, Copy, Debug, PartialEq, Eq, Drop)]
 pub enum Status {
