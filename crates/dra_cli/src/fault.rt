@@ -1,0 +1,43 @@
+use replay_core::Status;
+use std::fmt;
+
+/// What the program says on the standard error of how its run ended: what was wrong, where (an
+/// offset counts the bytes of the input from 0), and what would be right. The words are free.
+#[derive(Clone, Copy, Debug, PartialEq, Eq, Drop)]
+pub struct Fault(pub Status);
+
+impl fmt::Display for Fault {
+    fn fmt<W: fmt::Write>(&self, f: &mut fmt::Formatter<W>) -> fmt::Result {
+        match self.0 {
+            Status::Done => f.write_str("all was done"),
+            Status::Usage => f.write_str(
+                "these words are no command; the one command is `replay`\nusage: dra replay < script",
+            ),
+            Status::Document(at) => write!(
+                f,
+                "the document at byte {at} is not a command; each line is empty or one JSON \
+                 document of at most 2097152 bytes: an object of the Kubernetes API to apply, or a \
+                 command of dra.replay/v1"
+            ),
+            Status::Memory => {
+                f.write_str("memory ran out; a smaller script or more memory would do")
+            }
+            Status::Read => f.write_str(
+                "the standard input could not be read; it has to be a script, as a file or a pipe",
+            ),
+            Status::Write => f.write_str(
+                "the standard output could not be written; it has to be open and have room",
+            ),
+            Status::Limit(count) => write!(
+                f,
+                "the limit of {count} was met; a history has at most 1000000 entries, and a script \
+                 at most 1073741824 bytes"
+            ),
+            Status::NotYet(at) => write!(
+                f,
+                "the command at byte {at} has a form that is not done yet; docs/FORMATS.md says \
+                 which forms are"
+            ),
+        }
+    }
+}

@@ -1,0 +1,55 @@
+//! The program `dra`: `dra replay < script` replays a script of the Kubernetes API's objects and
+//! prints the journal of what was decided.
+#![tactic(auto)]
+
+mod fault;
+mod program;
+mod stdio;
+
+use fault::Fault;
+use program::{exit_number, run};
+use replay_core::Status;
+use std::env;
+use std::io::{self, ErrorKind};
+use std::process::ExitCode;
+use stdio::{StdSink, StdSource};
+
+#[cfg(test)]
+mod tests;
+
+/// The words of this call after the program's name.
+fn words_of_call(rt: &HostRuntime) -> io::Result<Vec<String>> {
+    let mut words: Vec<String> = env::args(rt)?.collect(rt.alloc())?;
+    if !words.is_empty() {
+        words.remove(0);
+    }
+    Ok(words)
+}
+
+/// Does what the words of this call ask, over the standard input and output.
+fn run_here(rt: &HostRuntime) -> Status {
+    match words_of_call(rt) {
+        Ok(words) => run(
+            rt,
+            &words,
+            &mut StdSource::new(rt.stdin()),
+            &mut StdSink::new(rt.stdout()),
+        ),
+        Err(error) => {
+            if error.kind() == ErrorKind::OutOfMemory {
+                Status::Memory
+            } else {
+                Status::Usage
+            }
+        }
+    }
+}
+
+fn main(rt: HostRuntime) -> ExitCode {
+    let status = run_here(&rt);
+    if status != Status::Done {
+        // Where the standard error fails, the exit status alone tells.
+        let _ = eprintln!(rt; "dra: {}", Fault(status));
+    }
+    ExitCode::from(exit_number(status))
+}

@@ -1,0 +1,75 @@
+ghost use Rattle.std.specs.Prelude.{◌≡◌, ◌↔◌, ◌⊎◌, ℕ, IsTrue, map, string_bytes};
+ghost use Rattle.std.specs.Io.KnownBytes.{IsAtEnd};
+ghost use Rattle.dra_ports.specs.Causes.{Rose};
+ghost use Rattle.replay_core.specs.Replay.{EndsAt, EndsDone, EndsFull, EndsNotYet, EndsRead, EndsShort};
+ghost use Rattle.replay_core.specs.Script.{Bad, Long, most_input};
+ghost use Rattle.dra_cli.specs.Program.{AsksReplay, exit_number, most_entries};
+
+use dra_ports::{Sink, Source};
+use replay_core::{Status, replay};
+
+/// The most entries of a history.
+const MOST_ENTRIES: u64 = 1_000_000;
+
+/// Whether the words ask for a replay.
+fn is_replay(words: &[String]) -> bool
+    ensures { IsTrue result ↔ AsksReplay (map string_bytes words.now) }
+{
+    match words {
+        [word] => word.as_str() == "replay",
+        _ => false,
+    }
+}
+
+/// Does what the words of a call ask, which come without the program's name, over the objects that
+/// are handed in: `replay` replays the script that the input is and prints to the output.
+///
+/// `Usage` comes exactly where the words are other than the one word `replay`, and then nothing was
+/// read or written. `Document` comes where what stands there isn't a command, `Memory` only where
+/// memory runs out, `Read` and `Write` only where that object's count of faults rose in this call,
+/// `Limit` where a history of 1,000,000 entries is to have one more or the input has more than 2^30
+/// bytes, and `NotYet` where a command has a form that isn't done yet. What was printed with each
+/// is the lines of the commands done before (this project's own rule); with `Memory` and `Write` it
+/// is a front of them.
+pub fn run<R: AllocGlobal, S: Source, K: Sink>(
+    rt: &R,
+    words: &Vec<String>,
+    input: &mut S,
+    output: &mut K,
+) -> Status
+    ensures usage { result ≡ Status.Usage ↔ (AsksReplay (map string_bytes words.now.items) → ⊥) }
+    ensures usage_input { result ≡ Status.Usage → input.new ≡ input.old }
+    ensures usage_output { result ≡ Status.Usage → output.new ≡ output.old }
+    ensures done { result ≡ Status.Done → EndsDone (S.left input.old) (K.written output.old) (K.written output.new) }
+    ensures all_read { result ≡ Status.Done → IsAtEnd (S.left input.new) }
+    ensures document { (at : ℕ) → result ≡ Status.Document at → EndsAt (Bad at) (S.left input.old) (K.written output.old) (K.written output.new) }
+    ensures memory { result ≡ Status.Memory → EndsShort most_entries (S.left input.old) (K.written output.old) (K.written output.new) }
+    ensures read { result ≡ Status.Read → Rose (S.faults input.old) (S.faults input.new) }
+    ensures read_prints { result ≡ Status.Read → EndsRead (S.left input.old) (S.left input.new) (K.written output.old) (K.written output.new) }
+    ensures write { result ≡ Status.Write → Rose (K.faults output.old) (K.faults output.new) }
+    ensures write_prints { result ≡ Status.Write → EndsShort most_entries (S.left input.old) (K.written output.old) (K.written output.new) }
+    ensures limit { (count : ℕ) → result ≡ Status.Limit count → EndsFull most_entries count (S.left input.old) (K.written output.old) (K.written output.new) ⊎ ((count ≡ most_input) × EndsAt Long (S.left input.old) (K.written output.old) (K.written output.new)) }
+    ensures not_yet { (at : ℕ) → result ≡ Status.NotYet at → EndsNotYet at (S.left input.old) (K.written output.old) (K.written output.new) }
+{
+    if is_replay(words) {
+        replay(rt.alloc(), MOST_ENTRIES, input, output)
+    } else {
+        Status::Usage
+    }
+}
+
+/// The exit status of the program for how its run ended (this project's own numbers).
+pub fn exit_number(status: Status) -> u8
+    ensures { result ≡ exit_number status }
+{
+    match status {
+        Status::Done => 0,
+        Status::Usage => 2,
+        Status::Document(_) => 3,
+        Status::Memory => 4,
+        Status::Read => 5,
+        Status::Write => 6,
+        Status::Limit(_) => 8,
+        Status::NotYet(_) => 11,
+    }
+}
