@@ -1,3 +1,4 @@
 pub mod Histories
 pub mod Stands
 pub mod GoingOn
+pub mod Headlines
