@@ -2,3 +2,4 @@ pub mod Histories
 pub mod Stands
 pub mod GoingOn
 pub mod Headlines
+pub mod Holders

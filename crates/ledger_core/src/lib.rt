@@ -10,6 +10,6 @@ mod room;
 
 pub use entry::{Entry, Event, Stand};
 pub use error::LedgerError;
-pub use headline::{grants_are_allocations, legal_steps, verdicts_are_true};
+pub use headline::{grants_are_allocations, legal_steps, one_holder, verdicts_are_true};
 pub use laws::{histories_grow, reserved_goes_on};
 pub use ledger::{Done, Ledger};
