@@ -9,3 +9,4 @@ pub mod Walks
 pub mod Wanted
 pub mod Bridge
 pub mod Decided
+pub mod Holding

@@ -7,3 +7,4 @@ pub mod Allocation
 pub mod Plans
 pub mod Fits
 pub mod Decisions
+pub mod Held

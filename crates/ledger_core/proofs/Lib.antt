@@ -1,3 +1,5 @@
 pub mod Histories
 pub mod Stands
 pub mod GoingOn
+pub mod Headlines
+pub mod Holders

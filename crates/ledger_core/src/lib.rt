@@ -3,11 +3,13 @@
 
 mod entry;
 mod error;
+mod headline;
 mod laws;
 mod ledger;
 mod room;
 
 pub use entry::{Entry, Event, Stand};
 pub use error::LedgerError;
+pub use headline::{grants_are_allocations, legal_steps, one_holder, verdicts_are_true};
 pub use laws::{histories_grow, reserved_goes_on};
 pub use ledger::{Done, Ledger};

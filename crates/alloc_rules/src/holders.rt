@@ -1,0 +1,19 @@
+ghost use Rattle.std.specs.Prelude.{◌≤◌, ℕ, List, length};
+ghost use Rattle.object_fields.specs.declared.key.Key.{Key};
+ghost use Rattle.alloc_rules.specs.declared.object.Object.{Object};
+ghost use Rattle.alloc_rules.specs.declared.state.State.{State};
+ghost use Rattle.alloc_rules.specs.declared.plan.Plan.{Plan};
+ghost use Rattle.alloc_rules.specs.State.{empty_state, with_bound, with_object, with_reserved, with_written, IsAbsent};
+ghost use Rattle.alloc_rules.specs.Plans.{Holds};
+ghost use Rattle.alloc_rules.specs.Held.{HeldOnce};
+
+/// Each device has one holder: it is so where there is nothing yet, and every change keeps it so. A
+/// change that reserves keeps it where nothing stands against the plan, and the plan grants at most
+/// one claim.
+pub fn one_holder_is_kept()
+    ensures empty { HeldOnce empty_state }
+    ensures created { (place : ℕ) (object : Object) (s : State) → IsAbsent s object → HeldOnce s → HeldOnce (with_object place object s) }
+    ensures reserved { (s : State) (job : ℕ) (pod : Key) (plan : Plan) → Holds s pod plan → length plan.grants ≤ 1 → HeldOnce s → HeldOnce (with_reserved job pod plan s) }
+    ensures written { (place : ℕ) (pod claim : Key) (s : State) → HeldOnce s → HeldOnce (with_written place pod claim s) }
+    ensures bound { (pod : Key) (node : List ℕ) (s : State) → HeldOnce s → HeldOnce (with_bound pod node s) }
+{}

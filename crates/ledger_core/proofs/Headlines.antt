@@ -1,0 +1,94 @@
+-- What a legal history says of each of its entries.
+use Rattle.std.proofs.Common.{ℕ, ◌≡◌, ◌∙◌, List, [], ◌∷◌, ◌++◌, true, sym, subst, append_assoc, append-nil}
+use Rattle.std.specs.List.{All, Contains}
+use Rattle.std.specs.Map.{keys_of}
+use Rattle.std.specs.Option.{IsSome}
+use Rattle.std.specs.Ordering.{eq_by_cmp}
+use Rattle.std.specs.Cmp.Lexicographic.{same_text, texts_ties}
+use Rattle.std.proofs.lemmas.List.Elements.{All-contains, All-map, All-weaker}
+use Rattle.std.proofs.lemmas.Map.Views.{Contains-keys_from_lookup}
+use Rattle.object_fields.specs.declared.key.Key.{Key}
+use Rattle.api_cluster.specs.declared.types.Pod.{Pod}
+use Rattle.alloc_rules.specs.declared.state.State.{State}
+use Rattle.alloc_rules.specs.declared.plan.Cause.{Cause}
+use Rattle.alloc_rules.specs.declared.plan.Cause.TheVariants as cause
+use Rattle.alloc_rules.specs.declared.plan.Grant.{Grant}
+use Rattle.alloc_rules.specs.declared.plan.Passed.{Passed}
+use Rattle.alloc_rules.specs.declared.plan.Plan.{Plan}
+use Rattle.alloc_rules.specs.declared.plan.Verdict.{Verdict}
+use Rattle.alloc_rules.specs.Names.{at_name, text_cmp}
+use Rattle.alloc_rules.specs.Claims.{wanted}
+use Rattle.alloc_rules.specs.Allocation.{IsAllocation}
+use Rattle.alloc_rules.specs.Plans.{CauseTrue, IsUnsat, VerdictTrue, nodes_of}
+use Rattle.ledger_core.specs.declared.entry.Entry.{Entry}
+use Rattle.ledger_core.specs.declared.entry.Event.TheVariants.{Reserved, Judged}
+use Rattle.ledger_core.specs.History.{state_at, MayReserve, MayJudge, Step, LegalAfter, Legal}
+use Rattle.ledger_core.specs.Headline.{IsGrantOf, IsVerdictOf}
+
+step_after : (before front : List Entry) (e : Entry) (back : List Entry) → LegalAfter before (front ++ e ∷ back) → Step (before ++ front) e
+unfolding LegalAfter
+step_after before [] e back legal = subst (λ (xs : List Entry). Step xs e) (sym (append-nil before)) legal.0
+step_after before (d ∷ front) e back legal =
+    subst (λ (xs : List Entry). Step xs e) (append_assoc before (d ∷ []) front) (step_after (before ++ d ∷ []) front e back legal.1)
+
+-- each entry of a legal history may follow those before it
+pub step_at : (front : List Entry) (e : Entry) (back : List Entry) → Legal (front ++ e ∷ back) → Step front e
+unfolding Legal
+step_at front e back legal = step_after [] front e back legal
+
+front_after : (before front back : List Entry) → LegalAfter before (front ++ back) → LegalAfter before front
+unfolding LegalAfter
+front_after before [] back legal = tt
+front_after before (d ∷ front) back legal = (legal.0, front_after (before ++ d ∷ []) front back legal.1)
+
+-- the front of a legal history is legal
+pub front_legal : (front back : List Entry) → Legal (front ++ back) → Legal front
+unfolding Legal
+front_legal front back legal = front_after [] front back legal
+
+grant_of : (before : List Entry) (pod : Key) (plan : Plan) → MayReserve before pod plan → IsGrantOf before pod plan
+grant_of before pod plan may =
+    record { state = may.holds_now.state; there = may.holds_now.idle.there; choice = may.holds_now.choice; allocation = may.holds_now.allocation }
+
+-- each reservation of a legal history grants an allocation
+pub grant_at : (front back : List Entry) (job : ℕ) (pod : Key) (plan : Plan) → Legal (front ++ record { job = job; event = Reserved pod plan } ∷ back) → IsGrantOf front pod plan
+grant_at front back job pod plan legal = grant_of front pod plan (step_at front (record { job = job; event = Reserved pod plan }) back legal).stands
+
+unsat_by : (s : State) (pod : Pod) (node : List ℕ) (c : Cause) → CauseTrue s pod node c → IsUnsat s pod node
+unsat_by s pod node cause.Unsat h = h
+
+-- each of the nodes that the verdict names has none
+unsat_among : (s : State) (pod : Pod) (ps : List Passed) (node : List ℕ) → All (λ p. CauseTrue s pod p.node p.cause) ps → Contains (nodes_of ps) node → IsUnsat s pod node
+unsat_among s pod ps node causes among =
+    All-contains (λ (n : List ℕ). IsUnsat s pod n) (nodes_of ps) node
+    (All-map (λ (n : List ℕ). IsUnsat s pod n) (λ (p : Passed). p.node) ps
+    (All-weaker (λ (p : Passed). CauseTrue s pod p.node p.cause) (λ (p : Passed). IsUnsat s pod p.node) (λ p h. unsat_by s pod p.node p.cause h) ps causes))
+    among
+
+same_by_cmp : (a b : List ℕ) → eq_by_cmp text_cmp a b ≡ true → a ≡ b
+same_by_cmp a b e = same_text a b (sym (texts_ties a b ∙ e))
+
+-- a node that is there is one of the nodes' names
+known_by_name : {V : Type 0} (table : List (List ℕ × V)) (name : List ℕ) → IsSome (at_name table name) → Contains (keys_of table) name
+known_by_name table name there = Contains-keys_from_lookup same_by_cmp name table there
+
+verdict_none : (s : State) (pod : Key) (verdict : Verdict) (t : VerdictTrue s pod verdict) (node choice : List ℕ) (grants : List Grant)
+    → IsAllocation s (wanted s t.state.pod.object) node choice grants → ⊥
+verdict_none s pod verdict t node choice grants a =
+    let among : Contains (nodes_of verdict.nodes) node =
+    subst (λ (names : List (List ℕ)). Contains names node) (sym t.nodes) (known_by_name s.nodes node a.node_known) in
+    (unsat_among s t.state.pod.object verdict.nodes node t.causes among).none choice grants a
+
+verdict_of : (before : List Entry) (pod : Key) (verdict : Verdict) → MayJudge before pod verdict → IsVerdictOf before pod verdict
+verdict_of before pod verdict may =
+    record {
+      at = may.at;
+      state = may.true_then.state;
+      there = may.true_then.idle.there;
+      none = verdict_none (state_at before verdict.at) pod verdict may.true_then;
+    }
+
+-- each verdict of a legal history is true
+pub verdict_at : (front back : List Entry) (job : ℕ) (pod : Key) (verdict : Verdict) → Legal (front ++ record { job = job; event = Judged pod verdict } ∷ back)
+    → IsVerdictOf front pod verdict
+verdict_at front back job pod verdict legal = verdict_of front pod verdict (step_at front (record { job = job; event = Judged pod verdict }) back legal).stands

@@ -1,0 +1,5 @@
+use Rattle.ledger_core.proofs.Headlines.{verdict_at}
+use Rattle.ledger_core.proofs.headline.verdicts_are_true.Goals as goal
+
+pub returns : goal.returns
+returns c = verdict_at

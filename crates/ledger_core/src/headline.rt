@@ -1,0 +1,42 @@
+ghost use Rattle.std.specs.Prelude.{◌++◌, ◌∷◌, ℕ, List};
+ghost use Rattle.object_fields.specs.declared.key.Key.{Key};
+ghost use Rattle.alloc_rules.specs.declared.plan.Plan.{Plan};
+ghost use Rattle.alloc_rules.specs.declared.plan.Verdict.{Verdict};
+ghost use Rattle.alloc_rules.specs.Held.{HeldOnce};
+ghost use Rattle.ledger_core.specs.declared.entry.Entry.{Entry};
+ghost use Rattle.ledger_core.specs.declared.entry.Event.{Event};
+ghost use Rattle.ledger_core.specs.History.{state_at, state_of, Legal, Step};
+ghost use Rattle.ledger_core.specs.Headline.{IsGrantOf, IsVerdictOf};
+
+use alloc_rules::{grants_at_most_one, one_holder_is_kept};
+
+/// Each entry of a legal history may follow the entries before it, and each front of a legal history
+/// is legal.
+pub fn legal_steps()
+    ensures step { (front : List Entry) (e : Entry) (back : List Entry) → Legal (front ++ e ∷ back) → Step front e }
+    ensures front { (front back : List Entry) → Legal (front ++ back) → Legal front }
+{}
+
+/// Each reservation of a legal history grants an allocation: in the state before it, the plan's
+/// grants are an allocation of the pod's claims without a grant on the plan's node.
+pub fn grants_are_allocations()
+    ensures { (front back : List Entry) (job : ℕ) (pod : Key) (plan : Plan) →
+        Legal (front ++ record { job = job; event = Event.Reserved pod plan } ∷ back) → IsGrantOf front pod plan }
+{}
+
+/// Each verdict of a legal history is true: at the verdict's place no node had an allocation for the
+/// pod.
+pub fn verdicts_are_true()
+    ensures { (front back : List Entry) (job : ℕ) (pod : Key) (verdict : Verdict) →
+        Legal (front ++ record { job = job; event = Event.Judged pod verdict } ∷ back) → IsVerdictOf front pod verdict }
+{}
+
+/// Each device has one holder after a legal history, and at each place of it: no device is held
+/// twice, by two claims or by one.
+pub fn one_holder()
+    ensures now { (h : List Entry) → Legal h → HeldOnce (state_of h) }
+    ensures always { (h : List Entry) (place : ℕ) → Legal h → HeldOnce (state_at h place) }
+{
+    grants_at_most_one();
+    one_holder_is_kept();
+}
