@@ -1,11 +1,13 @@
 ghost use Rattle.std.specs.Prelude.{◌≡◌, ◌↔◌, ◌⊎◌, ℕ, IsTrue, map, string_bytes};
 ghost use Rattle.std.specs.Io.KnownBytes.{IsAtEnd};
 ghost use Rattle.dra_ports.specs.Causes.{Rose};
-ghost use Rattle.replay_core.specs.Replay.{EndsAt, EndsDone, EndsFull, EndsNotYet, EndsRead, EndsShort};
+ghost use Rattle.replay_core.specs.Replay.{EndsAt, EndsFull, EndsNotYet, EndsRead, EndsShort};
 ghost use Rattle.replay_core.specs.Script.{Bad, Long, most_input};
+ghost use Rattle.dra_cli.specs.Headline.{Replayed};
 ghost use Rattle.dra_cli.specs.Program.{AsksReplay, exit_number, most_entries};
 
 use dra_ports::{Sink, Source};
+use ledger_core::{grants_are_allocations, one_holder, verdicts_are_true};
 use replay_core::{Status, replay};
 
 /// The most entries of a history.
@@ -40,7 +42,7 @@ pub fn run<R: AllocGlobal, S: Source, K: Sink>(
     ensures usage { result ≡ Status.Usage ↔ (AsksReplay (map string_bytes words.now.items) → ⊥) }
     ensures usage_input { result ≡ Status.Usage → input.new ≡ input.old }
     ensures usage_output { result ≡ Status.Usage → output.new ≡ output.old }
-    ensures done { result ≡ Status.Done → EndsDone (S.left input.old) (K.written output.old) (K.written output.new) }
+    ensures done { result ≡ Status.Done → Replayed (S.left input.old) (K.written output.old) (K.written output.new) }
     ensures all_read { result ≡ Status.Done → IsAtEnd (S.left input.new) }
     ensures document { (at : ℕ) → result ≡ Status.Document at → EndsAt (Bad at) (S.left input.old) (K.written output.old) (K.written output.new) }
     ensures memory { result ≡ Status.Memory → EndsShort most_entries (S.left input.old) (K.written output.old) (K.written output.new) }
@@ -51,6 +53,9 @@ pub fn run<R: AllocGlobal, S: Source, K: Sink>(
     ensures limit { (count : ℕ) → result ≡ Status.Limit count → EndsFull most_entries count (S.left input.old) (K.written output.old) (K.written output.new) ⊎ ((count ≡ most_input) × EndsAt Long (S.left input.old) (K.written output.old) (K.written output.new)) }
     ensures not_yet { (at : ℕ) → result ≡ Status.NotYet at → EndsNotYet at (S.left input.old) (K.written output.old) (K.written output.new) }
 {
+    grants_are_allocations();
+    verdicts_are_true();
+    one_holder();
     if is_replay(words) {
         replay(rt.alloc(), MOST_ENTRIES, input, output)
     } else {

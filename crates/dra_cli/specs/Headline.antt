@@ -1,0 +1,23 @@
+-- What the journal that a run prints says.
+use Rattle.std.specs.Prelude.{ℕ, ◌≡◌, List, ◌∷◌, ◌++◌, Option}
+use Rattle.object_fields.specs.declared.key.Key.{Key}
+use Rattle.alloc_rules.specs.declared.plan.Plan.{Plan}
+use Rattle.alloc_rules.specs.declared.plan.Verdict.{Verdict}
+use Rattle.alloc_rules.specs.Held.{HeldOnce}
+use Rattle.ledger_core.specs.declared.entry.Entry.{Entry}
+use Rattle.ledger_core.specs.declared.entry.Event.TheVariants.{Reserved, Judged}
+use Rattle.ledger_core.specs.History.{state_at}
+use Rattle.ledger_core.specs.Headline.{IsGrantOf, IsVerdictOf}
+use Rattle.replay_core.specs.Replay.{EndsDone}
+
+-- Each reservation grants an allocation over the state before it, each verdict names a place with
+-- no allocation, and at no place does a device have two holders.
+pub record IsTrueHistory (h : List Entry) : Type 0 where
+  pub grants : (front back : List Entry) (job : ℕ) (pod : Key) (plan : Plan) → h ≡ front ++ record { job = job; event = Reserved pod plan } ∷ back → IsGrantOf front pod plan
+  pub verdicts : (front back : List Entry) (job : ℕ) (pod : Key) (verdict : Verdict) → h ≡ front ++ record { job = job; event = Judged pod verdict } ∷ back → IsVerdictOf front pod verdict
+  pub holders : (place : ℕ) → HeldOnce (state_at h place)
+
+-- all commands of the script were done, what was written is the text of their history, and it is true
+pub record Replayed (left before after : Option (List ℕ)) : Type 0 where
+  pub ends : EndsDone left before after
+  pub history : IsTrueHistory ends.history
