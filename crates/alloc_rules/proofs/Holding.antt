@@ -409,3 +409,40 @@ once_reserved s job pod plan holds h =
     let after : Apart (held_in (with_grants plan.node pod (grants_for cs a.devices) s.claims)) =
     grants_apart plan.node pod cs a.devices s.claims (each_wanted s ks) (apart_wanted s (claim_keys holds.state.pod.object) []) (apart_of s h) (apart_from a.devices a.distinct) free in
     once_from (with_reserved job pod plan s) (subst (λ (gs : List Grant). Apart (held_in (with_grants plan.node pod gs s.claims))) (sym a.in_order) after)
+
+-- ---- what it says of two claims
+
+table_by : (test : Key → Bool) (b : Bool) (e : Key × ClaimState) (es : Claims) (c : ClaimState) (d : DeviceId) → cond b (Some e.1) (lookup test es) ≡ Some c → Contains (held_by c.grant) d
+    → (lookup test es ≡ Some c → Contains (held_in es) d) → Contains (held_in (e ∷ es)) d
+table_by test true e es c d is h later =
+    Contains-append_left (held_by e.1.grant) (held_in es) d (subst (λ (x : ClaimState). Contains (held_by x.grant) d) (sym (some_claim e.1 c is)) h)
+table_by test false e es c d is h later = Contains-append_right (held_by e.1.grant) (held_in es) d (later is)
+
+-- what a claim holds, the table holds
+in_table : (test : Key → Bool) (es : Claims) (c : ClaimState) (d : DeviceId) → lookup test es ≡ Some c → Contains (held_by c.grant) d → Contains (held_in es) d
+in_table test [] c d is h = absurd (cc)
+in_table test (e ∷ es) c d is h = table_by test (test e.0) e es c d is h (λ g. in_table test es c d g h)
+
+head_holds : (e : Key × ClaimState) (c : ClaimState) (d : DeviceId) → Some e.1 ≡ Some c → Contains (held_by c.grant) d → Contains (held_by e.1.grant) d
+head_holds e c d is h = subst (λ (x : ClaimState). Contains (held_by x.grant) d) (sym (some_claim e.1 c is)) h
+
+one_by : (e : Key × ClaimState) (es : Claims) (k l : Key) (c b : ClaimState) (d : DeviceId) (p q : Bool) → is_eq (key_cmp k e.0) ≡ p → is_eq (key_cmp l e.0) ≡ q → Apart (held_in (e ∷ es))
+    → cond p (Some e.1) (at_key es k) ≡ Some c → cond q (Some e.1) (at_key es l) ≡ Some b → Contains (held_by c.grant) d → Contains (held_by b.grant) d
+    → (at_key es k ≡ Some c → at_key es l ≡ Some b → k ≡ l) → k ≡ l
+one_by e es k l c b d true true kp lq a is at h g later = same_from_key_cmp k e.0 kp ∙ sym (same_from_key_cmp l e.0 lq)
+one_by e es k l c b d true false kp lq a is at h g later =
+    absurd (apart_disjoint (held_by e.1.grant) (held_in es) a d (head_holds e c d is h) (in_table (is_at (key_cmp l)) es b d at g))
+one_by e es k l c b d false true kp lq a is at h g later =
+    absurd (apart_disjoint (held_by e.1.grant) (held_in es) a d (head_holds e b d at g) (in_table (is_at (key_cmp k)) es c d is h))
+one_by e es k l c b d false false kp lq a is at h g later = later is at
+
+one_in : (es : Claims) (k l : Key) (c b : ClaimState) (d : DeviceId) → Apart (held_in es) → at_key es k ≡ Some c → at_key es l ≡ Some b → Contains (held_by c.grant) d → Contains (held_by b.grant) d
+    → k ≡ l
+one_in [] k l c b d a is at h g = absurd (cc)
+one_in (e ∷ es) k l c b d a is at h g =
+    one_by e es k l c b d (is_eq (key_cmp k e.0)) (is_eq (key_cmp l e.0)) refl refl a is at h g (λ m n. one_in es k l c b d (apart_back (held_by e.1.grant) (held_in es) a) m n h g)
+
+-- two claims that hold one device are one claim
+pub one_claim_holds : (s : State) (k l : Key) (c b : ClaimState) (d : DeviceId) → HeldOnce s → at_key s.claims k ≡ Some c → at_key s.claims l ≡ Some b → Contains (held_by c.grant) d
+    → Contains (held_by b.grant) d → k ≡ l
+one_claim_holds s k l c b d once is at h g = one_in s.claims k l c b d (apart_of s once) is at h g

@@ -1,8 +1,12 @@
-ghost use Rattle.std.specs.Prelude.{ℕ, List};
+ghost use Rattle.std.specs.Prelude.{◌≡◌, ℕ, List, Some, Contains};
 ghost use Rattle.object_fields.specs.declared.key.Key.{Key};
+ghost use Rattle.object_fields.specs.declared.key.DeviceId.{DeviceId};
 ghost use Rattle.alloc_rules.specs.declared.object.Object.{Object};
 ghost use Rattle.alloc_rules.specs.declared.state.State.{State};
+ghost use Rattle.alloc_rules.specs.declared.state.ClaimState.{ClaimState};
 ghost use Rattle.alloc_rules.specs.declared.plan.Plan.{Plan};
+ghost use Rattle.alloc_rules.specs.Names.{at_key};
+ghost use Rattle.alloc_rules.specs.Pools.{held_by};
 ghost use Rattle.alloc_rules.specs.State.{empty_state, with_bound, with_object, with_reserved, with_written, IsAbsent};
 ghost use Rattle.alloc_rules.specs.Plans.{Holds};
 ghost use Rattle.alloc_rules.specs.Held.{HeldOnce};
@@ -16,4 +20,10 @@ pub fn one_holder_is_kept()
     ensures reserved { (s : State) (job : ℕ) (pod : Key) (plan : Plan) → Holds s pod plan → HeldOnce s → HeldOnce (with_reserved job pod plan s) }
     ensures written { (place : ℕ) (pod claim : Key) (s : State) → HeldOnce s → HeldOnce (with_written place pod claim s) }
     ensures bound { (pod : Key) (node : List ℕ) (s : State) → HeldOnce s → HeldOnce (with_bound pod node s) }
+{}
+
+/// Where each device has one holder, two claims that hold the same device are the same claim.
+pub fn holders_are_one_claim()
+    ensures { (s : State) (k l : Key) (c b : ClaimState) (d : DeviceId) → HeldOnce s → at_key s.claims k ≡ Some c → at_key s.claims l ≡ Some b →
+        Contains (held_by c.grant) d → Contains (held_by b.grant) d → k ≡ l }
 {}
