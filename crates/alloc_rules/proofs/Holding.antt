@@ -1,9 +1,9 @@
 -- What each change leaves of the devices that claims hold.
-use Rattle.std.proofs.Common.{ℕ, zero, suc, ◌<◌, ◌≤◌, ◌≡◌, ◌≢◌, ◌∙◌, ◌⊎◌, inl, inr, ⊎_elim, get_or, List, [], ◌∷◌, ◌++◌, Bool, true, false, cond, Option, None, Some, length, refl, sym, ap, subst, arith, drop}
+use Rattle.std.proofs.Common.{ℕ, zero, suc, ◌<◌, ◌≡◌, ◌≢◌, ◌∙◌, ◌⊎◌, inl, inr, ⊎_elim, get_or, List, [], ◌∷◌, ◌++◌, Bool, true, false, true≢false, cond, ◌||◌, Option, None, Some, length, refl, sym, ap, subst, arith, drop}
 use Rattle.std.specs.List.{Contains, flat_map, slice_get}
 use Rattle.std.specs.Map.{lookup, set_value}
 use Rattle.std.specs.Option.{option_map, option_map_or}
-use Rattle.std.specs.Ordering.{is_eq, match_ordering}
+use Rattle.std.specs.Ordering.{is_eq, match_ordering, ordering_then}
 use Rattle.std.specs.BTreeMap.{insert_entry, is_at}
 use Rattle.std.specs.declared.cmp.Ordering.{Ordering}
 use Rattle.std.specs.declared.cmp.Ordering.TheVariants.{Less, Equal, Greater}
@@ -16,12 +16,17 @@ use Rattle.api_claim.specs.declared.types.ResourceClaim.{ResourceClaim}
 use Rattle.alloc_rules.specs.declared.object.Object.{Object}
 use Rattle.alloc_rules.specs.declared.object.Object.TheVariants as object
 use Rattle.alloc_rules.specs.declared.plan.Grant.{Grant}
+use Rattle.alloc_rules.specs.declared.plan.DeviceResult.{DeviceResult}
 use Rattle.alloc_rules.specs.declared.plan.Plan.{Plan}
 use Rattle.alloc_rules.specs.declared.state.ClaimState.{ClaimState}
 use Rattle.alloc_rules.specs.declared.state.Granted.{Granted}
 use Rattle.alloc_rules.specs.declared.state.State.{State}
 use Rattle.alloc_rules.specs.declared.state.Use.TheVariants.{Assumed}
-use Rattle.alloc_rules.specs.Names.{at_key, key_cmp}
+use Rattle.alloc_rules.specs.Names.{at_key, key_cmp, key_eq, text_cmp, text_eq}
+use Rattle.alloc_rules.proofs.Names.{same_from_text_eq, text_eq-same}
+use Rattle.std.proofs.lemmas.Bool.{and_from}
+use Rattle.std.specs.List.{list_any}
+use Rattle.std.specs.Cmp.Lexicographic.{texts_ties}
 use Rattle.alloc_rules.specs.State.{as_published, created, empty_state, IsAbsent, with_bound, with_grant, with_grants, with_object, with_reserved, with_written, written_by}
 use Rattle.alloc_rules.specs.Pools.{devices_held, held, held_by}
 use Rattle.alloc_rules.specs.Claims.{add_ungranted, add_wanted, claim_keys, first_places, wanted, wanted_of}
@@ -187,43 +192,172 @@ results_apart [] ds a = tt
 results_apart (r ∷ rs) [] a = tt
 results_apart (r ∷ rs) (x ∷ xs) a = (λ c. a.0 (results_in rs xs x c), results_apart rs xs a.1)
 
+in_drop : (n : ℕ) (ds : List DeviceId) (d : DeviceId) → Contains (drop n ds) d → Contains ds d
+in_drop zero ds d h = h
+in_drop (suc n) [] d h = h
+in_drop (suc n) (x ∷ xs) d h = tail_in x xs d (in_drop n xs d h)
+
+apart_drop : (n : ℕ) (ds : List DeviceId) → Apart ds → Apart (drop n ds)
+apart_drop zero ds a = a
+apart_drop (suc n) [] a = a
+apart_drop (suc n) (x ∷ xs) a = apart_drop n xs a.1
+
+-- the devices of one grant are none of the later grants'
+results_drop : (rs : List DeviceRequest) (ds : List DeviceId) → Apart ds → Disjoint (drop (length rs) ds) (devices_held (results_for rs ds))
+results_drop [] ds a d h g = none_in_nil d g
+results_drop (r ∷ rs) [] a d h g = none_in_nil d g
+results_drop (r ∷ rs) (x ∷ xs) a d h g =
+    ⊎_elim (λ (e : x ≡ d). a.0 (subst (λ (w : DeviceId). Contains xs w) (sym e) (in_drop (length rs) xs d h))) (λ (k : Contains (devices_held (results_for rs xs)) d). results_drop rs xs a.1 d h k)
+    (head_or x (devices_held (results_for rs xs)) d g)
+
+-- ---- the keys of the claims that are granted
+
+same_from_text_cmp : (a b : List ℕ) → is_eq (text_cmp a b) ≡ true → a ≡ b
+same_from_text_cmp a b e = same_from_text_eq a b (texts_ties a b ∙ e)
+
+same_names : (m n a b : List ℕ) → m ≡ n → a ≡ b → ◌≡◌ {A = Key} (record { namespace = m; name = a }) (record { namespace = n; name = b })
+same_names m n a b e f = cc
+
+then_by : (o p : Ordering) → is_eq (ordering_then o p) ≡ true → (is_eq o ≡ true) × (is_eq p ≡ true)
+then_by Less p e = absurd (cc)
+then_by Equal p e = (refl, e)
+then_by Greater p e = absurd (cc)
+
+same_from_key_cmp : (a b : Key) → is_eq (key_cmp a b) ≡ true → a ≡ b
+same_from_key_cmp a b e =
+    let parts = then_by (text_cmp a.namespace b.namespace) (text_cmp a.name b.name) e in
+    same_names a.namespace b.namespace a.name b.name (same_from_text_cmp a.namespace b.namespace parts.0) (same_from_text_cmp a.name b.name parts.1)
+
+key_eq-same : (k : Key) → key_eq k k ≡ true
+key_eq-same k = and_from (text_eq k.namespace k.namespace) (text_eq k.name k.name) (text_eq-same k.namespace) (text_eq-same k.name)
+
+skip_by : (e : Key × ClaimState) (es : Claims) (k l : Key) (w : ClaimState) (b c : Bool) → k ≢ l → is_eq (key_cmp k e.0) ≡ b → is_eq (key_cmp l e.0) ≡ c
+    → at_key (set_value (is_at (key_cmp k)) es w) l ≡ at_key es l → at_key (set_value (is_at (key_cmp k)) (e ∷ es) w) l ≡ at_key (e ∷ es) l
+skip_by e es k l w true true n is at later = absurd (n (same_from_key_cmp k e.0 is ∙ sym (same_from_key_cmp l e.0 at)))
+skip_by e es k l w true false n is at later = rw (is) (rw (at) refl)
+skip_by e es k l w false c n is at later = rw (is) (ap (λ o. cond (is_eq (key_cmp l e.0)) (Some e.1) o) later)
+
+-- what is written at a key leaves the others
+skip_there : (es : Claims) (k l : Key) (w : ClaimState) → k ≢ l → at_key (set_value (is_at (key_cmp k)) es w) l ≡ at_key es l
+skip_there [] k l w n = refl
+skip_there (e ∷ es) k l w n = skip_by e es k l w (is_eq (key_cmp k e.0)) (is_eq (key_cmp l e.0)) n refl refl (skip_there es k l w n)
+
 -- a claim that is there without a grant
-record Ungranted (s : State) (k : Key) : Type 0 where
+record Ungranted (claims : Claims) (k : Key) : Type 0 where
   claim : ClaimState
-  is_there : at_key s.claims k ≡ Some claim
+  is_there : at_key claims k ≡ Some claim
   none : claim.grant ≡ None
 
-head_key : (k : Key) (x c : ResourceClaim) (xs cs : List ResourceClaim) → record x { key = k } ∷ xs ≡ c ∷ cs → k ≡ c.key
-head_key k x c xs cs e = cc
+abbrev EachUngranted : Claims → List ResourceClaim → Type 0
+EachUngranted claims [] = Unit {0}
+EachUngranted claims (c ∷ cs) = Ungranted claims c.key × EachUngranted claims cs
 
-ungranted_with : (s : State) (k : Key) (x : ClaimState) (g : Option Granted) (others : List ResourceClaim) (c : ResourceClaim) (rest : List ResourceClaim) → at_key s.claims k ≡ Some x → x.grant ≡ g
-    → add_ungranted k x g others ≡ c ∷ rest → (others ≡ c ∷ rest → Ungranted s c.key) → Ungranted s c.key
-ungranted_with s k x None others c rest is none e later =
-    subst (λ (l : Key). Ungranted s l) (head_key k x.claim.object c others rest e) (record { claim = x; is_there = is; none = none })
-ungranted_with s k x (Some g) others c rest is none e later = later e
+-- none of the claims has the key
+abbrev Away : Key → List ResourceClaim → Type 0
+Away k [] = Unit {0}
+Away k (c ∷ cs) = (k ≢ c.key) × Away k cs
 
-ungranted_by : (s : State) (k : Key) (o : Option ClaimState) (others : List ResourceClaim) (c : ResourceClaim) (rest : List ResourceClaim) → at_key s.claims k ≡ o
-    → add_wanted k o others ≡ c ∷ rest → (others ≡ c ∷ rest → Ungranted s c.key) → Ungranted s c.key
-ungranted_by s k None others c rest is e later = later e
-ungranted_by s k (Some x) others c rest is e later = ungranted_with s k x x.grant others c rest is refl e later
+abbrev KeysApart : List ResourceClaim → Type 0
+KeysApart [] = Unit {0}
+KeysApart (c ∷ cs) = Away c.key cs × KeysApart cs
 
-ungranted : (s : State) (ks : List Key) (c : ResourceClaim) (rest : List ResourceClaim) → wanted_of s ks ≡ c ∷ rest → Ungranted s c.key
-ungranted s [] c rest e = absurd (cc)
-ungranted s (k ∷ ks) c rest e = ungranted_by s k (at_key s.claims k) (wanted_of s ks) c rest refl e (λ f. ungranted s ks c rest f)
+each_with : (claims : Claims) (k : Key) (x : ClaimState) (g : Option Granted) (others : List ResourceClaim) → at_key claims k ≡ Some x → x.grant ≡ g → EachUngranted claims others
+    → EachUngranted claims (add_ungranted k x g others)
+each_with claims k x None others is none each = (record { claim = x; is_there = is; none = none }, each)
+each_with claims k x (Some g) others is none each = each
 
-granted_apart : (node : List ℕ) (pod : Key) (s : State) (c : ResourceClaim) (ds : List DeviceId) → Ungranted s c.key → Apart (held_in s.claims) → Apart ds → Disjoint ds (held_in s.claims)
-    → Apart (held_in (with_grant node pod c.key (results_for c.requests ds) s.claims))
-granted_apart node pod s c ds u olds news apart =
-    let give : ClaimState → ClaimState = λ x.
-    record x { grant = Some (record { node = node; results = results_for c.requests ds; published = false }); users = insert_entry key_cmp x.users pod (Assumed x.claim.version) } in
-    let given = given_held (is_at (key_cmp c.key)) s.claims u.claim (give u.claim) u.is_there u.none (results_apart c.requests ds news) olds (λ d h g. apart d (results_in c.requests ds d h) g) in
-    subst (λ (o : Option ClaimState). Apart (held_in (option_map_or (λ x. set_value (is_at (key_cmp c.key)) s.claims (give x)) o s.claims))) (sym u.is_there) given.apart
+each_by : (claims : Claims) (k : Key) (o : Option ClaimState) (others : List ResourceClaim) → at_key claims k ≡ o → EachUngranted claims others → EachUngranted claims (add_wanted k o others)
+each_by claims k None others is each = each
+each_by claims k (Some x) others is each = each_with claims k x x.grant others is refl each
 
-reserved_with : (node : List ℕ) (pod : Key) (s : State) (ks : List Key) (cs : List ResourceClaim) (ds : List DeviceId) → wanted_of s ks ≡ cs → length cs ≤ 1 → Apart (held_in s.claims) → Apart ds
-    → Disjoint ds (held_in s.claims) → Apart (held_in (with_grants node pod (grants_for cs ds) s.claims))
-reserved_with node pod s ks [] ds e le olds news apart = olds
-reserved_with node pod s ks (c ∷ []) ds e le olds news apart = granted_apart node pod s c ds (ungranted s ks c [] e) olds news apart
-reserved_with node pod s ks (c ∷ d ∷ cs) ds e le olds news apart = absurd (omega (arith, le))
+each_wanted : (s : State) (ks : List Key) → EachUngranted s.claims (wanted_of s ks)
+each_wanted s [] = tt
+each_wanted s (k ∷ ks) = each_by s.claims k (at_key s.claims k) (wanted_of s ks) refl (each_wanted s ks)
+
+away_with : (k l : Key) (x : ClaimState) (g : Option Granted) (others : List ResourceClaim) → k ≢ l → Away k others → Away k (add_ungranted l x g others)
+away_with k l x None others n away = (n, away)
+away_with k l x (Some g) others n away = away
+
+away_by : (k l : Key) (o : Option ClaimState) (others : List ResourceClaim) → k ≢ l → Away k others → Away k (add_wanted l o others)
+away_by k l None others n away = away
+away_by k l (Some x) others n away = away_with k l x x.grant others n away
+
+away_if : (s : State) (k l : Key) (seen ks : List Key) (b : Bool) → list_any (λ m. key_eq m l) seen ≡ b → list_any (λ m. key_eq m k) seen ≡ true → Away k (wanted_of s (first_places seen ks))
+    → Away k (wanted_of s (first_places (l ∷ seen) ks)) → Away k (wanted_of s (cond b (first_places seen ks) (l ∷ first_places (l ∷ seen) ks)))
+away_if s k l seen ks true is at here later = here
+away_if s k l seen ks false is at here later =
+    away_by k l (at_key s.claims l) (wanted_of s (first_places (l ∷ seen) ks))
+    (λ (e : k ≡ l). true≢false (sym at ∙ ap (λ (x : Key). list_any (λ m. key_eq m x) seen) e ∙ is)) later
+
+or_right : (b c : Bool) → c ≡ true → (b || c) ≡ true
+or_right true c e = refl
+or_right false c e = e
+
+-- a key that was seen comes no more
+away_seen : (s : State) (k : Key) (ks seen : List Key) → list_any (λ m. key_eq m k) seen ≡ true → Away k (wanted_of s (first_places seen ks))
+away_seen s k [] seen at = tt
+away_seen s k (l ∷ ks) seen at =
+    away_if s k l seen ks (list_any (λ m. key_eq m l) seen) refl at (away_seen s k ks seen at) (away_seen s k ks (l ∷ seen) (or_right (key_eq l k) (list_any (λ m. key_eq m k) seen) at))
+
+apart_with : (k : Key) (x : ClaimState) (g : Option Granted) (others : List ResourceClaim) → Away k others → KeysApart others → KeysApart (add_ungranted k x g others)
+apart_with k x None others away a = (away, a)
+apart_with k x (Some g) others away a = a
+
+apart_by : (k : Key) (o : Option ClaimState) (others : List ResourceClaim) → Away k others → KeysApart others → KeysApart (add_wanted k o others)
+apart_by k None others away a = a
+apart_by k (Some x) others away a = apart_with k x x.grant others away a
+
+apart_if : (s : State) (l : Key) (seen ks : List Key) (b : Bool) → KeysApart (wanted_of s (first_places seen ks)) → KeysApart (wanted_of s (first_places (l ∷ seen) ks))
+    → KeysApart (wanted_of s (cond b (first_places seen ks) (l ∷ first_places (l ∷ seen) ks)))
+apart_if s l seen ks true here later = here
+apart_if s l seen ks false here later =
+    apart_by l (at_key s.claims l) (wanted_of s (first_places (l ∷ seen) ks))
+    (away_seen s l ks (l ∷ seen) (ap (λ b. b || list_any (λ m. key_eq m l) seen) (key_eq-same l))) later
+
+-- the claims that a pod wants have keys that differ
+apart_wanted : (s : State) (ks seen : List Key) → KeysApart (wanted_of s (first_places seen ks))
+apart_wanted s [] seen = tt
+apart_wanted s (l ∷ ks) seen = apart_if s l seen ks (list_any (λ m. key_eq m l) seen) (apart_wanted s ks seen) (apart_wanted s ks (l ∷ seen))
+
+-- ---- the grants of a plan
+
+abbrev granted : List ℕ → Key → List DeviceResult → ClaimState → ClaimState
+granted node pod results x = record x { grant = Some (record { node = node; results = results; published = false }); users = insert_entry key_cmp x.users pod (Assumed x.claim.version) }
+
+grant_sets : (node : List ℕ) (pod k : Key) (results : List DeviceResult) (claims : Claims) (u : Ungranted claims k)
+    → with_grant node pod k results claims ≡ set_value (is_at (key_cmp k)) claims (granted node pod results u.claim)
+grant_sets node pod k results claims u = ap (λ o. option_map_or (λ x. set_value (is_at (key_cmp k)) claims (granted node pod results x)) o claims) u.is_there
+
+-- the other claims have no grant as before
+each_kept : (node : List ℕ) (pod k : Key) (results : List DeviceResult) (claims : Claims) (u : Ungranted claims k) (cs : List ResourceClaim) → Away k cs → EachUngranted claims cs
+    → EachUngranted (with_grant node pod k results claims) cs
+each_kept node pod k results claims u [] away each = tt
+each_kept node pod k results claims u (c ∷ cs) away each = (
+  record {
+    claim = each.0.claim;
+    is_there = ap (λ (es : Claims). at_key es c.key) (grant_sets node pod k results claims u)
+        ∙ skip_there claims k c.key (granted node pod results u.claim) away.0 ∙ each.0.is_there;
+    none = each.0.none;
+  },
+  each_kept node pod k results claims u cs away.1 each.1,
+)
+
+grant_given : (node : List ℕ) (pod : Key) (claims : Claims) (c : ResourceClaim) (ds : List DeviceId) → Ungranted claims c.key → Apart (held_in claims) → Apart ds → Disjoint ds (held_in claims)
+    → Given (devices_held (results_for c.requests ds)) (held_in claims) (held_in (with_grant node pod c.key (results_for c.requests ds) claims))
+grant_given node pod claims c ds u olds news apart =
+    let results = results_for c.requests ds in
+    let given = given_held (is_at (key_cmp c.key)) claims u.claim (granted node pod results u.claim) u.is_there u.none (results_apart c.requests ds news) olds (λ d h g. apart d (results_in c.requests ds d h) g) in
+    subst (λ (es : Claims). Given (devices_held results) (held_in claims) (held_in es)) (sym (grant_sets node pod c.key results claims u)) given
+
+grants_apart : (node : List ℕ) (pod : Key) (cs : List ResourceClaim) (ds : List DeviceId) (claims : Claims) → EachUngranted claims cs → KeysApart cs → Apart (held_in claims) → Apart ds
+    → Disjoint ds (held_in claims) → Apart (held_in (with_grants node pod (grants_for cs ds) claims))
+grants_apart node pod [] ds claims each keys olds news apart = olds
+grants_apart node pod (c ∷ cs) ds claims each keys olds news apart =
+    let n = length c.requests in
+    let results = results_for c.requests ds in
+    let given = grant_given node pod claims c ds each.0 olds news apart in
+    grants_apart node pod cs (drop n ds) (with_grant node pod c.key results claims) (each_kept node pod c.key results claims each.0 cs keys.0 each.1) keys.1 given.apart (apart_drop n ds news)
+    (λ d h g. ⊎_elim (λ k. results_drop c.requests ds news d h k) (λ k. apart d (in_drop n ds d h) k) (given.among d g))
 
 -- ---- each change
 
@@ -265,18 +399,50 @@ once_written place pod claim s h = once_same s (with_written place pod claim s) 
 pub once_bound : (pod : Key) (node : List ℕ) (s : State) → HeldOnce s → HeldOnce (with_bound pod node s)
 once_bound pod node s h = once_same s (with_bound pod node s) h refl
 
-grants_length : (cs : List ResourceClaim) (ds : List DeviceId) → length (grants_for cs ds) ≡ length cs
-grants_length [] ds = refl
-grants_length (c ∷ cs) ds = omega (arith, grants_length cs (drop (length c.requests) ds))
-
-pub once_reserved : (s : State) (job : ℕ) (pod : Key) (plan : Plan) → Holds s pod plan → length plan.grants ≤ 1 → HeldOnce s → HeldOnce (with_reserved job pod plan s)
+pub once_reserved : (s : State) (job : ℕ) (pod : Key) (plan : Plan) → Holds s pod plan → HeldOnce s → HeldOnce (with_reserved job pod plan s)
 unfolding held wanted
-once_reserved s job pod plan holds le h =
+once_reserved s job pod plan holds h =
     let a = holds.allocation in
     let ks = first_places [] (claim_keys holds.state.pod.object) in
     let cs = wanted_of s ks in
-    let few : length cs ≤ 1 = let same = ap length a.in_order in omega (arith, le, same, grants_length cs a.devices) in
     let free : Disjoint a.devices (held_in s.claims) = λ d c g. a.exclusive c.0 d (slice_get-get_or a.devices c.0 d c.1 ∙ ap (λ (w : DeviceId). Some w) c.2) g in
     let after : Apart (held_in (with_grants plan.node pod (grants_for cs a.devices) s.claims)) =
-    reserved_with plan.node pod s ks cs a.devices refl few (apart_of s h) (apart_from a.devices a.distinct) free in
+    grants_apart plan.node pod cs a.devices s.claims (each_wanted s ks) (apart_wanted s (claim_keys holds.state.pod.object) []) (apart_of s h) (apart_from a.devices a.distinct) free in
     once_from (with_reserved job pod plan s) (subst (λ (gs : List Grant). Apart (held_in (with_grants plan.node pod gs s.claims))) (sym a.in_order) after)
+
+-- ---- what it says of two claims
+
+table_by : (test : Key → Bool) (b : Bool) (e : Key × ClaimState) (es : Claims) (c : ClaimState) (d : DeviceId) → cond b (Some e.1) (lookup test es) ≡ Some c → Contains (held_by c.grant) d
+    → (lookup test es ≡ Some c → Contains (held_in es) d) → Contains (held_in (e ∷ es)) d
+table_by test true e es c d is h later =
+    Contains-append_left (held_by e.1.grant) (held_in es) d (subst (λ (x : ClaimState). Contains (held_by x.grant) d) (sym (some_claim e.1 c is)) h)
+table_by test false e es c d is h later = Contains-append_right (held_by e.1.grant) (held_in es) d (later is)
+
+-- what a claim holds, the table holds
+in_table : (test : Key → Bool) (es : Claims) (c : ClaimState) (d : DeviceId) → lookup test es ≡ Some c → Contains (held_by c.grant) d → Contains (held_in es) d
+in_table test [] c d is h = absurd (cc)
+in_table test (e ∷ es) c d is h = table_by test (test e.0) e es c d is h (λ g. in_table test es c d g h)
+
+head_holds : (e : Key × ClaimState) (c : ClaimState) (d : DeviceId) → Some e.1 ≡ Some c → Contains (held_by c.grant) d → Contains (held_by e.1.grant) d
+head_holds e c d is h = subst (λ (x : ClaimState). Contains (held_by x.grant) d) (sym (some_claim e.1 c is)) h
+
+one_by : (e : Key × ClaimState) (es : Claims) (k l : Key) (c b : ClaimState) (d : DeviceId) (p q : Bool) → is_eq (key_cmp k e.0) ≡ p → is_eq (key_cmp l e.0) ≡ q → Apart (held_in (e ∷ es))
+    → cond p (Some e.1) (at_key es k) ≡ Some c → cond q (Some e.1) (at_key es l) ≡ Some b → Contains (held_by c.grant) d → Contains (held_by b.grant) d
+    → (at_key es k ≡ Some c → at_key es l ≡ Some b → k ≡ l) → k ≡ l
+one_by e es k l c b d true true kp lq a is at h g later = same_from_key_cmp k e.0 kp ∙ sym (same_from_key_cmp l e.0 lq)
+one_by e es k l c b d true false kp lq a is at h g later =
+    absurd (apart_disjoint (held_by e.1.grant) (held_in es) a d (head_holds e c d is h) (in_table (is_at (key_cmp l)) es b d at g))
+one_by e es k l c b d false true kp lq a is at h g later =
+    absurd (apart_disjoint (held_by e.1.grant) (held_in es) a d (head_holds e b d at g) (in_table (is_at (key_cmp k)) es c d is h))
+one_by e es k l c b d false false kp lq a is at h g later = later is at
+
+one_in : (es : Claims) (k l : Key) (c b : ClaimState) (d : DeviceId) → Apart (held_in es) → at_key es k ≡ Some c → at_key es l ≡ Some b → Contains (held_by c.grant) d → Contains (held_by b.grant) d
+    → k ≡ l
+one_in [] k l c b d a is at h g = absurd (cc)
+one_in (e ∷ es) k l c b d a is at h g =
+    one_by e es k l c b d (is_eq (key_cmp k e.0)) (is_eq (key_cmp l e.0)) refl refl a is at h g (λ m n. one_in es k l c b d (apart_back (held_by e.1.grant) (held_in es) a) m n h g)
+
+-- two claims that hold one device are one claim
+pub one_claim_holds : (s : State) (k l : Key) (c b : ClaimState) (d : DeviceId) → HeldOnce s → at_key s.claims k ≡ Some c → at_key s.claims l ≡ Some b → Contains (held_by c.grant) d
+    → Contains (held_by b.grant) d → k ≡ l
+one_claim_holds s k l c b d once is at h g = one_in s.claims k l c b d (apart_of s once) is at h g

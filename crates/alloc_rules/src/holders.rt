@@ -1,19 +1,29 @@
-ghost use Rattle.std.specs.Prelude.{◌≤◌, ℕ, List, length};
+ghost use Rattle.std.specs.Prelude.{◌≡◌, ℕ, List, Some, Contains};
 ghost use Rattle.object_fields.specs.declared.key.Key.{Key};
+ghost use Rattle.object_fields.specs.declared.key.DeviceId.{DeviceId};
 ghost use Rattle.alloc_rules.specs.declared.object.Object.{Object};
 ghost use Rattle.alloc_rules.specs.declared.state.State.{State};
+ghost use Rattle.alloc_rules.specs.declared.state.ClaimState.{ClaimState};
 ghost use Rattle.alloc_rules.specs.declared.plan.Plan.{Plan};
+ghost use Rattle.alloc_rules.specs.Names.{at_key};
+ghost use Rattle.alloc_rules.specs.Pools.{held_by};
 ghost use Rattle.alloc_rules.specs.State.{empty_state, with_bound, with_object, with_reserved, with_written, IsAbsent};
 ghost use Rattle.alloc_rules.specs.Plans.{Holds};
 ghost use Rattle.alloc_rules.specs.Held.{HeldOnce};
 
 /// Each device has one holder: it is so where there is nothing yet, and every change keeps it so. A
-/// change that reserves keeps it where nothing stands against the plan, and the plan grants at most
-/// one claim.
+/// change that reserves keeps it where nothing stands against the plan, however many claims the plan
+/// grants.
 pub fn one_holder_is_kept()
     ensures empty { HeldOnce empty_state }
     ensures created { (place : ℕ) (object : Object) (s : State) → IsAbsent s object → HeldOnce s → HeldOnce (with_object place object s) }
-    ensures reserved { (s : State) (job : ℕ) (pod : Key) (plan : Plan) → Holds s pod plan → length plan.grants ≤ 1 → HeldOnce s → HeldOnce (with_reserved job pod plan s) }
+    ensures reserved { (s : State) (job : ℕ) (pod : Key) (plan : Plan) → Holds s pod plan → HeldOnce s → HeldOnce (with_reserved job pod plan s) }
     ensures written { (place : ℕ) (pod claim : Key) (s : State) → HeldOnce s → HeldOnce (with_written place pod claim s) }
     ensures bound { (pod : Key) (node : List ℕ) (s : State) → HeldOnce s → HeldOnce (with_bound pod node s) }
+{}
+
+/// Where each device has one holder, two claims that hold the same device are the same claim.
+pub fn holders_are_one_claim()
+    ensures { (s : State) (k l : Key) (c b : ClaimState) (d : DeviceId) → HeldOnce s → at_key s.claims k ≡ Some c → at_key s.claims l ≡ Some b →
+        Contains (held_by c.grant) d → Contains (held_by b.grant) d → k ≡ l }
 {}

@@ -16,7 +16,7 @@ mod state;
 
 pub use decision::{Decision, decide};
 pub use fit::{Fit, NodeFit, first_fit};
-pub use holders::one_holder_is_kept;
+pub use holders::{holders_are_one_claim, one_holder_is_kept};
 pub use laws::{plan_holds, unsat_is_true, walk_is_allocations};
 pub use object::Object;
 pub use one_grant::grants_at_most_one;

@@ -1,12 +1,12 @@
 -- Each device has one holder in each state of a legal history.
-use Rattle.std.proofs.Common.{ℕ, ◌≤◌, ◌+◌, List, [], ◌∷◌, ◌++◌, length, sym, subst, append_assoc, append-nil, take, drop}
+use Rattle.std.proofs.Common.{ℕ, ◌+◌, List, [], ◌∷◌, ◌++◌, length, sym, subst, append_assoc, append-nil, take, drop}
 use Rattle.std.proofs.lemmas.List.{take-append-drop}
 use Rattle.object_fields.specs.declared.key.Key.{Key}
 use Rattle.alloc_rules.specs.declared.object.Object.{Object}
 use Rattle.alloc_rules.specs.declared.plan.Plan.{Plan}
 use Rattle.alloc_rules.specs.declared.state.State.{State}
 use Rattle.alloc_rules.specs.State.{empty_state, with_bound, with_object, with_reserved, with_written, IsAbsent}
-use Rattle.alloc_rules.specs.Plans.{PlanTrue, Holds}
+use Rattle.alloc_rules.specs.Plans.{Holds}
 use Rattle.alloc_rules.specs.Held.{HeldOnce}
 use Rattle.ledger_core.specs.declared.entry.Entry.{Entry}
 use Rattle.ledger_core.specs.declared.entry.Event.{Event}
@@ -16,16 +16,15 @@ use Rattle.ledger_core.specs.History.{state_of, state_at, LegalAfter, Legal, May
 use Rattle.ledger_core.proofs.Histories.{state_of-empty, state_of-more}
 use Rattle.ledger_core.proofs.Headlines.{front_legal}
 
-module _ (one_grant : (s : State) (pod : Key) (plan : Plan) → PlanTrue s pod plan → length plan.grants ≤ 1)
-    (empty : HeldOnce empty_state)
+module _ (empty : HeldOnce empty_state)
     (created : (place : ℕ) (object : Object) (s : State) → IsAbsent s object → HeldOnce s → HeldOnce (with_object place object s))
-    (reserved : (s : State) (job : ℕ) (pod : Key) (plan : Plan) → Holds s pod plan → length plan.grants ≤ 1 → HeldOnce s → HeldOnce (with_reserved job pod plan s))
+    (reserved : (s : State) (job : ℕ) (pod : Key) (plan : Plan) → Holds s pod plan → HeldOnce s → HeldOnce (with_reserved job pod plan s))
     (written : (place : ℕ) (pod claim : Key) (s : State) → HeldOnce s → HeldOnce (with_written place pod claim s))
     (bound : (pod : Key) (node : List ℕ) (s : State) → HeldOnce s → HeldOnce (with_bound pod node s)) where
   -- an entry that may stand keeps it
   once_after : (before : List Entry) (place job : ℕ) (event : Event) → MayStand before job event → HeldOnce (state_of before) → HeldOnce (after place job event (state_of before))
   once_after before place job (Applied object) may h = created place object (state_of before) may.absent h
-  once_after before place job (Reserved pod plan) may h = reserved (state_of before) job pod plan may.holds_now (one_grant (state_at before plan.at) pod plan may.true_then) h
+  once_after before place job (Reserved pod plan) may h = reserved (state_of before) job pod plan may.holds_now h
   once_after before place job (Wrote pod claim seen) may h = written place pod claim (state_of before) h
   once_after before place job (Bound pod node) may h = bound pod node (state_of before) h
   once_after before place job (Judged pod verdict) may h = h

@@ -8,7 +8,7 @@ ghost use Rattle.ledger_core.specs.declared.entry.Event.{Event};
 ghost use Rattle.ledger_core.specs.History.{state_at, state_of, Legal, Step};
 ghost use Rattle.ledger_core.specs.Headline.{IsGrantOf, IsVerdictOf};
 
-use alloc_rules::{grants_at_most_one, one_holder_is_kept};
+use alloc_rules::one_holder_is_kept;
 
 /// Each entry of a legal history may follow the entries before it, and each front of a legal history
 /// is legal.
@@ -37,6 +37,5 @@ pub fn one_holder()
     ensures now { (h : List Entry) → Legal h → HeldOnce (state_of h) }
     ensures always { (h : List Entry) (place : ℕ) → Legal h → HeldOnce (state_at h place) }
 {
-    grants_at_most_one();
     one_holder_is_kept();
 }
