@@ -144,34 +144,43 @@ fn optional(alloc: Global, reader: &str, value: &Value) -> Result<String, AllocE
     }
 }
 
-/// The metadata of a document, with its label `l`, and 99 where there is no version.
 fn metadata(alloc: Global, scope: Scope, value: &Value) -> Result<String, AllocError> {
-    let label = Text::from_str(alloc, "l")?;
     match ObjectMeta::read(alloc, value, scope) {
-        Ok(meta) => meta_text(alloc, &meta, &label),
+        Ok(meta) => meta_text(alloc, &meta),
         Err(error) => format!(in alloc; "{error}"),
     }
 }
 
-fn meta_text(alloc: Global, meta: &ObjectMeta, label: &Text) -> Result<String, AllocError> {
+/// The key, the version, which is 99 where there is none, and the label `l`.
+fn meta_text(alloc: Global, meta: &ObjectMeta) -> Result<String, AllocError> {
     let version = meta.version.unwrap_or(99);
-    match meta.labels.get(label) {
+    let label = Text::from_str(alloc, "l")?;
+    match meta.labels.get(&label) {
         Some(text) => format!(in alloc; "{} {version} {text}", meta.key),
         None => format!(in alloc; "{} {version}", meta.key),
     }
 }
 
-/// What that group of readers answers of a document.
+/// What a reader of that group answers of a value.
+fn answer_of(
+    alloc: Global,
+    group: &str,
+    reader: &str,
+    value: &Value,
+) -> Result<String, AllocError> {
+    match group {
+        "required" => required(alloc, reader, value),
+        "limited" => limited(alloc, reader, value),
+        "optional" => optional(alloc, reader, value),
+        "namespaced" => metadata(alloc, Scope::Namespaced, value),
+        _ => metadata(alloc, Scope::Cluster, value),
+    }
+}
+
+/// The same of a document.
 fn read_of(alloc: Global, group: &str, reader: &str, document: &str) -> Result<String, Fail> {
     let value = Value::from_str(alloc, document)?;
-    let answer = match group {
-        "required" => required(alloc, reader, &value),
-        "limited" => limited(alloc, reader, &value),
-        "optional" => optional(alloc, reader, &value),
-        "namespaced" => metadata(alloc, Scope::Namespaced, &value),
-        _ => metadata(alloc, Scope::Cluster, &value),
-    };
-    Ok(answer?)
+    Ok(answer_of(alloc, group, reader, &value)?)
 }
 
 /// A group of readers, a reader, the answer, and the document.
@@ -349,32 +358,46 @@ fn texts_are_names_by_the_table(rt: HostRuntime) -> Result<(), Fail> {
     Ok(())
 }
 
-/// The error of a label at a place of a list in a map, copied.
-fn label_error(alloc: Global, text: &str) -> Result<String, FieldError> {
-    let path = Path::top(alloc).member(alloc, "a")?;
-    let path = path.key(alloc, "k")?;
-    let path = path.place(alloc, 7)?;
-    or_memory(alloc, printed(alloc, label_of(alloc, &path, text)))
+fn place_seven(alloc: Global) -> Result<Path, FieldError> {
+    Path::top(alloc).place(alloc, 7)
 }
 
-fn device_text(alloc: Global) -> Result<String, AllocError> {
-    let device = DeviceId {
+/// The text as a label at a place of a list.
+fn label_at_seven(alloc: Global, text: &str) -> Result<String, AllocError> {
+    match place_seven(alloc) {
+        Ok(path) => printed(alloc, label_of(alloc, &path, text)),
+        Err(error) => format!(in alloc; "{error}"),
+    }
+}
+
+fn device(alloc: Global) -> Result<DeviceId, AllocError> {
+    Ok(DeviceId {
         driver: Text::from_str(alloc, "d")?,
         pool: Text::from_str(alloc, "p/q")?,
         device: Text::from_str(alloc, "x")?,
-    };
-    let device = device.copy(alloc)?;
-    format!(in alloc; "{device} {}", Kind::Selector(Stage::Parse))
+    })
+}
+
+fn copied_text(alloc: Global, device: &DeviceId) -> Result<String, AllocError> {
+    let copy = device.copy(alloc)?;
+    format!(in alloc; "{copy}")
+}
+
+fn device_text(alloc: Global) -> Result<String, AllocError> {
+    let device = device(alloc)?;
+    copied_text(alloc, &device)
+}
+
+fn stage_text(alloc: Global) -> Result<String, AllocError> {
+    format!(in alloc; "{}", Kind::Selector(Stage::Parse))
 }
 
 #[test]
 fn paths_and_devices_print(rt: HostRuntime) -> Result<(), Fail> {
     let alloc = rt.alloc();
-    assert_eq!(rt; printed(alloc, label_error(alloc, "b"))?.as_str(), "b");
-    assert_eq!(rt;
-        printed(alloc, label_error(alloc, "B"))?.as_str(),
-        "BadName a[k][7]"
-    );
-    assert_eq!(rt; device_text(alloc)?.as_str(), "d/p/q/x Selector.Parse");
+    assert_eq!(rt; label_at_seven(alloc, "b")?.as_str(), "b");
+    assert_eq!(rt; label_at_seven(alloc, "B")?.as_str(), "BadName [7]");
+    assert_eq!(rt; device_text(alloc)?.as_str(), "d/p/q/x");
+    assert_eq!(rt; stage_text(alloc)?.as_str(), "Selector.Parse");
     Ok(())
 }
