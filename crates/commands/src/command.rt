@@ -14,7 +14,7 @@ use std::str;
 /// What a document asks for.
 #[derive(Drop)]
 pub enum Command {
-    /// Puts the object in, in place of one of its kind and name.
+    /// Creates the object. The change of one that is there already is not built yet.
     Apply(Object),
     /// Schedules the pod of that key.
     Schedule(Key),

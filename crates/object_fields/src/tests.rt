@@ -5,509 +5,369 @@ use std::alloc::{AllocError, Global};
 use std::fmt::Display;
 use std::test::Fail;
 
-/// What a reader answers, as text: the value, or the word and the path of the error.
-fn shown(alloc: Global, answer: Result<String, FieldError>) -> Result<String, AllocError> {
+/// An answer's value, or the word and the path of its error.
+fn printed<T: Display + Drop>(
+    alloc: Global,
+    answer: Result<T, FieldError>,
+) -> Result<String, AllocError> {
     match answer {
-        Ok(value) => Ok(value),
+        Ok(value) => format!(in alloc; "{value}"),
         Err(error) => format!(in alloc; "{error}"),
     }
 }
 
-/// An answer's value, printed.
-fn printed<T: Display + Drop>(
-    alloc: Global,
-    answer: Result<T, FieldError>,
-) -> Result<String, FieldError> {
-    match answer {
-        Ok(value) => or_memory(alloc, format!(in alloc; "{value}")),
-        Err(error) => Err(error),
-    }
-}
-
-/// Whether an answer has a value.
-fn there<T: Drop>(
+/// The same of a value that may be absent.
+fn printed_if<T: Display + Drop>(
     alloc: Global,
     answer: Result<Option<T>, FieldError>,
-) -> Result<String, FieldError> {
+) -> Result<String, AllocError> {
     match answer {
-        Ok(value) => or_memory(alloc, format!(in alloc; "{}", value.is_some())),
-        Err(error) => Err(error),
+        Ok(Some(value)) => format!(in alloc; "{value}"),
+        Ok(None) => String::from_str(alloc, "absent"),
+        Err(error) => format!(in alloc; "{error}"),
     }
 }
 
-/// How many items an answer has.
-fn counted(alloc: Global, answer: Result<&[Value], FieldError>) -> Result<String, FieldError> {
+/// How many items a list has.
+fn counted(alloc: Global, answer: Result<&[Value], FieldError>) -> Result<String, AllocError> {
     match answer {
-        Ok(items) => or_memory(alloc, format!(in alloc; "{}", items.len())),
-        Err(error) => Err(error),
+        Ok(items) => format!(in alloc; "{}", items.len()),
+        Err(error) => format!(in alloc; "{error}"),
     }
 }
 
-/// How many members an answer has.
+fn counted_if(
+    alloc: Global,
+    answer: Result<Option<&[Value]>, FieldError>,
+) -> Result<String, AllocError> {
+    match answer {
+        Ok(Some(items)) => format!(in alloc; "{}", items.len()),
+        Ok(None) => String::from_str(alloc, "absent"),
+        Err(error) => format!(in alloc; "{error}"),
+    }
+}
+
+/// How many members an object has.
 fn sized(
     alloc: Global,
     answer: Result<&Map<String, Value>, FieldError>,
-) -> Result<String, FieldError> {
+) -> Result<String, AllocError> {
     match answer {
-        Ok(members) => or_memory(alloc, format!(in alloc; "{}", members.len())),
-        Err(error) => Err(error),
+        Ok(members) => format!(in alloc; "{}", members.len()),
+        Err(error) => format!(in alloc; "{error}"),
     }
 }
 
-/// The JSON text of an answer.
-fn written(alloc: Global, answer: Result<&Value, FieldError>) -> Result<String, FieldError> {
-    match answer {
-        Ok(value) => or_memory(alloc, value.to_string(alloc)),
-        Err(error) => Err(error),
-    }
-}
-
-/// That nothing is there.
-fn nothing(alloc: Global, answer: Result<(), FieldError>) -> Result<String, FieldError> {
-    match answer {
-        Ok(()) => or_memory(alloc, String::from_str(alloc, "unset")),
-        Err(error) => Err(error),
-    }
-}
-
-/// The readers of a field.
-#[derive(Clone, Copy)]
-enum Reader {
-    Field,
-    Text,
-    Whole,
-    Truth,
-    List,
-    ShortList,
-    Table,
-    Object,
-    Natural,
-    Signed,
-    ValueText,
-    ValueTable,
-    ValueObject,
-    Label,
-    Subdomain,
-    Pool,
-    Key,
-    Place,
-    Optional(OptionalReader),
-}
-
-/// The readers of a field that may be missing.
-#[derive(Clone, Copy)]
-enum OptionalReader {
-    Text,
-    Label,
-    Truth,
-    Natural,
-    Signed,
-    List,
-    ShortList,
-    Table,
-    Object,
-    Unset,
-}
-
-/// The field `f` by that reader.
-fn read_by(alloc: Global, top: &Path, reader: Reader, value: &Value) -> Result<String, FieldError> {
-    match reader {
-        Reader::Field => written(alloc, field(alloc, value, top, "f")),
-        Reader::Text => text(alloc, value, top, "f"),
-        Reader::Whole => printed(alloc, whole(alloc, value, top, "f")),
-        Reader::Truth => printed(alloc, truth(alloc, value, top, "f")),
-        Reader::List => counted(alloc, list(alloc, value, top, "f")),
-        Reader::ShortList => counted(alloc, short_list(alloc, value, top, "f", 2)),
-        Reader::Table => sized(alloc, table(alloc, value, top, "f")),
-        Reader::Object => written(alloc, object(alloc, value, top, "f")),
-        Reader::Natural => printed(alloc, natural(alloc, value, top, "f", 1, 9)),
-        Reader::Signed => printed(alloc, signed(alloc, value, top, "f")),
-        Reader::ValueText => printed(alloc, value_text(alloc, value, top)),
-        Reader::ValueTable => sized(alloc, value_table(alloc, value, top)),
-        Reader::ValueObject => written(alloc, value_object(alloc, value, top)),
-        Reader::Label => printed(alloc, read_dns_label(alloc, value, top, "f")),
-        Reader::Subdomain => printed(alloc, read_dns_subdomain(alloc, value, top, "f", 8)),
-        Reader::Pool => printed(alloc, read_pool_name(alloc, value, top, "f")),
-        Reader::Key => printed(alloc, label_of(alloc, top, "a-b")),
-        Reader::Place => printed(alloc, top.place(alloc, 7)),
-        Reader::Optional(reader) => read_optional(alloc, top, reader, value),
-    }
-}
-
-fn read_optional(
+fn sized_if(
     alloc: Global,
-    top: &Path,
-    reader: OptionalReader,
-    value: &Value,
-) -> Result<String, FieldError> {
-    match reader {
-        OptionalReader::Text => there(alloc, optional_text(alloc, value, top, "f")),
-        OptionalReader::Label => there(alloc, optional_dns_label(alloc, value, top, "f")),
-        OptionalReader::Truth => there(alloc, optional_truth(alloc, value, top, "f")),
-        OptionalReader::Natural => there(alloc, optional_natural(alloc, value, top, "f", 1, 9)),
-        OptionalReader::Signed => there(alloc, optional_signed(alloc, value, top, "f")),
-        OptionalReader::List => there(alloc, optional_list(alloc, value, top, "f")),
-        OptionalReader::ShortList => there(alloc, optional_short_list(alloc, value, top, "f", 1)),
-        OptionalReader::Table => there(alloc, optional_table(alloc, value, top, "f")),
-        OptionalReader::Object => there(alloc, optional_object(alloc, value, top, "f")),
-        OptionalReader::Unset => nothing(alloc, unset(alloc, value, top, "f")),
+    answer: Result<Option<&Map<String, Value>>, FieldError>,
+) -> Result<String, AllocError> {
+    match answer {
+        Ok(Some(members)) => format!(in alloc; "{}", members.len()),
+        Ok(None) => String::from_str(alloc, "absent"),
+        Err(error) => format!(in alloc; "{error}"),
     }
 }
 
-#[test]
-fn fields_read_or_have_their_error(rt: HostRuntime) -> Result<(), Fail> {
-    let alloc = rt.alloc();
+/// The JSON text of a value.
+fn written(alloc: Global, answer: Result<&Value, FieldError>) -> Result<String, AllocError> {
+    match answer {
+        Ok(value) => value.to_string(alloc),
+        Err(error) => format!(in alloc; "{error}"),
+    }
+}
+
+fn written_if(
+    alloc: Global,
+    answer: Result<Option<&Value>, FieldError>,
+) -> Result<String, AllocError> {
+    match answer {
+        Ok(Some(value)) => value.to_string(alloc),
+        Ok(None) => String::from_str(alloc, "absent"),
+        Err(error) => format!(in alloc; "{error}"),
+    }
+}
+
+fn nothing(alloc: Global, answer: Result<(), FieldError>) -> Result<String, AllocError> {
+    match answer {
+        Ok(()) => String::from_str(alloc, "unset"),
+        Err(error) => format!(in alloc; "{error}"),
+    }
+}
+
+/// The field `f` by one of the readers that want it.
+fn required(alloc: Global, reader: &str, value: &Value) -> Result<String, AllocError> {
     let top = Path::top(alloc);
-    for (reader, document, want) in [
-        (Reader::Field, r#"{"f":[1,"a"]}"#, r#"[1,"a"]"#),
-        (Reader::Field, r#"{"g":1}"#, "Missing f"),
-        (Reader::Field, r#"{"f":null}"#, "Missing f"),
-        (Reader::Field, "7", "Missing f"),
-        (Reader::Text, r#"{"f":"a"}"#, "a"),
-        (Reader::Text, r#"{}"#, "Missing f"),
-        (Reader::Text, r#"{"f":1}"#, "WrongType f"),
-        (
-            Reader::Whole,
-            r#"{"f":18446744073709551615}"#,
-            "18446744073709551615",
-        ),
-        (
-            Reader::Whole,
-            r#"{"f":-9223372036854775808}"#,
-            "-9223372036854775808",
-        ),
-        (
-            Reader::Whole,
-            r#"{"f":18446744073709551616}"#,
-            "WrongType f",
-        ),
-        (Reader::Whole, r#"{"f":1.5}"#, "WrongType f"),
-        (Reader::Whole, r#"{"f":-0}"#, "WrongType f"),
-        (Reader::Whole, r#"{"f":"1"}"#, "WrongType f"),
-        (Reader::Whole, r#"{"f":null}"#, "Missing f"),
-        (Reader::Truth, r#"{"f":false}"#, "false"),
-        (Reader::Truth, r#"{"f":0}"#, "WrongType f"),
-        (Reader::Truth, r#"{}"#, "Missing f"),
-        (Reader::List, r#"{"f":[null,1,2]}"#, "3"),
-        (Reader::List, r#"{"f":{}}"#, "WrongType f"),
-        (Reader::List, r#"{}"#, "Missing f"),
-        (Reader::ShortList, r#"{"f":[1,2]}"#, "2"),
-        (Reader::ShortList, r#"{"f":[1,2,3]}"#, "TooMany f"),
-        (Reader::Table, r#"{"f":{"a":1,"b":null}}"#, "2"),
-        (Reader::Table, r#"{"f":[]}"#, "WrongType f"),
-        (Reader::Table, r#"{}"#, "Missing f"),
-        (Reader::Natural, r#"{"f":9}"#, "9"),
-        (Reader::Natural, r#"{"f":1}"#, "1"),
-        (Reader::Natural, r#"{"f":0}"#, "OutOfRange f"),
-        (Reader::Natural, r#"{"f":10}"#, "OutOfRange f"),
-        (Reader::Natural, r#"{"f":-1}"#, "OutOfRange f"),
-        (
-            Reader::Signed,
-            r#"{"f":9223372036854775807}"#,
-            "9223372036854775807",
-        ),
-        (
-            Reader::Signed,
-            r#"{"f":9223372036854775808}"#,
-            "OutOfRange f",
-        ),
-        (Reader::Label, r#"{"f":"a-1"}"#, "a-1"),
-        (Reader::Label, r#"{"f":"A"}"#, "BadName f"),
-        (Reader::Label, r#"{"f":3}"#, "WrongType f"),
-        (Reader::Subdomain, r#"{"f":"a.b-c.d"}"#, "a.b-c.d"),
-        (Reader::Subdomain, r#"{"f":"a..b"}"#, "BadName f"),
-        (Reader::Subdomain, r#"{"f":"abc-.defg"}"#, "TooLong f"),
-        (Reader::Pool, r#"{"f":"a.b/c"}"#, "a.b/c"),
-        (Reader::Pool, r#"{"f":"a//c"}"#, "BadName f"),
-        (Reader::Pool, r#"{}"#, "Missing f"),
-        (Reader::Key, "{}", "a-b"),
-        (Reader::Place, "{}", "[7]"),
-        (Reader::ValueText, r#""x""#, "x"),
-        (Reader::ValueText, "1", "WrongType "),
-        (Reader::ValueTable, r#"{"f":1}"#, "1"),
-        (Reader::ValueTable, "[]", "WrongType "),
-        (Reader::ValueObject, r#"{"f":1}"#, r#"{"f":1}"#),
-        (Reader::ValueObject, "null", "Missing "),
-        (Reader::Object, r#"{"f":{}}"#, "{}"),
-        (Reader::Object, r#"{"f":1}"#, "WrongType f"),
-        (
-            Reader::Optional(OptionalReader::Text),
-            r#"{"f":"x"}"#,
-            "true",
-        ),
-        (
-            Reader::Optional(OptionalReader::Text),
-            r#"{"f":null}"#,
-            "false",
-        ),
-        (Reader::Optional(OptionalReader::Text), r#"{}"#, "false"),
-        (
-            Reader::Optional(OptionalReader::Text),
-            r#"{"f":[]}"#,
-            "WrongType f",
-        ),
-        (
-            Reader::Optional(OptionalReader::Label),
-            r#"{"f":"x"}"#,
-            "true",
-        ),
-        (
-            Reader::Optional(OptionalReader::Truth),
-            r#"{"f":true}"#,
-            "true",
-        ),
-        (
-            Reader::Optional(OptionalReader::Natural),
-            r#"{"f":9}"#,
-            "true",
-        ),
-        (
-            Reader::Optional(OptionalReader::Natural),
-            r#"{"f":10}"#,
-            "OutOfRange f",
-        ),
-        (
-            Reader::Optional(OptionalReader::Signed),
-            r#"{"f":-9}"#,
-            "true",
-        ),
-        (
-            Reader::Optional(OptionalReader::List),
-            r#"{"f":[]}"#,
-            "true",
-        ),
-        (
-            Reader::Optional(OptionalReader::ShortList),
-            r#"{"f":[1]}"#,
-            "true",
-        ),
-        (
-            Reader::Optional(OptionalReader::ShortList),
-            r#"{"f":[1,2]}"#,
-            "TooMany f",
-        ),
-        (
-            Reader::Optional(OptionalReader::Table),
-            r#"{"f":{}}"#,
-            "true",
-        ),
-        (
-            Reader::Optional(OptionalReader::Object),
-            r#"{"f":{}}"#,
-            "true",
-        ),
-        (
-            Reader::Optional(OptionalReader::Object),
-            r#"{"f":1}"#,
-            "WrongType f",
-        ),
-        (
-            Reader::Optional(OptionalReader::Unset),
-            r#"{"f":[]}"#,
-            "unset",
-        ),
-        (
-            Reader::Optional(OptionalReader::Unset),
-            r#"{"f":false}"#,
-            "unset",
-        ),
-        (
-            Reader::Optional(OptionalReader::Unset),
-            r#"{"f":0}"#,
-            "NotSupported f",
-        ),
-    ] {
-        let value = Value::from_str(alloc, document)?;
-        let got = shown(alloc, read_by(alloc, &top, reader, &value))?;
-        assert_eq!(rt; got.as_str(), want, "{document}");
+    match reader {
+        "member" => written_if(alloc, Ok(member(value, "f"))),
+        "field" => written(alloc, field(alloc, value, &top, "f")),
+        "borrowed" => printed(alloc, borrowed(alloc, value, &top, "f")),
+        "text" => printed(alloc, text(alloc, value, &top, "f")),
+        "whole" => printed(alloc, whole(alloc, value, &top, "f")),
+        "truth" => printed(alloc, truth(alloc, value, &top, "f")),
+        "list" => counted(alloc, list(alloc, value, &top, "f")),
+        "table" => sized(alloc, table(alloc, value, &top, "f")),
+        _ => written(alloc, object(alloc, value, &top, "f")),
     }
-    Ok(())
 }
 
-/// A text of so many letters.
-fn letters(alloc: Global, length: u32) -> Result<String, AllocError> {
-    let mut text = String::new(alloc);
-    for _ in 0..length {
-        text.push('a')?;
+/// The field `f`, or the whole value, by one of the readers with limits.
+fn limited(alloc: Global, reader: &str, value: &Value) -> Result<String, AllocError> {
+    let top = Path::top(alloc);
+    match reader {
+        "short list" => counted(alloc, short_list(alloc, value, &top, "f", 2)),
+        "natural" => printed(alloc, natural(alloc, value, &top, "f", 1, 9)),
+        "signed" => printed(alloc, signed(alloc, value, &top, "f")),
+        "label" => printed(alloc, read_dns_label(alloc, value, &top, "f")),
+        "subdomain" => printed(alloc, read_dns_subdomain(alloc, value, &top, "f", 8)),
+        "pool" => printed(alloc, read_pool_name(alloc, value, &top, "f")),
+        "value text" => printed(alloc, value_text(alloc, value, &top)),
+        "value table" => sized(alloc, value_table(alloc, value, &top)),
+        _ => written(alloc, value_object(alloc, value, &top)),
     }
-    Ok(text)
 }
 
-#[test]
-fn names_are_dns_names(rt: HostRuntime) -> Result<(), Fail> {
-    let alloc = rt.alloc();
-    for (length, label, subdomain) in [
-        (0, false, false),
-        (1, true, true),
-        (63, true, true),
-        (64, false, true),
-        (253, false, true),
-        (254, false, false),
-    ] {
-        let text = letters(alloc, length)?;
-        assert_eq!(rt; dns_label(text.as_str()), label, "label of {length}");
-        assert_eq!(rt;
-            dns_subdomain(text.as_str(), 253),
-            subdomain,
-            "name of {length}"
-        );
+/// The field `f` by one of the readers of fields that may be missing.
+fn optional(alloc: Global, reader: &str, value: &Value) -> Result<String, AllocError> {
+    let top = Path::top(alloc);
+    match reader {
+        "text" => printed_if(alloc, optional_text(alloc, value, &top, "f")),
+        "label" => printed_if(alloc, optional_dns_label(alloc, value, &top, "f")),
+        "truth" => printed_if(alloc, optional_truth(alloc, value, &top, "f")),
+        "natural" => printed_if(alloc, optional_natural(alloc, value, &top, "f", 1, 9)),
+        "signed" => printed_if(alloc, optional_signed(alloc, value, &top, "f")),
+        "list" => counted_if(alloc, optional_list(alloc, value, &top, "f")),
+        "short list" => counted_if(alloc, optional_short_list(alloc, value, &top, "f", 1)),
+        "table" => sized_if(alloc, optional_table(alloc, value, &top, "f")),
+        "object" => written_if(alloc, optional_object(alloc, value, &top, "f")),
+        _ => nothing(alloc, unset(alloc, value, &top, "f")),
     }
-    for (text, label, subdomain, pool) in [
-        ("a-b", true, true, true),
-        ("0", true, true, true),
-        ("-a", false, false, false),
-        ("a-", false, false, false),
-        ("aB", false, false, false),
-        ("a_b", false, false, false),
-        ("a.b", false, true, true),
-        ("a..b", false, false, false),
-        (".a", false, false, false),
-        ("a.", false, false, false),
-        ("a.-b", false, false, false),
-        ("a/b.c", false, false, true),
-        ("a/", false, false, false),
-        ("/a", false, false, false),
-        ("a./b", false, false, false),
-    ] {
-        assert_eq!(rt; dns_label(text), label, "label {text}");
-        assert_eq!(rt; dns_subdomain(text, 253), subdomain, "name {text}");
-        assert_eq!(rt; pool_name(text), pool, "pool {text}");
-    }
-    Ok(())
 }
 
-fn full_name(alloc: Global, text: &str) -> Result<String, FieldError> {
-    let name = QualName::parse(alloc, text, "d.example")?;
-    or_memory(alloc, format!(in alloc; "{}/{}", name.domain, name.id))
-}
-
-#[test]
-fn qualified_names_are_full_names(rt: HostRuntime) -> Result<(), Fail> {
-    let alloc = rt.alloc();
-    for (text, want) in [
-        ("model", "d.example/model"),
-        ("x.y/_Id9", "x.y/_Id9"),
-        ("", "BadName "),
-        ("9a", "BadName "),
-        ("a-b", "BadName "),
-        ("X/a", "BadName "),
-        ("/a", "BadName "),
-        ("a/b/c", "BadName "),
-        ("a/", "BadName "),
-        (
-            "a2345678901234567890123456789012",
-            "d.example/a2345678901234567890123456789012",
-        ),
-        ("a23456789012345678901234567890123", "TooLong "),
-        ("d/a23456789012345678901234567890-34", "TooLong "),
-    ] {
-        let got = shown(alloc, full_name(alloc, text))?;
-        assert_eq!(rt; got.as_str(), want, "{text}");
+fn metadata(alloc: Global, scope: Scope, value: &Value) -> Result<String, AllocError> {
+    match ObjectMeta::read(alloc, value, scope) {
+        Ok(meta) => meta_text(alloc, &meta),
+        Err(error) => format!(in alloc; "{error}"),
     }
-    Ok(())
 }
 
-fn meta_text(alloc: Global, value: &Value, scope: Scope) -> Result<String, FieldError> {
-    let meta = ObjectMeta::read(alloc, value, scope)?;
-    let label = or_memory(alloc, Text::from_str(alloc, "l"))?;
+/// The key, the version, which is 99 where there is none, and the label `l`.
+fn meta_text(alloc: Global, meta: &ObjectMeta) -> Result<String, AllocError> {
     let version = meta.version.unwrap_or(99);
-    let text = match meta.labels.get(&label) {
+    let label = Text::from_str(alloc, "l")?;
+    match meta.labels.get(&label) {
         Some(text) => format!(in alloc; "{} {version} {text}", meta.key),
         None => format!(in alloc; "{} {version}", meta.key),
-    };
-    or_memory(alloc, text)
+    }
+}
+
+/// What a reader of that group answers of a value.
+fn answer_of(
+    alloc: Global,
+    group: &str,
+    reader: &str,
+    value: &Value,
+) -> Result<String, AllocError> {
+    match group {
+        "required" => required(alloc, reader, value),
+        "limited" => limited(alloc, reader, value),
+        "optional" => optional(alloc, reader, value),
+        "namespaced" => metadata(alloc, Scope::Namespaced, value),
+        _ => metadata(alloc, Scope::Cluster, value),
+    }
+}
+
+/// The same of a document.
+fn read_of(alloc: Global, group: &str, reader: &str, document: &str) -> Result<String, Fail> {
+    let value = Value::from_str(alloc, document)?;
+    Ok(answer_of(alloc, group, reader, &value)?)
+}
+
+/// A group of readers, a reader, the answer, and the document.
+const READINGS: &str = r#"
+required|member|7|{"f":7}
+required|member|absent|{"f":null}
+required|field|[1,"a"]|{"f":[1,"a"]}
+required|field|Missing f|{"g":1}
+required|field|Missing f|{"f":null}
+required|field|Missing f|7
+required|borrowed|a|{"f":"a"}
+required|borrowed|WrongType f|{"f":[]}
+required|text|a|{"f":"a"}
+required|text|Missing f|{}
+required|text|WrongType f|{"f":1}
+required|whole|18446744073709551615|{"f":18446744073709551615}
+required|whole|-9223372036854775808|{"f":-9223372036854775808}
+required|whole|WrongType f|{"f":18446744073709551616}
+required|whole|WrongType f|{"f":1.5}
+required|whole|WrongType f|{"f":-0}
+required|whole|WrongType f|{"f":"1"}
+required|whole|Missing f|{"f":null}
+required|truth|false|{"f":false}
+required|truth|WrongType f|{"f":0}
+required|truth|Missing f|{}
+required|list|3|{"f":[null,1,2]}
+required|list|WrongType f|{"f":{}}
+required|list|Missing f|{}
+required|table|2|{"f":{"a":1,"b":null}}
+required|table|WrongType f|{"f":[]}
+required|table|Missing f|{}
+required|object|{}|{"f":{}}
+required|object|WrongType f|{"f":1}
+limited|short list|2|{"f":[1,2]}
+limited|short list|TooMany f|{"f":[1,2,3]}
+limited|natural|9|{"f":9}
+limited|natural|1|{"f":1}
+limited|natural|OutOfRange f|{"f":0}
+limited|natural|OutOfRange f|{"f":10}
+limited|natural|OutOfRange f|{"f":-1}
+limited|signed|9223372036854775807|{"f":9223372036854775807}
+limited|signed|OutOfRange f|{"f":9223372036854775808}
+limited|label|a-1|{"f":"a-1"}
+limited|label|BadName f|{"f":"A"}
+limited|label|WrongType f|{"f":3}
+limited|subdomain|a.b-c.d|{"f":"a.b-c.d"}
+limited|subdomain|BadName f|{"f":"a..b"}
+limited|subdomain|TooLong f|{"f":"abc-.defg"}
+limited|pool|a.b/c|{"f":"a.b/c"}
+limited|pool|BadName f|{"f":"a//c"}
+limited|pool|Missing f|{}
+limited|value text|x|"x"
+limited|value text|WrongType |1
+limited|value text|Missing |null
+limited|value table|1|{"f":1}
+limited|value table|WrongType |[]
+limited|value object|{"f":1}|{"f":1}
+limited|value object|Missing |null
+optional|text|x|{"f":"x"}
+optional|text|absent|{"f":null}
+optional|text|absent|{}
+optional|text|WrongType f|{"f":[]}
+optional|label|x|{"f":"x"}
+optional|label|BadName f|{"f":"x."}
+optional|truth|true|{"f":true}
+optional|natural|9|{"f":9}
+optional|natural|OutOfRange f|{"f":10}
+optional|signed|-9|{"f":-9}
+optional|list|0|{"f":[]}
+optional|list|absent|{}
+optional|short list|1|{"f":[1]}
+optional|short list|TooMany f|{"f":[1,2]}
+optional|table|0|{"f":{}}
+optional|object|{}|{"f":{}}
+optional|object|WrongType f|{"f":1}
+optional|unset|unset|{"f":[]}
+optional|unset|unset|{"f":false}
+optional|unset|NotSupported f|{"f":0}
+namespaced|metadata|n/a 99|{"metadata":{"name":"a","namespace":"n"}}
+namespaced|metadata|default/a 99|{"metadata":{"name":"a"}}
+namespaced|metadata|Missing metadata|{}
+namespaced|metadata|WrongType metadata|{"metadata":[]}
+namespaced|metadata|Missing metadata.name|{"metadata":{}}
+namespaced|metadata|BadName metadata.name|{"metadata":{"name":"-"}}
+namespaced|metadata|BadName metadata.namespace|{"metadata":{"name":"a","namespace":"a.b"}}
+cluster|metadata|a 99|{"metadata":{"name":"a","namespace":7}}
+cluster|metadata|a 99 w|{"metadata":{"name":"a","labels":{"k":"v","l":"w"}}}
+cluster|metadata|a 99|{"metadata":{"name":"a","resourceVersion":""}}
+cluster|metadata|a 0|{"metadata":{"name":"a","resourceVersion":"0"}}
+cluster|metadata|a 18446744073709551615|{"metadata":{"name":"a","resourceVersion":"18446744073709551615"}}
+cluster|metadata|WrongType metadata.resourceVersion|{"metadata":{"name":"a","resourceVersion":"18446744073709551616"}}
+cluster|metadata|WrongType metadata.resourceVersion|{"metadata":{"name":"a","resourceVersion":"01"}}
+cluster|metadata|WrongType metadata.resourceVersion|{"metadata":{"name":"a","resourceVersion":"+1"}}
+cluster|metadata|WrongType metadata.resourceVersion|{"metadata":{"name":"a","resourceVersion":1}}
+cluster|metadata|Missing metadata.labels[k]|{"metadata":{"name":"a","labels":{"k":null}}}
+cluster|metadata|WrongType metadata.labels[l]|{"metadata":{"name":"a","labels":{"k":"v","l":1}}}
+cluster|metadata|WrongType metadata.labels|{"metadata":{"name":"a","labels":[],"resourceVersion":1}}
+"#;
+
+/// The parts of a line of the readings.
+fn parts(line: &str) -> Option<(&str, &str, &str, &str)> {
+    let (group, rest) = line.split_once('|')?;
+    let (reader, rest) = rest.split_once('|')?;
+    let (want, document) = rest.split_once('|')?;
+    Some((group, reader, want, document))
 }
 
 #[test]
-fn metadata_reads_in_order(rt: HostRuntime) -> Result<(), Fail> {
-    let alloc = rt.alloc();
-    for (document, spaced, want) in [
-        (
-            r#"{"metadata":{"name":"a","namespace":"n"}}"#,
-            true,
-            "n/a 99",
-        ),
-        (r#"{"metadata":{"name":"a"}}"#, true, "default/a 99"),
-        (r#"{"metadata":{"name":"a","namespace":7}}"#, false, "a 99"),
-        (
-            r#"{"metadata":{"name":"a","labels":{"k":"v","l":"w"}}}"#,
-            false,
-            "a 99 w",
-        ),
-        (
-            r#"{"metadata":{"name":"a","resourceVersion":""}}"#,
-            false,
-            "a 99",
-        ),
-        (
-            r#"{"metadata":{"name":"a","resourceVersion":"0"}}"#,
-            false,
-            "a 0",
-        ),
-        (
-            r#"{"metadata":{"name":"a","resourceVersion":"18446744073709551615"}}"#,
-            false,
-            "a 18446744073709551615",
-        ),
-        (
-            r#"{"metadata":{"name":"a","resourceVersion":"18446744073709551616"}}"#,
-            false,
-            "WrongType metadata.resourceVersion",
-        ),
-        (
-            r#"{"metadata":{"name":"a","resourceVersion":"01"}}"#,
-            false,
-            "WrongType metadata.resourceVersion",
-        ),
-        (
-            r#"{"metadata":{"name":"a","resourceVersion":"+1"}}"#,
-            false,
-            "WrongType metadata.resourceVersion",
-        ),
-        (
-            r#"{"metadata":{"name":"a","resourceVersion":1}}"#,
-            false,
-            "WrongType metadata.resourceVersion",
-        ),
-        (r#"{}"#, true, "Missing metadata"),
-        (r#"{"metadata":[]}"#, true, "WrongType metadata"),
-        (r#"{"metadata":{}}"#, true, "Missing metadata.name"),
-        (
-            r#"{"metadata":{"name":"-"}}"#,
-            true,
-            "BadName metadata.name",
-        ),
-        (
-            r#"{"metadata":{"name":"a","namespace":"a.b"}}"#,
-            true,
-            "BadName metadata.namespace",
-        ),
-        (
-            r#"{"metadata":{"name":"a","labels":{"k":null}}}"#,
-            false,
-            "Missing metadata.labels[k]",
-        ),
-        (
-            r#"{"metadata":{"name":"a","labels":{"k":"v","l":1}}}"#,
-            false,
-            "WrongType metadata.labels[l]",
-        ),
-        (
-            r#"{"metadata":{"name":"a","labels":[],"resourceVersion":1}}"#,
-            false,
-            "WrongType metadata.labels",
-        ),
-    ] {
-        let value = Value::from_str(alloc, document)?;
-        let scope = if spaced {
-            Scope::Namespaced
-        } else {
-            Scope::Cluster
-        };
-        let got = shown(alloc, meta_text(alloc, &value, scope))?;
-        assert_eq!(rt; got.as_str(), want, "{document}");
+fn documents_read_or_have_their_error(rt: HostRuntime) -> Result<(), Fail> {
+    let mut count = 0u32;
+    for line in READINGS.lines() {
+        if let Some((group, reader, want, document)) = parts(line) {
+            let answer = read_of(rt.alloc(), group, reader, document)?;
+            assert_eq!(rt; answer.as_str(), want, "{line}");
+            count = count.saturating_add(1);
+        }
     }
+    assert_eq!(rt; count, 93);
     Ok(())
+}
+
+/// Whether a text is a label, a subdomain and a pool's name, and which qualified name it is.
+fn names_of(alloc: Global, text: &str) -> Result<String, AllocError> {
+    let label = dns_label(text);
+    let subdomain = dns_subdomain(text, 253);
+    let pool = pool_name(text);
+    match QualName::parse(alloc, text, "d.e") {
+        Ok(name) => format!(in alloc; "{label} {subdomain} {pool} {}/{}", name.domain, name.id),
+        Err(error) => format!(in alloc; "{label} {subdomain} {pool} {error}"),
+    }
+}
+
+/// What a text is the name of, and the text.
+const NAMES: &str = "
+false false false BadName |
+true true true d.e/model|model
+true true true BadName |a-b
+true true true BadName |0
+true true true BadName |9a
+false false false d.e/_Id9|_Id9
+false false false BadName |-a
+false false false BadName |a-
+false false false d.e/aB|aB
+false false false d.e/a_b|a_b
+false true true BadName |a.b
+false false false BadName |a..b
+false false false BadName |.a
+false false false BadName |a.
+false false false BadName |a.-b
+false false true BadName |a/b.c
+false false true a/b|a/b
+false false false x.y/_Id9|x.y/_Id9
+false false false BadName |X/a
+false false false BadName |a/
+false false false BadName |/a
+false false true BadName |a/b/c
+false false false BadName |a./b
+true true true d.e/a2345678901234567890123456789012|a2345678901234567890123456789012
+true true true TooLong |a23456789012345678901234567890123
+false false true TooLong |d/a23456789012345678901234567890-34
+true true true TooLong |a23456789012345678901234567890123456789012345678901234567890123
+false true true TooLong |a234567890123456789012345678901234567890123456789012345678901234
+";
+
+#[test]
+fn texts_are_names_by_the_table(rt: HostRuntime) -> Result<(), Fail> {
+    let mut count = 0u32;
+    for line in NAMES.lines() {
+        if let Some((want, text)) = line.split_once('|') {
+            assert_eq!(rt; names_of(rt.alloc(), text)?.as_str(), want, "{text}");
+            count = count.saturating_add(1);
+        }
+    }
+    assert_eq!(rt; count, 28);
+    Ok(())
+}
+
+fn place_seven(alloc: Global) -> Result<Path, FieldError> {
+    Path::top(alloc).place(alloc, 7)
+}
+
+/// The text as a label at a place of a list.
+fn label_at_seven(alloc: Global, text: &str) -> Result<String, AllocError> {
+    match place_seven(alloc) {
+        Ok(path) => printed(alloc, label_of(alloc, &path, text)),
+        Err(error) => format!(in alloc; "{error}"),
+    }
 }
 
 fn device(alloc: Global) -> Result<DeviceId, AllocError> {
@@ -518,17 +378,26 @@ fn device(alloc: Global) -> Result<DeviceId, AllocError> {
     })
 }
 
-fn printed_device(alloc: Global) -> Result<String, AllocError> {
+fn copied_text(alloc: Global, device: &DeviceId) -> Result<String, AllocError> {
+    let copy = device.copy(alloc)?;
+    format!(in alloc; "{copy}")
+}
+
+fn device_text(alloc: Global) -> Result<String, AllocError> {
     let device = device(alloc)?;
-    format!(in alloc; "{device}")
+    copied_text(alloc, &device)
+}
+
+fn stage_text(alloc: Global) -> Result<String, AllocError> {
+    format!(in alloc; "{}", Kind::Selector(Stage::Parse))
 }
 
 #[test]
-fn words_and_names_print(rt: HostRuntime) -> Result<(), Fail> {
+fn paths_and_devices_print(rt: HostRuntime) -> Result<(), Fail> {
     let alloc = rt.alloc();
-    let word = format!(in alloc; "{}", Kind::Selector(Stage::Parse))?;
-    assert_eq!(rt; word.as_str(), "Selector.Parse");
-    let name = printed_device(alloc)?;
-    assert_eq!(rt; name.as_str(), "d/p/q/x");
+    assert_eq!(rt; label_at_seven(alloc, "b")?.as_str(), "b");
+    assert_eq!(rt; label_at_seven(alloc, "B")?.as_str(), "BadName [7]");
+    assert_eq!(rt; device_text(alloc)?.as_str(), "d/p/q/x");
+    assert_eq!(rt; stage_text(alloc)?.as_str(), "Selector.Parse");
     Ok(())
 }
