@@ -191,3 +191,26 @@ fn spells_strings(rt: HostRuntime) {
         assert_eq!(rt; spelled.as_str(), wanted, "what {text} spells");
     }
 }
+
+#[test]
+fn tells_faults(rt: HostRuntime) {
+    let table = [
+        (LexError::BadChar(3), "no token begins at byte 3"),
+        (
+            LexError::BadEscape(4),
+            "the backslash at byte 4 begins no escape",
+        ),
+        (
+            LexError::Unclosed(0),
+            "the string that begins at byte 0 is not closed",
+        ),
+        (
+            LexError::BadNumber(5),
+            "the whole number that begins at byte 5 is past 64 bits",
+        ),
+    ];
+    for (error, wanted) in table {
+        let told = format!(in rt.alloc(); "{error}").expect(&rt, "memory");
+        assert_eq!(rt; told.as_str(), wanted);
+    }
+}

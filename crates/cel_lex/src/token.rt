@@ -1,3 +1,5 @@
+use thiserror::Error;
+
 /// A range of bytes of the source: `start` is the offset of the first byte and `end` that after
 /// the last.
 #[derive(Clone, Copy, Debug, PartialEq, Eq)]
@@ -62,15 +64,19 @@ pub struct Token<'a> {
 }
 
 /// Why no token can be read, with an offset into the source in bytes.
-#[derive(Clone, Copy, Debug, PartialEq, Eq)]
+#[derive(Clone, Copy, Debug, PartialEq, Eq, Drop, Error)]
 pub enum LexError {
     /// The byte at this offset begins no token.
+    #[error("no token begins at byte {0}")]
     BadChar(usize),
     /// The backslash at this offset begins no escape, or one that names no Unicode scalar value.
+    #[error("the backslash at byte {0} begins no escape")]
     BadEscape(usize),
     /// The string that begins at this offset has no closing quotes, or a line end before them
     /// where none may stand.
+    #[error("the string that begins at byte {0} is not closed")]
     Unclosed(usize),
     /// The whole number that begins at this offset is past 64 bits.
+    #[error("the whole number that begins at byte {0} is past 64 bits")]
     BadNumber(usize),
 }

@@ -11,21 +11,30 @@ use crate::step::{finish, span_of, step};
 use cel_lex::{LexError, Token};
 use cel_tree::{Span, Tree};
 use std::alloc::{AllocError, Global};
+use thiserror::Error;
 
-/// Why a text is no expression of the selector language.
-#[derive(Clone, Copy, Debug, PartialEq, Eq)]
+/// Why a text is no expression of the selector language. Its places are offsets into the text in
+/// bytes.
+#[derive(Clone, Copy, Debug, PartialEq, Eq, Drop, Error)]
 pub enum ParseError {
     /// The first place where no token can be read.
+    #[error(transparent)]
     Lex(LexError),
     /// The place of the first token such that no expression begins with the tokens up to and with
     /// it. The end of the text counts as a token of empty span.
+    #[error("no expression goes on with what stands at bytes {} to {}", .0.start, .0.end)]
     Unexpected(Span),
     /// More than 64 brackets stand open, or the tree is more than 64 levels deep.
+    #[error("more than 64 levels deep")]
     Deep,
     /// More than 10,240 bytes.
+    #[error("more than 10240 bytes long")]
     Long,
+    /// Memory ran out.
+    #[error("out of memory")]
     Memory,
     /// The place of the first token that the profile leaves out of the language.
+    #[error("the selector language leaves out what stands at bytes {} to {}", .0.start, .0.end)]
     NotSupported(Span),
 }
 

@@ -1,6 +1,6 @@
-use crate::{ParseError, has_one_tree, parse};
+use crate::{ParseError, has_one_tree, parse, parse_tokens};
 use cel_lex::LexError;
-use cel_tree::{BinaryOp, Kind, Literal, Tree, UnaryOp};
+use cel_tree::{BinaryOp, Kind, Literal, Span, Tree, UnaryOp};
 use std::alloc::{AllocError, Global};
 use std::process::Abort;
 use std::test::Fail;
@@ -421,5 +421,35 @@ fn texts_and_brackets_have_limits(rt: HostRuntime) -> Result<(), Fail> {
         alloc,
         made_by("", " ", 10240, "", "Unexpected 10240 10240"),
     )?;
+    Ok(())
+}
+
+#[test]
+fn errors_tell_their_places(rt: HostRuntime) -> Result<(), Fail> {
+    let alloc = rt.alloc();
+    let span = Span { start: 2, end: 5 };
+    let table = [
+        (
+            ParseError::Lex(LexError::BadChar(3)),
+            "no token begins at byte 3",
+        ),
+        (
+            ParseError::Unexpected(span),
+            "no expression goes on with what stands at bytes 2 to 5",
+        ),
+        (ParseError::Deep, "more than 64 levels deep"),
+        (ParseError::Long, "more than 10240 bytes long"),
+        (ParseError::Memory, "out of memory"),
+        (
+            ParseError::NotSupported(span),
+            "the selector language leaves out what stands at bytes 2 to 5",
+        ),
+    ];
+    for (error, expected) in table {
+        let told = format!(in alloc; "{error}")?;
+        assert_eq!(rt; told.as_str(), expected);
+    }
+    let end = ParseError::Unexpected(Span { start: 7, end: 7 });
+    assert!(rt; matches!(parse_tokens(alloc, &[], 7), Err(error) if error == end));
     Ok(())
 }

@@ -1,13 +1,11 @@
 -- What is seen of the trees in a vector of a node.
-use Rattle.std.proofs.Common.{◌≡◌, ℕ, List, [], ◌∷◌, Vec, Global, Box, refl, sym, ap, ◌∙◌, map}
+use Rattle.std.proofs.Common.{◌≡◌, ℕ, List, Vec, Global, Box, refl, ap, ◌∙◌, map}
 use mathlib.Core.Former.{Count}
-use Rattle.dra_values.specs.declared.text.Text.{Text}
-use Rattle.cel_tree.specs.declared.tree.Span.{Span}
 use Rattle.cel_tree.specs.declared.tree.Tree.{Tree}
 use Rattle.cel_tree.specs.declared.tree.Entry.{Entry}
 use Rattle.cel_tree.specs.declared.tree.Kind.{Kind, List', Map', Row_of-Tree, end_of-Tree, more_of-Tree, Row_of-Entry, end_of-Entry, more_of-Entry, items-the_row-Tree, items-the_row-Entry, items_hidden-the_row-Tree-0, items_hidden-the_row-Entry-1}
 use Rattle.cel_tree.specs.declared.tree.Kind as kind
-use Rattle.cel_tree.specs.Ast.{Ast, Form, Asts, Entries, Node, More, Pair, End, NoEntry, Call, Method, ListOf, MapOf, tree_view, kind_view, row_view, entries_view, asts_of, entries_of, entry_view}
+use Rattle.cel_tree.specs.Ast.{Node, More, Pair, Call, Method, ListOf, MapOf, tree_view, kind_view, row_view, entries_view, asts_of, entries_of, entry_view}
 
 row_items : (n : _) (row : Row_of-Tree n) → row_view row ≡ asts_of (map tree_view (items-the_row-Tree n row))
 row_items n end_of-Tree = refl

@@ -1,13 +1,10 @@
 -- How an expression is stored as a tree of numbers, so that a struct may be seen as an expression.
-use Rattle.std.specs.Prelude.{◌≡◌, ◌⊎◌, ℕ, ℤ, List, [], ◌∷◌, Bool, refl}
-use Rattle.std.specs.Coded.{Coded, code_by, coded×, coded⊎, coded_ℕ, coded_ℤ, coded_bool, coded_list}
+use Rattle.std.specs.Prelude.{◌≡◌, ◌⊎◌, ℕ, ℤ, List, Bool, refl}
+use Rattle.std.specs.Coded.{Coded, code_by, coded⊎, coded_ℕ, coded_ℤ, coded_bool, coded_list}
 use base.Stored.{Gv, gnil, gnum, gcons, num, coded_unit}
 use mathlib.Core.Path.{ap, subst, sym}
 use mathlib.Core.Logic.{inl, inr}
 use Prim.Native.Nat.{zero, suc}
-use Rattle.cel_tree.specs.declared.tree.Span.{Span}
-use Rattle.cel_tree.specs.declared.tree.UnaryOp.{UnaryOp}
-use Rattle.cel_tree.specs.declared.tree.BinaryOp.{BinaryOp}
 use Rattle.cel_tree.specs.contracts.tree.Span as span
 use Rattle.cel_tree.specs.contracts.tree.UnaryOp as unary_op
 use Rattle.cel_tree.specs.contracts.tree.BinaryOp as binary_op
