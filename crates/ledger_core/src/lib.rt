@@ -11,3 +11,6 @@ pub use entry::{Entry, Event, Stand};
 pub use error::LedgerError;
 pub use laws::{histories_grow, reserved_goes_on};
 pub use ledger::{Done, Ledger};
+
+#[cfg(test)]
+mod tests;
