@@ -109,14 +109,16 @@ one_goes_on s pod plan job p k c results there keys claim grants =
     let next : find (λ l. not (has_written s1 pod l)) (claims_of p1) ≡ Some k =
     ap (λ ks. find (λ l. not (has_written s1 pod l)) (first_places [] ks)) keys ∙ ap (λ b. cond (not b) (Some k) None) unwritten in
     let write : MayWrite s1 pod job k (version_of s1 k) =
-    record { state = p1; node = plan.node; taken = taken; next = next; assumed = used ∙ ap (λ n. Some (Assumed n)) (sym version); version = refl } in
-    (write, λ place.
-    let s2 : State = with_written place pod k s1 in
-    let c2 : ClaimState = written_by place pod c1 in
-    let at2 : at_key s2.claims k ≡ Some c2 = changed_there k (written_by place pod) s1.claims c1 at1 in
-    let user2 : at_key c2.users pod ≡ Some Written = changed_there pod (λ _. Written) c1.users (Assumed c.claim.version) user in
-    let written : has_written s2 pod k ≡ true = ap (λ o. is_written (use_in pod o)) at2 ∙ ap is_written user2 in
-    bind_next s2 pod job plan.node p1 (k ∷ []) (record { there = taken.there; taken = taken.taken }) keys (ap (λ b. b && true) written))
+    record { state = p1; node = plan.node; taken = taken; next = next; assumed = used ∙ ap (λ n. Some (Assumed n)) (sym version); version = refl } in (
+      write,
+      λ place.
+          let s2 : State = with_written place pod k s1 in
+          let c2 : ClaimState = written_by place pod c1 in
+          let at2 : at_key s2.claims k ≡ Some c2 = changed_there k (written_by place pod) s1.claims c1 at1 in
+          let user2 : at_key c2.users pod ≡ Some Written = changed_there pod (λ _. Written) c1.users (Assumed c.claim.version) user in
+          let written : has_written s2 pod k ≡ true = ap (λ o. is_written (use_in pod o)) at2 ∙ ap is_written user2 in
+          bind_next s2 pod job plan.node p1 (k ∷ []) (record { there = taken.there; taken = taken.taken }) keys (ap (λ b. b && true) written),
+    )
 
 -- a claim of the form that is built is there, and has no grant
 built_claim : (o : Option ClaimState) → claim_built o ≡ true → (c : ClaimState) × (o ≡ Some c) × (c.grant ≡ None)

@@ -16,26 +16,13 @@ pub enum Event {
     /// Creates an object, whose uid and version are the entry's place.
     Applied(Object),
     /// Makes the plan's grants, and takes the pod for the job.
-    Reserved {
-        pod: Key,
-        plan: Plan,
-    },
+    Reserved { pod: Key, plan: Plan },
     /// Writes the pod's use of a claim, whose version was `seen`.
-    Wrote {
-        pod: Key,
-        claim: Key,
-        seen: u64,
-    },
+    Wrote { pod: Key, claim: Key, seen: u64 },
     /// Binds the pod to the node of its plan.
-    Bound {
-        pod: Key,
-        node: Text,
-    },
+    Bound { pod: Key, node: Text },
     /// Says that the pod can't be scheduled, and changes nothing.
-    Judged {
-        pod: Key,
-        verdict: Verdict,
-    },
+    Judged { pod: Key, verdict: Verdict },
 }
 
 /// What a job's entries leave.
