@@ -1,32 +1,27 @@
 -- Each token leads to a state that is reached.
-use Rattle.std.proofs.Common.{◌≡◌, ℕ, suc, ◌+◌, ◌≤◌, ◌<◌, nat_le, List, [], ◌∷◌, ◌++◌, Bool, true, false, Option, Some, None, refl, sym, ap, ◌∙◌, subst, arith, if◌then◌else◌, append_assoc, append-nil, le_refl}
-use Rattle.std.proofs.lemmas.Bool.Decides.{nat_tests}
+use Rattle.std.proofs.Common.{◌≡◌, ℕ, suc, ◌≤◌, List, [], ◌∷◌, ◌++◌, true, false, Option, Some, None, refl, sym, ap, ◌∙◌, subst, arith, append_assoc}
 use Rattle.cel_lex.specs.declared.token.TokenKind.{TokenKind}
 use Rattle.cel_lex.specs.declared.token.TokenKind.TheVariants as kind
 use Rattle.cel_lex.specs.Tokens.{Lexeme}
-use Rattle.cel_tree.specs.declared.tree.Span.{Span}
 use Rattle.cel_tree.specs.declared.tree.UnaryOp.{UnaryOp}
 use Rattle.cel_tree.specs.declared.tree.UnaryOp.TheVariants.{Not, Negate}
 use Rattle.cel_tree.specs.declared.tree.BinaryOp.{BinaryOp}
 use Rattle.cel_tree.specs.Ast.{Ast, Node, Ident, Member, span_of}
 use Rattle.cel_parse.specs.declared.part.Part.{Part}
-use Rattle.cel_parse.specs.declared.part.Parts.{Parts}
 use Rattle.cel_parse.specs.declared.part.Parts.TheVariants as parts
-use Rattle.cel_parse.specs.declared.part.Entries.{Entries}
 use Rattle.cel_parse.specs.declared.part.Entries.TheVariants as entries
 use Rattle.cel_parse.specs.declared.state.Due.{Due}
 use Rattle.cel_parse.specs.declared.state.Due.TheVariants.{Expr, Prefixed, First, Next, Closing}
 use Rattle.cel_parse.specs.declared.state.Hand.{Hand}
 use Rattle.cel_parse.specs.declared.state.Hand.TheVariants.{Whole, Name, Field}
-use Rattle.cel_parse.specs.declared.state.Mode.{Mode}
 use Rattle.cel_parse.specs.declared.state.Mode.TheVariants.{Want, Have, Dot}
 use Rattle.cel_parse.specs.declared.state.Frame.{Frame}
 use Rattle.cel_parse.specs.declared.state.Frame.TheVariants as frame
-use Rattle.cel_parse.specs.Grammar.{place, over, level, unary_op, binary_op, is_member_name, Has, name, member, Listed, Arguments, no_argument, arguments, Items, items, items_comma, Paired, Inits, no_pair, lone_comma, pairs, pairs_comma}
-use Rattle.cel_parse.specs.Steps.{binds, binds_top, reduced, part_of, State, may_prefix, may_end, passed, ended, asked, parted, next_of, closed, called, infixed, have_at, named_at, want_at, step_of}
+use Rattle.cel_parse.specs.Grammar.{place, over, level, unary_op, binary_op, is_member_name, Has, name, member, no_argument, arguments, items, items_comma, no_pair, lone_comma, pairs_comma}
+use Rattle.cel_parse.specs.Steps.{binds_top, reduced, part_of, State, may_prefix, may_end, passed, ended, asked, parted, next_of, closed, called, infixed, have_at, named_at, want_at, step_of}
 use Rattle.cel_parse.proofs.Cut.{cut, cuts, cut_pairs, cut_member, cut_leaf, cuts_none, pairs_none}
 use Rattle.cel_parse.proofs.Stops.{expects, expects_top, level_low, level_high}
-use Rattle.cel_parse.proofs.Sound.{weaken, Before, no_item, some_items, BeforeEntry, no_entry, some_entries, Stacked, prefix_first, prefix_again, infix_at, test_at, branch_at, round_at, subscript_at, list_at, call_at, method_at, map_at, value_at, Collapsed, reduced_sound}
+use Rattle.cel_parse.proofs.Sound.{weaken, no_item, some_items, no_entry, some_entries, Stacked, prefix_first, prefix_again, infix_at, test_at, branch_at, round_at, subscript_at, list_at, call_at, method_at, map_at, value_at, Collapsed, reduced_sound}
 use Rattle.cel_parse.proofs.Reached.{At, want_expr, want_member, first_list, first_map, first_call, first_method, next_list, next_map, closing_list, closing_map, have_whole_at, have_name_at, have_field_at, dotted, Goes, move, want_goes, end_list, end_call, end_method, end_map, comma_goes, close_goes, level_above, low_false}
 
 level_within : (x : BinaryOp) → suc (level x) ≤ 6

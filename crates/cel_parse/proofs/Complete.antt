@@ -1,5 +1,5 @@
 -- What has a tree is read as that tree, whatever follows that doesn't go on with it.
-use Rattle.std.proofs.Common.{◌≡◌, ℕ, suc, ◌+◌, ◌≤◌, ◌<◌, nat_le, ◌==◌, List, [], ◌∷◌, ◌++◌, Bool, true, false, Option, Some, None, option_map, refl, sym, ap, ◌∙◌, subst, arith, if◌then◌else◌, append_assoc, append-nil, le_refl}
+use Rattle.std.proofs.Common.{◌≡◌, ℕ, suc, ◌≤◌, nat_le, List, [], ◌∷◌, ◌++◌, Bool, true, false, Option, Some, None, refl, sym, ap, ◌∙◌, subst, arith, if◌then◌else◌, append_assoc, append-nil, le_refl}
 use Rattle.std.proofs.lemmas.Bool.Decides.{nat_tests}
 use Rattle.cel_lex.specs.declared.token.TokenKind.{TokenKind}
 use Rattle.cel_lex.specs.declared.token.TokenKind.TheVariants as kind
@@ -8,7 +8,7 @@ use Rattle.cel_tree.specs.declared.tree.Span.{Span}
 use Rattle.cel_tree.specs.declared.tree.UnaryOp.{UnaryOp}
 use Rattle.cel_tree.specs.declared.tree.UnaryOp.TheVariants.{Not, Negate}
 use Rattle.cel_tree.specs.declared.tree.BinaryOp.{BinaryOp}
-use Rattle.cel_tree.specs.Ast.{Constant, Ast, Form, Node, Literal', Ident, Unary, Binary, Conditional, Member, Index, Call, Method, ListOf, MapOf, asts_of, entries_of, span_of}
+use Rattle.cel_tree.specs.Ast.{Constant, Ast, Literal', Ident}
 use Rattle.cel_parse.specs.declared.part.Part.{Part}
 use Rattle.cel_parse.specs.declared.part.Parts.{Parts}
 use Rattle.cel_parse.specs.declared.part.Parts.TheVariants as parts
@@ -18,14 +18,13 @@ use Rattle.cel_parse.specs.declared.state.Due.{Due}
 use Rattle.cel_parse.specs.declared.state.Due.TheVariants.{Expr, Prefixed, First, Next, Closing}
 use Rattle.cel_parse.specs.declared.state.Hand.{Hand}
 use Rattle.cel_parse.specs.declared.state.Hand.TheVariants.{Whole, Name, Field}
-use Rattle.cel_parse.specs.declared.state.Mode.{Mode}
 use Rattle.cel_parse.specs.declared.state.Mode.TheVariants.{Want, Have, Dot}
 use Rattle.cel_parse.specs.declared.state.Frame.{Frame}
 use Rattle.cel_parse.specs.declared.state.Frame.TheVariants as frame
 use Rattle.cel_parse.specs.Grammar.{place, over, level, unary_op, binary_op, constant_of, is_member_name, Has, tighter, conditional, binary, unary, literal, name, brackets, member, index, call, method, list, map_literal, Repeats, once, again, Listed, first, more, Arguments, no_argument, arguments, Items, items, items_comma, Paired, first_pair, more_pairs, Inits, no_pair, lone_comma, pairs, pairs_comma}
 use Rattle.cel_parse.specs.Parts.{leaf_part, index_part}
 use Rattle.cel_parse.specs.Operands.{hand_of, operand_at, operand_of}
-use Rattle.cel_parse.specs.Steps.{binds, completed, reduced, part_of, State, may_begin, may_end, may_prefix, opened, prefixed, passed, ended, ended_frame, have_whole, have_operand, want_at, asked, parted, grown, want_next, next_of, closed_grown, closed_round, closed_subscript, closed_frame, closed, called, infixed, have_at, named_at, step_of, alone, finished, Reading, Read, read_end, read_token, reading, begun}
+use Rattle.cel_parse.specs.Steps.{binds, completed, reduced, State, may_begin, may_end, may_prefix, opened, prefixed, ended, ended_frame, have_whole, have_operand, want_at, asked, grown, want_next, next_of, closed_grown, closed_round, closed_subscript, closed_frame, closed, infixed, have_at, named_at, step_of, Reading, Read, read_token, reading, begun}
 use Rattle.cel_parse.proofs.Cut.{cut, cuts, cut_pairs, cut_unary, cut_binary, cut_conditional, cut_member, cut_index, cut_call, cut_method, cut_list, cut_map, cut_leaf, cuts_none, pairs_none, cuts_more, cuts_pair}
 use Rattle.cel_parse.proofs.Stops.{expects, expects_top, stops, stops_op, Follows, follows_more, level_low, level_high, reduced_none, go_step, unwind, whole}
 

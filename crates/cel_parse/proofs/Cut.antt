@@ -1,10 +1,10 @@
 -- What is kept of a tree, and how it is made from what is kept of its parts.
-use Rattle.std.proofs.Common.{◌≡◌, ℕ, ◌+◌, ◌≤◌, max, nat_le, List, [], ◌∷◌, ◌++◌, Bool, true, false, cond, refl, sym, ap, ◌∙◌, subst, arith, if◌then◌else◌}
+use Rattle.std.proofs.Common.{◌≡◌, ℕ, ◌+◌, ◌≤◌, max, nat_le, List, [], ◌∷◌, ◌++◌, Bool, true, false, refl, arith, if◌then◌else◌}
 use Rattle.std.proofs.lemmas.Bool.Decides.{nat_tests}
 use Rattle.cel_tree.specs.declared.tree.Span.{Span}
 use Rattle.cel_tree.specs.declared.tree.UnaryOp.{UnaryOp}
 use Rattle.cel_tree.specs.declared.tree.BinaryOp.{BinaryOp}
-use Rattle.cel_tree.specs.Ast.{Ast, Form, Asts, Entries, Node, More, Pair, Unary, Binary, Conditional, Member, Index, Call, Method, ListOf, MapOf, asts_of, entries_of, span_of, depth, below, deepest, deepest_entry}
+use Rattle.cel_tree.specs.Ast.{Ast, Form, Node, Unary, Binary, Conditional, Member, Index, Call, Method, ListOf, MapOf, asts_of, entries_of, span_of, depth, below, deepest, deepest_entry}
 use Rattle.cel_parse.specs.declared.part.Part.{Part}
 use Rattle.cel_parse.specs.declared.part.Part.TheVariants.{Shallow, Deep}
 use Rattle.cel_parse.specs.declared.part.Parts.{Parts}

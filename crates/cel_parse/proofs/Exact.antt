@@ -1,18 +1,16 @@
 -- What is read is exact: the tree, the first place where no expression goes on, and that there is one tree.
-use Rattle.std.proofs.Common.{◌≡◌, ℕ, suc, ◌+◌, ◌≤◌, ◌<◌, nat_le, List, [], ◌∷◌, ◌++◌, Bool, true, false, Option, Some, None, refl, sym, ap, ◌∙◌, subst, arith, if◌then◌else◌, append_assoc, append-nil, le_refl}
+use Rattle.std.proofs.Common.{◌≡◌, ℕ, ◌+◌, ◌≤◌, ◌<◌, nat_le, List, [], ◌∷◌, ◌++◌, Bool, true, false, Option, Some, None, refl, sym, ap, ◌∙◌, subst, arith, if◌then◌else◌, append_assoc, append-nil}
 use Rattle.std.proofs.lemmas.Bool.Decides.{nat_tests}
 use Rattle.cel_lex.specs.Tokens.{Lexeme}
 use Rattle.cel_tree.specs.declared.tree.Span.{Span}
 use Rattle.cel_tree.specs.Ast.{Ast, Node, Ident, Member, depth, span_of}
 use Rattle.cel_parse.specs.declared.part.Part.{Part}
 use Rattle.cel_parse.specs.declared.part.Part.TheVariants.{Shallow, Deep}
-use Rattle.cel_parse.specs.declared.state.Due.TheVariants.{Expr}
-use Rattle.cel_parse.specs.declared.state.Hand.TheVariants.{Whole, Name, Field}
-use Rattle.cel_parse.specs.declared.state.Mode.TheVariants.{Want, Have, Dot}
+use Rattle.cel_parse.specs.declared.state.Hand.TheVariants.{Name, Field}
 use Rattle.cel_parse.specs.declared.state.Frame.{Frame}
 use Rattle.cel_parse.specs.Grammar.{place, over, Has, name, member}
-use Rattle.cel_parse.specs.Steps.{State, part_of, reduced, step_of, alone, finished, Reading, Read, Fault, read_end, read_token, reading, begun}
-use Rattle.cel_parse.specs.Answer.{Begins, first_place, GoesNot, Unfit, HasTree}
+use Rattle.cel_parse.specs.Steps.{State, part_of, reduced, step_of, alone, finished, Read, Fault, read_end, read_token, reading, begun}
+use Rattle.cel_parse.specs.Answer.{Begins, Unfit, HasTree}
 use Rattle.cel_parse.proofs.Cut.{cut, cut_leaf, cut_member}
 use Rattle.cel_parse.proofs.Complete.{read_whole}
 use Rattle.cel_parse.proofs.Sound.{weaken, Stacked, bottom, Collapsed}

@@ -1,5 +1,5 @@
 -- The tokens so far and those that are still to be read.
-use Rattle.std.proofs.Common.{◌≡◌, List, [], ◌∷◌, ◌++◌, map, Option, Some, None, refl, sym, ap, ◌∙◌, append_assoc, append-nil}
+use Rattle.std.proofs.Common.{◌≡◌, List, [], ◌∷◌, ◌++◌, map, Some, None, refl, sym, ap, ◌∙◌, append_assoc, append-nil}
 use Rattle.cel_lex.specs.declared.token.Token.{Token}
 use Rattle.cel_lex.specs.declared.token.LexError.{LexError}
 use Rattle.cel_lex.specs.Tokens.{Lexeme, Lexed, lexeme, with_token, nothing}

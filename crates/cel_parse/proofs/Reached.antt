@@ -1,5 +1,5 @@
 -- The states that are reached, with the tokens that led there.
-use Rattle.std.proofs.Common.{◌≡◌, ℕ, suc, ◌+◌, ◌≤◌, ◌<◌, nat_le, List, [], ◌∷◌, ◌++◌, Bool, true, false, Option, Some, None, refl, sym, ap, ◌∙◌, subst, arith, if◌then◌else◌, append_assoc, append-nil, le_refl}
+use Rattle.std.proofs.Common.{◌≡◌, ℕ, suc, ◌≤◌, ◌<◌, nat_le, List, [], ◌∷◌, ◌++◌, Bool, true, false, Option, Some, None, refl, sym, ap, ◌∙◌, subst, arith, if◌then◌else◌, append_assoc}
 use Rattle.std.proofs.lemmas.Bool.Decides.{nat_tests}
 use Rattle.cel_lex.specs.declared.token.TokenKind.{TokenKind}
 use Rattle.cel_lex.specs.declared.token.TokenKind.TheVariants as kind
@@ -8,7 +8,7 @@ use Rattle.cel_tree.specs.declared.tree.Span.{Span}
 use Rattle.cel_tree.specs.declared.tree.UnaryOp.{UnaryOp}
 use Rattle.cel_tree.specs.declared.tree.UnaryOp.TheVariants.{Not, Negate}
 use Rattle.cel_tree.specs.declared.tree.BinaryOp.{BinaryOp}
-use Rattle.cel_tree.specs.Ast.{Constant, Ast, Node, Literal', Ident, Member, Index, Call, Method, ListOf, MapOf, asts_of, entries_of, span_of}
+use Rattle.cel_tree.specs.Ast.{Constant, Ast, Node, Literal', Index, Call, Method, ListOf, MapOf, asts_of, entries_of, span_of}
 use Rattle.cel_parse.specs.declared.part.Part.{Part}
 use Rattle.cel_parse.specs.declared.part.Parts.{Parts}
 use Rattle.cel_parse.specs.declared.part.Parts.TheVariants as parts
@@ -16,19 +16,17 @@ use Rattle.cel_parse.specs.declared.part.Entries.{Entries}
 use Rattle.cel_parse.specs.declared.part.Entries.TheVariants as entries
 use Rattle.cel_parse.specs.declared.state.Due.{Due}
 use Rattle.cel_parse.specs.declared.state.Due.TheVariants.{Expr, Prefixed, First, Next, Closing}
-use Rattle.cel_parse.specs.declared.state.Hand.{Hand}
 use Rattle.cel_parse.specs.declared.state.Hand.TheVariants.{Whole, Name, Field}
-use Rattle.cel_parse.specs.declared.state.Mode.{Mode}
 use Rattle.cel_parse.specs.declared.state.Mode.TheVariants.{Want, Have, Dot}
 use Rattle.cel_parse.specs.declared.state.Frame.{Frame}
 use Rattle.cel_parse.specs.declared.state.Frame.TheVariants as frame
-use Rattle.cel_parse.specs.Grammar.{place, over, level, unary_op, binary_op, constant_of, is_member_name, Has, tighter, literal, name, brackets, member, index, call, method, list, map_literal, Listed, first, more, Arguments, no_argument, arguments, Items, items, items_comma, Paired, first_pair, more_pairs, Inits, no_pair, lone_comma, pairs, pairs_comma}
-use Rattle.cel_parse.specs.Parts.{leaf_part, list_part, call_part, method_part, map_part, index_part, member_part, added_item, added_pair}
+use Rattle.cel_parse.specs.Grammar.{place, over, level, unary_op, constant_of, is_member_name, Has, literal, brackets, index, call, method, list, map_literal, Listed, first, more, Arguments, arguments, Items, items, Paired, first_pair, more_pairs, Inits, pairs}
+use Rattle.cel_parse.specs.Parts.{leaf_part, list_part, call_part, method_part, map_part, index_part, added_item, added_pair}
 use Rattle.cel_parse.specs.Operands.{hand_of, operand_at, operand_of}
-use Rattle.cel_parse.specs.Steps.{binds, binds_top, completed, reduced, part_of, State, may_begin, may_end, may_prefix, opened, prefixed, passed, passed_at, ended, ended_frame, have_whole, have_operand, want_at, asked, parted, grown, want_next, next_of, closed_grown, closed_round, closed_subscript, closed_frame, closed, called, infixed, have_at, named_at, step_of}
-use Rattle.cel_parse.proofs.Cut.{cut, cuts, cut_pairs, cut_member, cut_index, cut_call, cut_method, cut_list, cut_map, cut_leaf, cuts_none, pairs_none, cuts_more, cuts_pair}
-use Rattle.cel_parse.proofs.Stops.{expects, expects_top, level_low, level_high}
-use Rattle.cel_parse.proofs.Sound.{weaken, Before, no_item, some_items, BeforeEntry, no_entry, some_entries, Stacked, bottom, prefix_first, prefix_again, infix_at, test_at, branch_at, round_at, subscript_at, list_at, call_at, method_at, map_at, value_at, Collapsed, reduced_sound}
+use Rattle.cel_parse.specs.Steps.{State, may_begin, may_end, may_prefix, passed, ended, ended_frame, have_whole, have_operand, want_at, grown, want_next, closed_round, closed_subscript, closed_frame}
+use Rattle.cel_parse.proofs.Cut.{cut, cuts, cut_pairs, cut_index, cut_call, cut_method, cut_list, cut_map, cut_leaf, cuts_more, cuts_pair}
+use Rattle.cel_parse.proofs.Stops.{expects_top, level_low}
+use Rattle.cel_parse.proofs.Sound.{Before, no_item, some_items, BeforeEntry, no_entry, some_entries, Stacked, prefix_first, prefix_again, infix_at, test_at, branch_at, round_at, subscript_at, list_at, call_at, method_at, map_at, value_at}
 
 pub listed : (us ts : List Lexeme) (l : List Ast) (t : Ast) → Before us l → Has 0 ts t → Listed (us ++ ts) (l ++ t ∷ [])
 listed us ts l t no_item h = first h

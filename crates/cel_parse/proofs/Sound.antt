@@ -1,7 +1,6 @@
 -- What is read has a tree.
-use Rattle.std.proofs.Common.{◌≡◌, ℕ, zero, suc, ◌+◌, ◌-◌, ◌≤◌, ◌<◌, nat_le, ◌==◌, List, [], ◌∷◌, ◌++◌, Bool, true, false, Option, Some, None, refl, sym, ap, ◌∙◌, subst, arith, if◌then◌else◌, append_assoc, append-nil, le_refl}
+use Rattle.std.proofs.Common.{◌≡◌, ℕ, zero, suc, ◌+◌, ◌-◌, ◌≤◌, nat_le, ◌==◌, List, [], ◌∷◌, ◌++◌, Bool, true, false, Some, refl, sym, ap, ◌∙◌, subst, arith, if◌then◌else◌, append_assoc}
 use Rattle.std.proofs.lemmas.Bool.Decides.{nat_tests}
-use Rattle.cel_lex.specs.declared.token.TokenKind.{TokenKind}
 use Rattle.cel_lex.specs.declared.token.TokenKind.TheVariants as kind
 use Rattle.cel_lex.specs.Tokens.{Lexeme}
 use Rattle.cel_tree.specs.declared.tree.Span.{Span}
@@ -13,9 +12,9 @@ use Rattle.cel_parse.specs.declared.state.Frame.{Frame}
 use Rattle.cel_parse.specs.declared.state.Frame.TheVariants as frame
 use Rattle.cel_parse.specs.Grammar.{place, over, level, unary_op, binary_op, is_member_name, Has, tighter, conditional, binary, unary, Repeats, once, again, Listed, Paired}
 use Rattle.cel_parse.specs.Parts.{unary_part, binary_part, conditional_part}
-use Rattle.cel_parse.specs.Steps.{binds, binds_top, completed, reduced}
+use Rattle.cel_parse.specs.Steps.{binds_top, reduced}
 use Rattle.cel_parse.proofs.Cut.{cut, cuts, cut_pairs, cut_unary, cut_binary, cut_conditional}
-use Rattle.cel_parse.proofs.Stops.{expects, expects_top, level_low, level_high}
+use Rattle.cel_parse.proofs.Stops.{expects_top}
 
 down : (d n : ℕ) (ts : List Lexeme) (t : Ast) → Has (d + n) ts t → Has n ts t
 down zero n ts t h = let e : 0 + n ≡ n = omega arith in subst (λ (k : ℕ). Has k ts t) e h

@@ -1,25 +1,21 @@
 -- Where an expression stops, and what the tokens behind it make of what was begun.
-use Rattle.std.proofs.Common.{◌≡◌, ℕ, suc, ◌+◌, ◌≤◌, ◌<◌, nat_le, ◌==◌, List, [], ◌∷◌, ◌++◌, Bool, true, false, Option, Some, None, refl, sym, ap, ◌∙◌, subst, arith, if◌then◌else◌}
+use Rattle.std.proofs.Common.{◌≡◌, ℕ, suc, ◌≤◌, ◌<◌, nat_le, ◌==◌, List, [], ◌∷◌, Bool, true, false, Option, Some, None, refl, ap, arith, if◌then◌else◌}
 use Rattle.std.proofs.lemmas.Bool.Decides.{nat_tests}
 use Rattle.cel_lex.specs.declared.token.TokenKind.{TokenKind}
 use Rattle.cel_lex.specs.declared.token.TokenKind.TheVariants as kind
 use Rattle.cel_lex.specs.Tokens.{Lexeme}
 use Rattle.cel_tree.specs.declared.tree.Span.{Span}
-use Rattle.cel_tree.specs.declared.tree.UnaryOp.{UnaryOp}
-use Rattle.cel_tree.specs.declared.tree.UnaryOp.TheVariants.{Not, Negate}
 use Rattle.cel_tree.specs.declared.tree.BinaryOp.{BinaryOp}
 use Rattle.cel_tree.specs.declared.tree.BinaryOp.TheVariants as op
 use Rattle.cel_parse.specs.declared.part.Part.{Part}
-use Rattle.cel_parse.specs.declared.state.Due.{Due}
-use Rattle.cel_parse.specs.declared.state.Due.TheVariants.{Expr, Prefixed, First, Next, Closing}
+use Rattle.cel_parse.specs.declared.state.Due.TheVariants.{Expr}
 use Rattle.cel_parse.specs.declared.state.Hand.{Hand}
-use Rattle.cel_parse.specs.declared.state.Hand.TheVariants.{Whole, Name, Field}
-use Rattle.cel_parse.specs.declared.state.Mode.{Mode}
-use Rattle.cel_parse.specs.declared.state.Mode.TheVariants.{Want, Have, Dot}
+use Rattle.cel_parse.specs.declared.state.Hand.TheVariants.{Whole}
+use Rattle.cel_parse.specs.declared.state.Mode.TheVariants.{Want, Have}
 use Rattle.cel_parse.specs.declared.state.Frame.{Frame}
-use Rattle.cel_parse.specs.declared.state.Frame.TheVariants.{Prefix, Infix, Test, Branch, Round, Subscript, Square, Function, Method, Braces, Value}
+use Rattle.cel_parse.specs.declared.state.Frame.TheVariants.{Prefix, Infix, Test, Branch}
 use Rattle.cel_parse.specs.Grammar.{place, level, binary_op}
-use Rattle.cel_parse.specs.Steps.{binds, completed, reduced, part_of, State, infixed, asked, parted, next_of, closed, have_at, alone, finished, Reading, read_end, read_token, reading, step_of}
+use Rattle.cel_parse.specs.Steps.{binds, completed, reduced, part_of, State, infixed, asked, parted, next_of, closed, have_at, alone, read_end, read_token, reading, step_of}
 
 -- the level of an operand that a frame waits for
 abbrev pub expects : Frame → ℕ

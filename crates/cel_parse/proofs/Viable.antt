@@ -1,18 +1,17 @@
 -- An expression begins with the tokens that led to a state.
-use Rattle.std.proofs.Common.{◌≡◌, ℕ, suc, ◌+◌, ◌≤◌, ◌<◌, List, [], ◌∷◌, ◌++◌, Bool, true, false, Option, Some, None, refl, sym, ap, ◌∙◌, subst, arith, append_assoc, append-nil, le_refl}
+use Rattle.std.proofs.Common.{◌≡◌, ℕ, suc, ◌≤◌, List, [], ◌∷◌, ◌++◌, refl, sym, ap, ◌∙◌, subst, arith, append_assoc, append-nil}
 use Rattle.cel_lex.specs.declared.token.TokenKind.{TokenKind}
 use Rattle.cel_lex.specs.declared.token.TokenKind.TheVariants as kind
 use Rattle.cel_lex.specs.Tokens.{Lexeme}
 use Rattle.cel_tree.specs.declared.tree.Span.{Span}
 use Rattle.cel_tree.specs.declared.tree.UnaryOp.{UnaryOp}
-use Rattle.cel_tree.specs.declared.tree.BinaryOp.{BinaryOp}
-use Rattle.cel_tree.specs.Ast.{Constant, Null, Ast, Node, Literal', Ident, Unary, Binary, Conditional, Member, Index, Call, Method, ListOf, MapOf, asts_of, entries_of, span_of}
+use Rattle.cel_tree.specs.Ast.{Null, Ast, Node, Literal', Ident, Unary, Binary, Conditional, Member, Index, Call, Method, ListOf, MapOf, asts_of, entries_of, span_of}
 use Rattle.cel_parse.specs.declared.state.Frame.{Frame}
 use Rattle.cel_parse.specs.declared.state.Frame.TheVariants as frame
 use Rattle.cel_parse.specs.Grammar.{place, over, level, Has, conditional, binary, unary, literal, name, brackets, member, index, call, method, list, map_literal, Repeats, once, again, arguments, no_argument, items, items_comma, lone_comma, pairs}
 use Rattle.cel_parse.specs.Steps.{State}
 use Rattle.cel_parse.specs.Answer.{Begins}
-use Rattle.cel_parse.proofs.Stops.{expects, expects_top}
+use Rattle.cel_parse.proofs.Stops.{expects_top}
 use Rattle.cel_parse.proofs.Sound.{weaken, no_item, some_items, no_entry, some_entries, Stacked, bottom, prefix_first, prefix_again, infix_at, test_at, branch_at, round_at, subscript_at, list_at, call_at, method_at, map_at, value_at}
 use Rattle.cel_parse.proofs.Reached.{listed, paired, At, want_expr, want_member, first_list, first_map, first_call, first_method, next_list, next_map, closing_list, closing_map, have_whole_at, have_name_at, have_field_at, dotted}
 use Rattle.cel_parse.proofs.Behind.{expects_within}

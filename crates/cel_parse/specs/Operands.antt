@@ -1,11 +1,10 @@
 -- The operands that are one token.
-use Rattle.std.specs.Prelude.{ℕ, ℤ, List, Bool, true, false, Option, Some, None}
+use Rattle.std.specs.Prelude.{ℕ, Option, Some, None}
 use Rattle.cel_lex.specs.declared.token.TokenKind.{TokenKind}
 use Rattle.cel_lex.specs.declared.token.TokenKind.TheVariants as kind
 use Rattle.cel_lex.specs.Tokens.{Lexeme}
-use Rattle.cel_lex.specs.Strings.{content_of}
 use Rattle.cel_tree.specs.declared.tree.Span.{Span}
-use Rattle.cel_tree.specs.Ast.{Constant, Null, Truth, Whole, Bytes, Literal'}
+use Rattle.cel_tree.specs.Ast.{Constant, Literal'}
 use Rattle.cel_parse.specs.declared.state.Hand.{Hand}
 use Rattle.cel_parse.specs.declared.state.Hand.TheVariants as hand
 use Rattle.cel_parse.specs.Grammar.{place, constant_of}

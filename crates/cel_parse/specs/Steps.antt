@@ -1,5 +1,5 @@
 -- How tokens are read from the left: what was begun and waits, and what each token makes of it.
-use Rattle.std.specs.Prelude.{◌≡◌, ℕ, ◌+◌, nat_le, ◌==◌, List, [], ◌∷◌, Bool, true, false, Option, Some, None, option_map, Result, Ok, Err, if◌then◌else◌}
+use Rattle.std.specs.Prelude.{◌≡◌, ℕ, nat_le, ◌==◌, List, [], ◌∷◌, Bool, true, false, Option, Some, None, Result, Ok, Err, if◌then◌else◌}
 use Rattle.std.specs.declared.alloc.AllocError.{AllocError}
 use Rattle.cel_lex.specs.declared.token.TokenKind.{TokenKind}
 use Rattle.cel_lex.specs.declared.token.TokenKind.TheVariants as kind
@@ -8,12 +8,9 @@ use Rattle.cel_tree.specs.declared.tree.Span.{Span}
 use Rattle.cel_tree.specs.declared.tree.UnaryOp.{UnaryOp}
 use Rattle.cel_tree.specs.declared.tree.UnaryOp.TheVariants.{Not, Negate}
 use Rattle.cel_tree.specs.declared.tree.BinaryOp.{BinaryOp}
-use Rattle.cel_tree.specs.declared.tree.BinaryOp.TheVariants as op
 use Rattle.cel_tree.specs.Ast.{Ident}
 use Rattle.cel_parse.specs.declared.part.Part.{Part}
-use Rattle.cel_parse.specs.declared.part.Parts.{Parts}
 use Rattle.cel_parse.specs.declared.part.Parts.TheVariants as parts
-use Rattle.cel_parse.specs.declared.part.Entries.{Entries}
 use Rattle.cel_parse.specs.declared.part.Entries.TheVariants as entries
 use Rattle.cel_parse.specs.declared.state.Due.{Due}
 use Rattle.cel_parse.specs.declared.state.Due.TheVariants.{Expr, Prefixed, First, Next, Closing}

@@ -10,7 +10,7 @@ use Rattle.cel_lex.specs.Tokens.{Lexeme, Lexed, lexeme, lex_of}
 use Rattle.cel_tree.specs.declared.tree.Span.{Span}
 use Rattle.cel_tree.specs.declared.tree.Tree.{Tree}
 use Rattle.cel_parse.specs.declared.run.ParseError.{ParseError}
-use Rattle.cel_parse.specs.declared.run.ParseError.TheVariants.{Lex, Unexpected, Deep, Long, Memory, NotSupported}
+use Rattle.cel_parse.specs.declared.run.ParseError.TheVariants.{Lex, Deep, Long, Memory, NotSupported}
 use Rattle.cel_parse.specs.Grammar.{place}
 use Rattle.cel_parse.specs.Answer.{Parsed}
 
