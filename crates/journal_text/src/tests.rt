@@ -124,24 +124,35 @@ fn objects_have_lines(rt: HostRuntime) -> Result<(), Fail> {
         claims: Seq::empty(alloc),
     });
     let odd = node(alloc, "a\u{1}\nb\u{1f}\u{7f} c")?;
-    let objects = vec![in alloc;
-        node(alloc, "n1")?,
-        Object::Slice(slice(alloc)?),
-        class,
-        claim,
-        pod,
-        odd,
-    ]?;
-    let mut text = Vec::new(alloc);
-    let mut place = 0;
-    for object in objects {
-        place += 1;
-        let line = shown(alloc, place, place + 10, Event::Applied(object))?;
-        text.extend_from_slice(&line)?;
+    let lines = [
+        (
+            shown(alloc, 1, 11, Event::Applied(node(alloc, "n1")?))?,
+            "1 11 applied Node n1\n",
+        ),
+        (
+            shown(alloc, 2, 12, Event::Applied(Object::Slice(slice(alloc)?)))?,
+            "2 12 applied ResourceSlice s1\n",
+        ),
+        (
+            shown(alloc, 3, 13, Event::Applied(class))?,
+            "3 13 applied DeviceClass gpu\n",
+        ),
+        (
+            shown(alloc, 4, 14, Event::Applied(claim))?,
+            "4 14 applied ResourceClaim default/c\n",
+        ),
+        (
+            shown(alloc, 5, 15, Event::Applied(pod))?,
+            "5 15 applied Pod p\n",
+        ),
+        (
+            shown(alloc, 6, 16, Event::Applied(odd))?,
+            "6 16 applied Node a??b?? c\n",
+        ),
+    ];
+    for (got, want) in &lines {
+        assert_eq!(rt; got.as_slice(), want.as_bytes(), "{want}");
     }
-    let want =
-        "1 11 applied Node n1\n2 12 applied ResourceSlice s1\n3 13 applied DeviceClass gpu\n4 14 applied ResourceClaim default/c\n5 15 applied Pod p\n6 16 applied Node a??b?? c\n";
-    assert_eq!(rt; text.as_slice(), want.as_bytes());
     Ok(())
 }
 
