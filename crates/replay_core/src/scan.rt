@@ -41,6 +41,8 @@ fn do_line<K: Sink>(
     ensures stops { IfErr result (LineStops at line.now work.old work.new (K.written output.old) (K.written output.new)) }
     ensures write { IfErr result (λ s. s ≡ Status.Write → Rose (K.faults output.old) (K.faults output.new)) }
     ensures later { K.faults output.old ≤ K.faults output.new }
+    ensures ok_faultless { OnOk result (K.faults output.new ≡ K.faults output.old) }
+    ensures err_faultless { IfErr result (λ s. (s ≡ Status.Write → ⊥) → K.faults output.new ≡ K.faults output.old) }
     ensures legal { Legal work.new.ledger.entries }
 {
     match line {
@@ -62,6 +64,8 @@ fn end_line<K: Sink>(alloc: Global, scan: &mut Scan, output: &mut K) -> Result<(
     ensures stops { IfErr result (λ s. (limit : ℕ) (left now next before : Option (List ℕ)) → Progress limit left now before (K.written output.old) scan.old → Consumes now next (10 ∷ []) → Ends limit left next before (K.written output.new) s) }
     ensures write { IfErr result (λ s. s ≡ Status.Write → Rose (K.faults output.old) (K.faults output.new)) }
     ensures later { K.faults output.old ≤ K.faults output.new }
+    ensures ok_faultless { OnOk result (K.faults output.new ≡ K.faults output.old) }
+    ensures err_faultless { IfErr result (λ s. (s ≡ Status.Write → ⊥) → K.faults output.new ≡ K.faults output.old) }
     ensures kind { IfErr result IsStop }
 {
     histories_grow();
@@ -110,6 +114,8 @@ pub fn take_byte<K: Sink>(
     ensures stops { IfErr result (λ s. (limit : ℕ) (left now next before : Option (List ℕ)) → Progress limit left now before (K.written output.old) scan.old → Consumes now next (byte ∷ []) → Ends limit left next before (K.written output.new) s) }
     ensures write { IfErr result (λ s. s ≡ Status.Write → Rose (K.faults output.old) (K.faults output.new)) }
     ensures later { K.faults output.old ≤ K.faults output.new }
+    ensures ok_faultless { OnOk result (K.faults output.new ≡ K.faults output.old) }
+    ensures err_faultless { IfErr result (λ s. (s ≡ Status.Write → ⊥) → K.faults output.new ≡ K.faults output.old) }
     ensures kind { IfErr result IsStop }
 {
     if byte == b'\n' {
@@ -126,6 +132,7 @@ pub fn end_input<K: Sink>(alloc: Global, scan: &mut Scan, output: &mut K) -> Sta
     ensures ends { (limit : ℕ) (left now before : Option (List ℕ)) → Progress limit left now before (K.written output.old) scan.old → IsAtEnd now → Ends limit left now before (K.written output.new) result }
     ensures write { result ≡ Status.Write → Rose (K.faults output.old) (K.faults output.new) }
     ensures later { K.faults output.old ≤ K.faults output.new }
+    ensures faultless { (result ≡ Status.Write → ⊥) → K.faults output.new ≡ K.faults output.old }
     ensures kind { IsEnd result }
 {
     histories_grow();
@@ -141,6 +148,7 @@ fn print_summary<K: Sink>(alloc: Global, work: &Work, output: &mut K) -> Status
     ensures printed { Summarized work.now (K.written output.old) (K.written output.new) result }
     ensures write { result ≡ Status.Write → Rose (K.faults output.old) (K.faults output.new) }
     ensures later { K.faults output.old ≤ K.faults output.new }
+    ensures faultless { (result ≡ Status.Write → ⊥) → K.faults output.new ≡ K.faults output.old }
 {
     let Ok(text) = summary(alloc, &work.ledger, work.commands) else {
         return Status::Memory;

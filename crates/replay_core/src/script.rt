@@ -36,8 +36,10 @@ fn step<S: Source, K: Sink>(
     ensures all_read { IfErr result (λ s. s ≡ Status.Done → IsAtEnd (S.left input.new)) }
     ensures read { IfErr result (λ s. s ≡ Status.Read → Rose (S.faults input.old) (S.faults input.new)) }
     ensures write { IfErr result (λ s. s ≡ Status.Write → Rose (K.faults output.old) (K.faults output.new)) }
-    ensures later_in { S.faults input.old ≤ S.faults input.new }
-    ensures later_out { K.faults output.old ≤ K.faults output.new }
+    ensures ok_faultless_input { OnOk result (S.faults input.new ≡ S.faults input.old) }
+    ensures ok_faultless_output { OnOk result (K.faults output.new ≡ K.faults output.old) }
+    ensures err_faultless_input { IfErr result (λ s. (s ≡ Status.Read → ⊥) → S.faults input.new ≡ S.faults input.old) }
+    ensures err_faultless_output { IfErr result (λ s. (s ≡ Status.Write → ⊥) → K.faults output.new ≡ K.faults output.old) }
 {
     match reader.next(input) {
         Ok(Some(byte)) => match take_byte(alloc, scan, byte, output) {
@@ -71,7 +73,9 @@ pub fn replay<S: Source, K: Sink>(
     ensures ends { Ends entries (S.left input.old) (S.left input.new) (K.written output.old) (K.written output.new) result }
     ensures all_read { result ≡ Status.Done → IsAtEnd (S.left input.new) }
     ensures read { result ≡ Status.Read → Rose (S.faults input.old) (S.faults input.new) }
+    ensures faultless_input { (result ≡ Status.Read → ⊥) → S.faults input.new ≡ S.faults input.old }
     ensures write { result ≡ Status.Write → Rose (K.faults output.old) (K.faults output.new) }
+    ensures faultless_output { (result ≡ Status.Write → ⊥) → K.faults output.new ≡ K.faults output.old }
 {
     histories_grow();
     let (Ok(ledger), Ok(mut reader)) = (Ledger::new(alloc, entries), Reader::new(alloc)) else {
@@ -108,7 +112,9 @@ fn last_step<S: Source, K: Sink>(
     ensures ends { (limit : ℕ) (left before : Option (List ℕ)) → Progress limit left (prepend_known reader.old (S.left input.old)) before (K.written output.old) scan.old → Ends limit left (S.left input.new) before (K.written output.new) result }
     ensures all_read { result ≡ Status.Done → IsAtEnd (S.left input.new) }
     ensures read { result ≡ Status.Read → Rose (S.faults input.old) (S.faults input.new) }
+    ensures faultless_input { (result ≡ Status.Read → ⊥) → S.faults input.new ≡ S.faults input.old }
     ensures write { result ≡ Status.Write → Rose (K.faults output.old) (K.faults output.new) }
+    ensures faultless_output { (result ≡ Status.Write → ⊥) → K.faults output.new ≡ K.faults output.old }
 {
     match reader.next(input) {
         Ok(Some(_)) => Status::Limit(MOST_INPUT),

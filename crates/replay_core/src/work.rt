@@ -61,6 +61,8 @@ pub fn do_next<K: Sink>(
     ensures stops { IfErr result (Stops at command work.old work.new (K.written output.old) (K.written output.new)) }
     ensures write { IfErr result (λ s. s ≡ Status.Write → Rose (K.faults output.old) (K.faults output.new)) }
     ensures later { K.faults output.old ≤ K.faults output.new }
+    ensures ok_faultless { OnOk result (K.faults output.new ≡ K.faults output.old) }
+    ensures err_faultless { IfErr result (λ s. (s ≡ Status.Write → ⊥) → K.faults output.new ≡ K.faults output.old) }
     ensures legal { Legal work.new.ledger.entries }
 {
     let job = work.commands + 1;
@@ -98,6 +100,8 @@ pub fn do_document<K: Sink>(
     ensures stops { IfErr result (DocumentStops at document.now work.old work.new (K.written output.old) (K.written output.new)) }
     ensures write { IfErr result (λ s. s ≡ Status.Write → Rose (K.faults output.old) (K.faults output.new)) }
     ensures later { K.faults output.old ≤ K.faults output.new }
+    ensures ok_faultless { OnOk result (K.faults output.new ≡ K.faults output.old) }
+    ensures err_faultless { IfErr result (λ s. (s ≡ Status.Write → ⊥) → K.faults output.new ≡ K.faults output.old) }
     ensures legal { Legal work.new.ledger.entries }
 {
     let _entries = work.ledger.len();

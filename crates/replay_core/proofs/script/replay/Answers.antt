@@ -14,8 +14,8 @@ loop-taken-init g c =
       progress = progress_begins c.args.entries left (prepend_known c.in-Ok-Ok.reader left) (g.K.Sink.written c.args.output.now) _ c.histories_grow.ensures.start
           (sym (no_pending c.in-Ok-Ok.reader left c.in-Ok-Ok.ensures')) refl c.new-3.ensures.items refl c.in-Ok-Ok.ensures;
       seen = let len = ap length c.new-3.ensures.items in omega arith;
-      later_in = omega arith;
-      later_out = omega arith;
+      faultless_input = refl;
+      faultless_output = refl;
     }
 
 pub step-requires-clause-fresh : goal.step-requires-clause-fresh
@@ -34,8 +34,8 @@ pub loop-taken-preserved : goal.loop-taken-preserved
 loop-taken-preserved g c = record {
   progress = c.in-Ok.ensures.ok _ _ _ c.loop-taken.invariant.progress;
   seen = omega (arith, c.loop-taken.invariant.seen, c.in-Ok.ensures.seen);
-  later_in = omega (arith, c.loop-taken.invariant.later_in, c.in-Ok.ensures.later_in);
-  later_out = omega (arith, c.loop-taken.invariant.later_out, c.in-Ok.ensures.later_out);
+  faultless_input = c.in-Ok.ensures.ok_faultless_input ∙ c.loop-taken.invariant.faultless_input;
+  faultless_output = c.in-Ok.ensures.ok_faultless_output ∙ c.loop-taken.invariant.faultless_output;
 }
 
 pub last_step-requires-clause-fresh : goal.last_step-requires-clause-fresh
@@ -51,13 +51,25 @@ pub returns-clause-ends : goal.returns-clause-ends
 returns-clause-ends g c = c.last_step.ensures.ends _ _ _ c.loop-taken.invariant.progress
 
 pub returns-in-Err-clause-read : goal.returns-in-Err-clause-read
-returns-in-Err-clause-read g c = λ is. omega (arith, c.in-Err.ensures.read is, c.loop-taken.invariant.later_in)
+returns-in-Err-clause-read g c = λ is. omega (arith, c.in-Err.ensures.read is, c.loop-taken.invariant.faultless_input)
 
 pub returns-in-Err-clause-write : goal.returns-in-Err-clause-write
-returns-in-Err-clause-write g c = λ is. omega (arith, c.in-Err.ensures.write is, c.loop-taken.invariant.later_out)
+returns-in-Err-clause-write g c = λ is. omega (arith, c.in-Err.ensures.write is, c.loop-taken.invariant.faultless_output)
 
 pub returns-clause-read : goal.returns-clause-read
-returns-clause-read g c = λ is. omega (arith, c.last_step.ensures.read is, c.loop-taken.invariant.later_in)
+returns-clause-read g c = λ is. omega (arith, c.last_step.ensures.read is, c.loop-taken.invariant.faultless_input)
 
 pub returns-clause-write : goal.returns-clause-write
-returns-clause-write g c = λ is. omega (arith, c.last_step.ensures.write is, c.loop-taken.invariant.later_out)
+returns-clause-write g c = λ is. omega (arith, c.last_step.ensures.write is, c.loop-taken.invariant.faultless_output)
+
+pub returns-in-Err-clause-faultless_input : goal.returns-in-Err-clause-faultless_input
+returns-in-Err-clause-faultless_input g c = λ other. c.in-Err.ensures.err_faultless_input other ∙ c.loop-taken.invariant.faultless_input
+
+pub returns-in-Err-clause-faultless_output : goal.returns-in-Err-clause-faultless_output
+returns-in-Err-clause-faultless_output g c = λ other. c.in-Err.ensures.err_faultless_output other ∙ c.loop-taken.invariant.faultless_output
+
+pub returns-clause-faultless_input : goal.returns-clause-faultless_input
+returns-clause-faultless_input g c = λ other. c.last_step.ensures.faultless_input other ∙ c.loop-taken.invariant.faultless_input
+
+pub returns-clause-faultless_output : goal.returns-clause-faultless_output
+returns-clause-faultless_output g c = λ other. c.last_step.ensures.faultless_output other ∙ c.loop-taken.invariant.faultless_output
