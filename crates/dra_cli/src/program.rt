@@ -30,9 +30,10 @@ fn is_replay(words: &[String]) -> bool
 /// read or written. `Document` comes where what stands there isn't a command, `Memory` only where
 /// memory runs out, `Read` and `Write` only where that object's count of faults rose in this call,
 /// `Limit` where a history of 1,000,000 entries is to have one more or the input has more than 2^30
-/// bytes, and `NotYet` where a command has a form that isn't done yet. What was printed with each
-/// is the lines of the commands done before (this project's own rule); with `Memory` and `Write` it
-/// is a front of them.
+/// bytes, and `NotYet` where a command has a form that isn't done yet. With each answer but `Read`
+/// the input's count of faults stays, and with each but `Write` the output's, so that the others
+/// come where no count rose. What was printed with each is the lines of the commands done before
+/// (this project's own rule); with `Memory` and `Write` it is a front of them.
 pub fn run<R: AllocGlobal, S: Source, K: Sink>(
     rt: &R,
     words: &Vec<String>,
@@ -48,8 +49,10 @@ pub fn run<R: AllocGlobal, S: Source, K: Sink>(
     ensures memory { result ≡ Status.Memory → EndsShort most_entries (S.left input.old) (K.written output.old) (K.written output.new) }
     ensures read { result ≡ Status.Read → Rose (S.faults input.old) (S.faults input.new) }
     ensures read_prints { result ≡ Status.Read → EndsRead (S.left input.old) (S.left input.new) (K.written output.old) (K.written output.new) }
+    ensures faultless_input { (result ≡ Status.Read → ⊥) → S.faults input.new ≡ S.faults input.old }
     ensures write { result ≡ Status.Write → Rose (K.faults output.old) (K.faults output.new) }
     ensures write_prints { result ≡ Status.Write → EndsShort most_entries (S.left input.old) (K.written output.old) (K.written output.new) }
+    ensures faultless_output { (result ≡ Status.Write → ⊥) → K.faults output.new ≡ K.faults output.old }
     ensures limit { (count : ℕ) → result ≡ Status.Limit count → EndsFull most_entries count (S.left input.old) (K.written output.old) (K.written output.new) ⊎ ((count ≡ most_input) × EndsAt Long (S.left input.old) (K.written output.old) (K.written output.new)) }
     ensures not_yet { (at : ℕ) → result ≡ Status.NotYet at → EndsNotYet at (S.left input.old) (K.written output.old) (K.written output.new) }
 {
