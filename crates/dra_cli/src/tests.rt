@@ -1,7 +1,8 @@
-ghost use Rattle.std.specs.Prelude.{◌<◌};
+ghost use Rattle.std.specs.Prelude.{◌<◌, ◌^◌};
 
 use super::*;
 use dra_ports::{MemSink, MemSource, Source};
+use replay_core::replay;
 use std::alloc::Global;
 use std::test::Fail;
 
@@ -9,6 +10,9 @@ const FIRST: &str = r#"{"apiVersion":"v1","kind":"Node","metadata":{"name":"n1"}
 "#;
 
 const SECOND: &str = r#"{"apiVersion":"v1","kind":"Node","metadata":{"name":"n2"}}
+"#;
+
+const THIRD: &str = r#"{"apiVersion":"v1","kind":"Node","metadata":{"name":"n3"}}
 "#;
 
 const REST: &str =
@@ -36,6 +40,11 @@ const ALL_LINES: &str = "1 1 applied Node n1\n\
              8 7 wrote default/p default/c seen=5\n\
              9 7 bound default/p n2\n\
              summary entries=9 commands=7 granted=1 bound=1\n";
+
+const THREE_LINES: &str = "1 1 applied Node n1\n\
+             2 2 applied Node n2\n\
+             3 3 applied Node n3\n\
+             summary entries=3 commands=3 granted=0 bound=0\n";
 
 const NO_LINES: &str = "summary entries=0 commands=0 granted=0 bound=0\n";
 
@@ -98,6 +107,8 @@ fn a_replay_stops_at_its_first_fault(rt: HostRuntime) -> Result<(), Fail> {
     let line = known(FIRST_LINE);
     let reopen = joined(alloc, &[known(FIRST), known(REOPEN)])?;
     assert!(rt; ends(&rt, &reopen, 4096, (0, 0), Status::NotYet(59), line)?);
+    let bad = joined(alloc, &[known(FIRST), known("{}\n"), known(SECOND)])?;
+    assert!(rt; ends(&rt, &bad, 4096, (0, 0), Status::Document(59), line)?);
     let two = joined(alloc, &[known(FIRST), known(SECOND)])?;
     assert!(rt; ends(&rt, &two, 1, (60, 0), Status::Read, line)?);
     assert!(rt; ends(&rt, &two, 4096, (0, 1), Status::Write, "")?);
@@ -117,6 +128,102 @@ fn a_document_has_its_limits(rt: HostRuntime) -> Result<(), Fail> {
     }
     deep.extend_from_slice(b"}}\n")?;
     assert!(rt; ends(&rt, &deep, 4096, (0, 0), Status::Document(0), "")?);
+    Ok(())
+}
+
+/// Where the last line of some bytes begins.
+fn last_line(bytes: &[u8]) -> usize {
+    let mut at = 0usize;
+    let mut begin = 0;
+    for byte in bytes {
+        at = at.saturating_add(1);
+        if *byte == b'\n' {
+            begin = at;
+        }
+    }
+    begin
+}
+
+/// How many lines end in some bytes.
+fn lines_in(bytes: &[u8]) -> usize {
+    let mut count = 0usize;
+    for byte in bytes {
+        if *byte == b'\n' {
+            count = count.saturating_add(1);
+        }
+    }
+    count
+}
+
+/// What the first of the seven commands print, and the summary where all was done.
+fn printed_by(alloc: Global, commands: usize, done: bool) -> Result<String, Fail> {
+    let mut text = String::new(alloc);
+    let lines = if commands == 7 { 9 } else { commands };
+    for line in known(ALL_LINES).split_inclusive('\n').take(lines) {
+        text.push_str(line)?;
+    }
+    if done && commands == 7 {
+        text.push_str("summary entries=9 commands=7 granted=1 bound=1\n")?;
+    } else if done {
+        let summary = format!(in alloc;
+            "summary entries={commands} commands={commands} granted=0 bound=0\n"
+        )?;
+        text.push_str(&summary)?;
+    }
+    Ok(text)
+}
+
+/// Whether a replay of the front of the seven documents does those that stand whole in it, and names
+/// the place of one that is cut.
+fn is_cut_well(rt: &HostRuntime, front: &[u8], next: Option<&u8>) -> Result<bool, Fail> {
+    let begin = last_line(front);
+    let lines = lines_in(front);
+    let (commands, status) = if begin == front.len() {
+        (lines, Status::Done)
+    } else if next == Some(&b'\n') {
+        (lines.saturating_add(1), Status::Done)
+    } else {
+        (lines, Status::Document(begin as u64))
+    };
+    let text = printed_by(rt.alloc(), commands, status == Status::Done)?;
+    ends(rt, front, 4096, (0, 0), status, &text)
+}
+
+#[test]
+fn a_script_may_be_cut_anywhere(rt: HostRuntime) -> Result<(), Fail> {
+    let base = joined(rt.alloc(), &[known(FIRST), known(SECOND), known(REST)])?;
+    for at in 0..=base.len() {
+        let front = base.get(..at).unwrap_or(&[]);
+        assert!(rt; is_cut_well(&rt, front, base.get(at))?, "{at}");
+    }
+    Ok(())
+}
+
+/// Whether a replay of the script whose history has room for so many entries ends so.
+fn ends_within(
+    rt: &HostRuntime,
+    script: &[u8],
+    entries: u64,
+    status: Status,
+    written: &str,
+) -> Result<bool, Fail>
+    requires { entries < 2 ^ 48 }
+{
+    let alloc = rt.alloc();
+    let mut input = MemSource::new(script.to_vec(alloc)?, 4096, Vec::new(alloc));
+    let mut output = MemSink::new(alloc, Vec::new(alloc))?;
+    let ended = replay(alloc, entries, &mut input, &mut output);
+    Ok(ended == status && output.bytes() == written.as_bytes())
+}
+
+#[test]
+fn a_history_has_room_for_its_entries(rt: HostRuntime) -> Result<(), Fail> {
+    let nodes = joined(rt.alloc(), &[known(FIRST), known(SECOND), known(THIRD)])?;
+    let two = known("1 1 applied Node n1\n2 2 applied Node n2\n");
+    assert!(rt; ends_within(&rt, &nodes, 2, Status::Limit(2), two)?);
+    assert!(rt; ends_within(&rt, &nodes, 0, Status::Limit(0), "")?);
+    let three = known(THREE_LINES);
+    assert!(rt; ends_within(&rt, &nodes, 3, Status::Done, three)?);
     Ok(())
 }
 
