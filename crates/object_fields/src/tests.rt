@@ -358,6 +358,30 @@ fn texts_are_names_by_the_table(rt: HostRuntime) -> Result<(), Fail> {
     Ok(())
 }
 
+/// A name of 252 bytes and that end: whether it is a DNS subdomain of at most 253 bytes, and whether
+/// it reads as an object's name and as a pool's.
+fn long_name(alloc: Global, end: &str) -> Result<String, Fail> {
+    let front = "a.".repeat(alloc, 126)?;
+    let name = format!(in alloc; "{front}{end}")?;
+    let document = format!(in alloc; r#"{{"f":"{name}","metadata":{{"name":"{name}"}}}}"#)?;
+    let object = read_of(alloc, "cluster", "metadata", &document)?;
+    let pool = read_of(alloc, "limited", "pool", &document)?;
+    let subdomain = dns_subdomain(&name, 253);
+    let answer = format!(in alloc; "{subdomain} {object} {pool}")?;
+    Ok(answer.replace(alloc, front.as_str(), "..")?)
+}
+
+#[test]
+fn names_end_at_253_bytes(rt: HostRuntime) -> Result<(), Fail> {
+    let alloc = rt.alloc();
+    assert_eq!(rt; long_name(alloc, "a")?.as_str(), "true ..a 99 ..a");
+    assert_eq!(rt;
+        long_name(alloc, "aa")?.as_str(),
+        "false TooLong metadata.name TooLong f"
+    );
+    Ok(())
+}
+
 fn place_seven(alloc: Global) -> Result<Path, FieldError> {
     Path::top(alloc).place(alloc, 7)
 }
@@ -388,6 +412,41 @@ fn device_text(alloc: Global) -> Result<String, AllocError> {
     copied_text(alloc, &device)
 }
 
+/// The error of a text that is no label, as a copy.
+fn copied_error(alloc: Global) -> Result<String, AllocError> {
+    match label_of(alloc, &Path::top(alloc), "B") {
+        Ok(text) => format!(in alloc; "{text}"),
+        Err(error) => format!(in alloc; "{}", error.copy(alloc)?),
+    }
+}
+
+fn copied_key(alloc: Global) -> Result<String, AllocError> {
+    let key = Key {
+        namespace: Text::from_str(alloc, "n")?,
+        name: Text::from_str(alloc, "a")?,
+    };
+    format!(in alloc; "{}", key.copy(alloc)?)
+}
+
+/// Whether a qualified name's copy has its parts.
+fn copies_name(alloc: Global) -> Result<bool, AllocError> {
+    match QualName::parse(alloc, "x.y/z", "d.e") {
+        Ok(name) => {
+            let copy = name.copy(alloc)?;
+            Ok(copy.domain.as_str() == "x.y" && copy.id.as_str() == "z")
+        }
+        Err(_) => Ok(false),
+    }
+}
+
+/// Whether the steps of the place 7 are that place alone.
+fn steps_are_seven(alloc: Global) -> bool {
+    match place_seven(alloc) {
+        Ok(path) => matches!(path.steps(), [Step::Place(7)]),
+        Err(_) => false,
+    }
+}
+
 fn stage_text(alloc: Global) -> Result<String, AllocError> {
     format!(in alloc; "{}", Kind::Selector(Stage::Parse))
 }
@@ -399,5 +458,9 @@ fn paths_and_devices_print(rt: HostRuntime) -> Result<(), Fail> {
     assert_eq!(rt; label_at_seven(alloc, "B")?.as_str(), "BadName [7]");
     assert_eq!(rt; device_text(alloc)?.as_str(), "d/p/q/x");
     assert_eq!(rt; stage_text(alloc)?.as_str(), "Selector.Parse");
+    assert_eq!(rt; copied_error(alloc)?.as_str(), "BadName ");
+    assert_eq!(rt; copied_key(alloc)?.as_str(), "n/a");
+    assert!(rt; copies_name(alloc)?);
+    assert!(rt; steps_are_seven(alloc));
     Ok(())
 }
