@@ -1,0 +1,9 @@
+pub mod Known
+pub mod Steps
+pub mod Limited
+pub mod Pieces
+pub mod Blanks
+pub mod Passing
+pub mod Going
+pub mod Joined
+pub mod Laid

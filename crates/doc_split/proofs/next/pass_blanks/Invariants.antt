@@ -1,0 +1,12 @@
+use Rattle.std.proofs.Common.{◌≡◌, ◌-◌}
+use Rattle.doc_split.specs.Passing.{Passes}
+use Rattle.doc_split.proofs.next.pass_blanks.Given as goal
+
+abbrev pub invariant-pieces : goal.invariant-pieces
+invariant-pieces g l = record {
+  passes : Passes l.fn.limits l.fn.splitter l.splitter (g.S.Source.left l.fn.from) (g.S.Source.left l.from);
+  faultless : g.S.Source.faults l.from ≡ g.S.Source.faults l.fn.from;
+}
+
+abbrev pub decreases-pieces : goal.decreases-pieces
+decreases-pieces g l = l.fn.limits.input - l.splitter.at

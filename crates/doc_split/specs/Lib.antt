@@ -1,0 +1,9 @@
+pub mod Documents
+pub mod Limits
+pub mod Layout
+pub mod Scan
+pub mod Split
+pub mod Answers
+pub mod Passing
+pub mod Begun
+pub mod Faults

@@ -1,0 +1,20 @@
+//! Splits an input into the JSON documents that stand in a row in it, without reading it whole: it
+//! holds one document and a piece of what follows.
+#![tactic(auto)]
+
+mod doc;
+mod error;
+mod laws;
+mod limits;
+mod next;
+mod place;
+mod scan;
+mod splitter;
+
+pub use doc::Doc;
+pub use error::DocError;
+pub use laws::documents_lie_in_order;
+pub use splitter::Splitter;
+
+#[cfg(test)]
+mod tests;
