@@ -1,6 +1,6 @@
 -- A document that has begun, as it goes on.
-use Rattle.std.proofs.Common.{ℕ, suc, ◌+◌, ◌-◌, ◌≤◌, ◌<◌, ◌≡◌, ◌∙◌, min, Bool, true, false, eqb, List, [], ◌∷◌, ◌++◌, length, take, drop, refl, sym, ap, subst, arith, append_assoc}
-use Rattle.std.specs.Prelude.{Option, None, Some}
+use Rattle.std.proofs.Common.{ℕ, ◌+◌, ◌-◌, ◌≤◌, ◌<◌, ◌≡◌, ◌∙◌, min, Bool, true, false, eqb, List, [], ◌∷◌, ◌++◌, length, take, drop, refl, sym, ap, subst, arith, append_assoc}
+use Rattle.std.specs.Prelude.{Option, Some}
 use Rattle.std.specs.Io.KnownBytes.{Consumes}
 use Rattle.std.proofs.lemmas.Bool.{eqb-true}
 use Rattle.std.proofs.lemmas.List.{length-append, length-take, length-take-le, take_all}
@@ -10,10 +10,10 @@ use Rattle.doc_split.specs.declared.scan.Scan.{Scan}
 use Rattle.doc_split.specs.Documents.{balanced_after, document_length}
 use Rattle.doc_split.specs.Scan.{piece_length, scan_behind}
 use Rattle.doc_split.specs.Split.{Split, remaining}
-use Rattle.doc_split.specs.Begun.{Going, IsBehind, IsClosed, IsOpen, IsWhole, StaysOpen, Taken, TakesPiece, window}
+use Rattle.doc_split.specs.Begun.{Going, IsBehind, IsOpen, IsWhole, StaysOpen, Taken, TakesPiece, window}
 use Rattle.doc_split.proofs.Known.{advance_ahead, consumes_kept, consumes_more}
 use Rattle.doc_split.proofs.Passing.{window_front}
-use Rattle.doc_split.proofs.Pieces.{Closes, Continues, closes_by, continues_by, zero_not}
+use Rattle.doc_split.proofs.Pieces.{closes_by, continues_by, zero_not}
 
 brace_opens : StaysOpen (123 ∷ [])
 unfolding balanced_after

@@ -1,16 +1,14 @@
 -- From blanks and what stands behind them to the answer of a call.
-use Rattle.std.proofs.Common.{ℕ, suc, ◌+◌, ◌-◌, ◌≤◌, ◌<◌, ◌≡◌, ◌∙◌, Bool, true, false, eqb, List, [], ◌∷◌, ◌++◌, length, refl, sym, ap, subst, arith, append_assoc, append-nil, inl, inr}
-use Rattle.std.specs.Prelude.{Option, None, Some, Ok, Err}
-use Rattle.std.specs.Io.KnownBytes.{Consumes, IsAtEnd}
+use Rattle.std.proofs.Common.{ℕ, suc, ◌+◌, ◌<◌, ◌≡◌, ◌∙◌, false, eqb, List, [], ◌∷◌, ◌++◌, length, refl, sym, ap, subst, arith, append_assoc, append-nil, inl, inr}
+use Rattle.std.specs.Prelude.{Option, Some, Ok, Err}
 use Rattle.std.proofs.lemmas.List.{length-append}
-use Rattle.dra_ports.specs.Fronts.{ConsumesFront}
 use Rattle.doc_split.specs.declared.doc.Doc.{Doc}
 use Rattle.doc_split.specs.declared.error.DocError.{DocError}
 use Rattle.doc_split.specs.declared.error.DocError.TheVariants as error
 use Rattle.doc_split.specs.declared.limits.Limits.{Limits}
-use Rattle.doc_split.specs.Answers.{Answers, EndsSo, HasNone, IsCut, IsNext, NoneWhole, document_of}
+use Rattle.doc_split.specs.Answers.{Answers, EndsSo, HasNone, IsCut}
 use Rattle.doc_split.specs.Begun.{IsClosed, IsOpen, IsWhole, MeetsMost, StaysOpen, Taken, TakesDocument}
-use Rattle.doc_split.specs.Documents.{Document, Documents, Ending, Clean, Unclosed, Stray, TooLong, Long, before, documents_from, nothing}
+use Rattle.doc_split.specs.Documents.{Ending, Clean, Unclosed, Stray, TooLong, Long, before, documents_from, nothing}
 use Rattle.doc_split.specs.Limits.{documents_at}
 use Rattle.doc_split.specs.Passing.{Meets, MeetsByte, MeetsEnd, MeetsLimit, Passes}
 use Rattle.doc_split.specs.Split.{Split, remaining}

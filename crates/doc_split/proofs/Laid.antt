@@ -3,11 +3,10 @@ use Rattle.std.proofs.Common.{ℕ, suc, ◌+◌, ◌-◌, ◌≤◌, ◌<◌, �
 use Rattle.std.specs.Prelude.{Option, None, Some, zero}
 use Rattle.std.specs.Cmp.Derive.{both_true}
 use Rattle.std.proofs.Math.Seq.{take-append-add}
-use Rattle.std.proofs.lemmas.Bool.{eqb-true, eqb-false, le-leb, leb-true, leb-false}
-use Rattle.std.proofs.lemmas.Grind.{common_steps}
-use Rattle.std.proofs.lemmas.List.{length-append, length-take, length-drop, length-take-le, take-append-drop, take-take, take_all}
-use Rattle.doc_split.specs.Documents.{Document, Documents, Ending, Clean, Unclosed, Stray, TooLong, Long, balanced_after, before, documents_from, is_balanced, is_blank, length_within, nothing, open_ending}
-use Rattle.doc_split.specs.Layout.{AreBlank, BeginsOne, BeginsWithBrace, IsDocument, Lie, MeetsStray, StandsFirst, Stops}
+use Rattle.std.proofs.lemmas.Bool.{eqb-true, eqb-false, leb-true, leb-false}
+use Rattle.std.proofs.lemmas.List.{length-append, length-take, length-drop, length-take-le, take-append-drop, take-take}
+use Rattle.doc_split.specs.Documents.{Document, Documents, Ending, Clean, Unclosed, Stray, TooLong, Long, balanced_after, documents_from, is_balanced, is_blank, length_within, nothing}
+use Rattle.doc_split.specs.Layout.{AreBlank, BeginsOne, IsDocument, Lie, MeetsStray, StandsFirst}
 use Rattle.doc_split.proofs.Pieces.{balanced_no, balanced_yes}
 use Rattle.doc_split.proofs.Steps.{blank_step, found_at, none_from, open_step, skip_all, stray_step}
 
@@ -183,8 +182,8 @@ found_lies most at k j bs s found f ih =
     } in
     let rest = ih (at + k) (drop k (123 ∷ bs)) (omega arith) in
     let there : LieSo most (at + length (take k (123 ∷ bs))) (drop k (123 ∷ bs)) (documents_from most (k - 1) (at + 1) bs) =
-        subst (λ (d : Documents). LieSo most (at + length (take k (123 ∷ bs))) (drop k (123 ∷ bs)) d) (sym (behind_is most at k j bs s (omega arith)))
-        (subst (λ (n : ℕ). LieSo most (at + n) (drop k (123 ∷ bs)) (documents_from most 0 (at + k) (drop k (123 ∷ bs)))) (sym size) rest) in
+    subst (λ (d : Documents). LieSo most (at + length (take k (123 ∷ bs))) (drop k (123 ∷ bs)) d) (sym (behind_is most at k j bs s (omega arith)))
+    (subst (λ (n : ℕ). LieSo most (at + n) (drop k (123 ∷ bs)) (documents_from most 0 (at + k) (drop k (123 ∷ bs)))) (sym size) rest) in
     subst (LieSo most at (123 ∷ bs)) (sym (found_at most at bs k found)) (drop k (123 ∷ bs), first, there)
 
 lie_length : (most at : ℕ) (bs : List ℕ) (o : Option ℕ) → length_within most (123 ∷ bs) ≡ o

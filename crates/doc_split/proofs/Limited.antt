@@ -4,7 +4,7 @@ use Rattle.std.proofs.Math.Seq.{take-append-add}
 use Rattle.std.proofs.lemmas.Bool.{le-leb, lt-leb, leb-true, leb-false}
 use Rattle.std.proofs.lemmas.List.{take_at, length-append}
 use Rattle.doc_split.specs.declared.limits.Limits.{Limits}
-use Rattle.doc_split.specs.Documents.{Document, Documents, Ending, Clean, Unclosed, Stray, TooLong, Long, before, documents_from, is_blank, nothing}
+use Rattle.doc_split.specs.Documents.{Document, Clean, Unclosed, Stray, TooLong, Long, before, documents_from, is_blank, nothing}
 use Rattle.doc_split.specs.Limits.{documents_at, with_more}
 use Rattle.doc_split.specs.Begun.{IsClosed, StaysOpen}
 use Rattle.doc_split.proofs.Steps.{none_from, stray_step, unclosed_step, too_long_step, document_step}

@@ -1,11 +1,11 @@
 -- What the documents of bytes are by what stands first.
-use Rattle.std.proofs.Common.{ℕ, suc, ◌+◌, ◌-◌, ◌≤◌, ◌<◌, ◌≡◌, ◌∙◌, Bool, true, false, cond, eqb, leb, List, [], ◌∷◌, ◌++◌, length, take, refl, sym, ap, arith, append-nil}
+use Rattle.std.proofs.Common.{ℕ, suc, ◌+◌, ◌-◌, ◌≤◌, ◌<◌, ◌≡◌, ◌∙◌, Bool, true, false, cond, eqb, List, [], ◌∷◌, ◌++◌, length, take, refl, sym, ap, arith, append-nil}
 use Rattle.std.specs.Prelude.{Option, None, Some, unwrap_or}
 use Rattle.std.specs.List.{prefix_len}
 use Rattle.std.proofs.Math.Seq.{take-append_seam, take-append-add}
 use Rattle.std.proofs.lemmas.Bool.{le-leb, lt-leb}
 use Rattle.std.proofs.lemmas.List.{take_all, take_at, length-append}
-use Rattle.doc_split.specs.Documents.{Document, Documents, Ending, Clean, Unclosed, Stray, TooLong, Long, add_document, balanced_after, before, documents_from, is_blank, length_within, nothing, open_ending}
+use Rattle.doc_split.specs.Documents.{Clean, Unclosed, Stray, TooLong, add_document, balanced_after, before, documents_from, is_blank, length_within, nothing, open_ending}
 use Rattle.doc_split.specs.Begun.{IsClosed, StaysOpen}
 
 at_other : (most : ℕ) (at other : ℕ) (more : List ℕ) → at ≡ other → documents_from most 0 at more ≡ documents_from most 0 other more

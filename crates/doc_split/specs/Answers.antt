@@ -7,7 +7,7 @@ use Rattle.doc_split.specs.declared.doc.Doc.{Doc}
 use Rattle.doc_split.specs.declared.error.DocError.{DocError}
 use Rattle.doc_split.specs.declared.error.DocError.TheVariants as error
 use Rattle.doc_split.specs.declared.limits.Limits.{Limits}
-use Rattle.doc_split.specs.Documents.{Documents, Document, Ending, Clean, Unclosed, Stray, TooLong, Long, before, nothing}
+use Rattle.doc_split.specs.Documents.{Document, Ending, Clean, Unclosed, Stray, TooLong, Long, before, nothing}
 use Rattle.doc_split.specs.Limits.{documents_at}
 use Rattle.doc_split.specs.Split.{Split, remaining}
 

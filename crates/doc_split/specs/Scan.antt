@@ -1,5 +1,5 @@
 -- How a document's bytes are gone over: where the next byte stands, and how many braces are open.
-use Rattle.std.specs.Prelude.{ℕ, ◌≡◌, ◌+◌, ◌-◌, ◌==◌, List, [], ◌∷◌, if◌then◌else◌}
+use Rattle.std.specs.Prelude.{ℕ, ◌+◌, ◌-◌, ◌==◌, List, [], ◌∷◌, if◌then◌else◌}
 use Rattle.doc_split.specs.declared.place.Place.{Place}
 use Rattle.doc_split.specs.declared.place.Place.TheVariants.{Outside, Quoted, Escaped}
 use Rattle.doc_split.specs.declared.scan.Scan.{Scan}

@@ -10,5 +10,4 @@ pub fn documents_lie_in_order()
     ensures lie { (most at : ℕ) (bytes : List ℕ) → Lie most at bytes (documents_from most 0 at bytes).documents (documents_from most 0 at bytes).ending }
     ensures within { (at : ℕ) (bytes : List ℕ) → length bytes ≤ the_limits.input - at → documents_at the_limits at bytes ≡ documents_from the_limits.document 0 at bytes }
     ensures longer { (at : ℕ) (bytes : List ℕ) → the_limits.input - at < length bytes → documents_at the_limits at bytes ≡ with_more (documents_from the_limits.document 0 at (take (the_limits.input - at) bytes)) }
-{
-}
+{}

@@ -1,4 +1,4 @@
-use Rattle.std.proofs.Common.{◌≡◌, ◌+◌, ◌≤◌, drop, length}
+use Rattle.std.proofs.Common.{◌≡◌, ◌+◌, ◌≤◌, drop}
 use Rattle.doc_split.specs.Scan.{piece_length, scan_behind}
 use Rattle.doc_split.proofs.scan.scan_piece.Given as goal
 
