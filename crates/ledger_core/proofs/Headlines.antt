@@ -20,10 +20,12 @@ use Rattle.alloc_rules.specs.Names.{at_name, text_cmp}
 use Rattle.alloc_rules.specs.Claims.{wanted}
 use Rattle.alloc_rules.specs.Allocation.{IsAllocation}
 use Rattle.alloc_rules.specs.Plans.{CauseTrue, IsUnsat, VerdictTrue, nodes_of}
+use Rattle.ledger_core.specs.declared.entry.Denial.{Denial}
 use Rattle.ledger_core.specs.declared.entry.Entry.{Entry}
-use Rattle.ledger_core.specs.declared.entry.Event.TheVariants.{Reserved, Judged}
-use Rattle.ledger_core.specs.History.{state_at, MayReserve, MayJudge, Step, LegalAfter, Legal}
+use Rattle.ledger_core.specs.declared.entry.Event.TheVariants.{Reserved, Judged, Denied}
+use Rattle.ledger_core.specs.History.{state_at, state_of, MayReserve, MayJudge, MayDeny, Step, LegalAfter, Legal}
 use Rattle.ledger_core.specs.Headline.{IsGrantOf, IsVerdictOf}
+use Rattle.ledger_core.proofs.Histories.{state_of-more}
 
 step_after : (before front : List Entry) (e : Entry) (back : List Entry) → LegalAfter before (front ++ e ∷ back) → Step (before ++ front) e
 unfolding LegalAfter
@@ -92,3 +94,11 @@ verdict_of before pod verdict may =
 pub verdict_at : (front back : List Entry) (job : ℕ) (pod : Key) (verdict : Verdict) → Legal (front ++ record { job = job; event = Judged pod verdict } ∷ back)
     → IsVerdictOf front pod verdict
 verdict_at front back job pod verdict legal = verdict_of front pod verdict (step_at front (record { job = job; event = Judged pod verdict }) back legal).stands
+
+-- each denial of a legal history is due
+pub denial_at : (front back : List Entry) (job : ℕ) (denial : Denial) → Legal (front ++ record { job = job; event = Denied denial } ∷ back) → MayDeny (state_of front) denial
+denial_at front back job denial legal = (step_at front (record { job = job; event = Denied denial }) back legal).stands
+
+-- and leaves the state as it was
+pub denial_kept : (front : List Entry) (job : ℕ) (denial : Denial) → state_of (front ++ record { job = job; event = Denied denial } ∷ []) ≡ state_of front
+denial_kept front job denial = state_of-more front (record { job = job; event = Denied denial })

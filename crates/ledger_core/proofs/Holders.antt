@@ -10,7 +10,7 @@ use Rattle.alloc_rules.specs.Plans.{Holds}
 use Rattle.alloc_rules.specs.Held.{HeldOnce}
 use Rattle.ledger_core.specs.declared.entry.Entry.{Entry}
 use Rattle.ledger_core.specs.declared.entry.Event.{Event}
-use Rattle.ledger_core.specs.declared.entry.Event.TheVariants.{Applied, Reserved, Wrote, Bound, Judged}
+use Rattle.ledger_core.specs.declared.entry.Event.TheVariants.{Applied, Reserved, Wrote, Bound, Judged, Denied}
 use Rattle.ledger_core.specs.Entry.{after}
 use Rattle.ledger_core.specs.History.{state_of, state_at, LegalAfter, Legal, MayStand}
 use Rattle.ledger_core.proofs.Histories.{state_of-empty, state_of-more}
@@ -28,6 +28,7 @@ module _ (empty : HeldOnce empty_state)
   once_after before place job (Wrote pod claim seen) may h = written place pod claim (state_of before) h
   once_after before place job (Bound pod node) may h = bound pod node (state_of before) h
   once_after before place job (Judged pod verdict) may h = h
+  once_after before place job (Denied denial) may h = h
 
   once_along : (before es : List Entry) → LegalAfter before es → HeldOnce (state_of before) → HeldOnce (state_of (before ++ es))
   unfolding LegalAfter

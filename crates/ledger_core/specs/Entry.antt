@@ -1,5 +1,5 @@
 -- What each entry does to the state and to its job, and where it may stand.
-use Rattle.std.specs.Prelude.{ℕ, ◌≡◌, ◌≤◌, ◌+◌, List, [], ◌∷◌, Bool, true, false, not, Option, None, Some, find, length, take}
+use Rattle.std.specs.Prelude.{ℕ, ◌≡◌, ◌+◌, List, [], ◌∷◌, Bool, true, false, not, Option, None, Some, find, length, nat_le, if◌then◌else◌}
 use Rattle.std.specs.List.{list_all}
 use Rattle.object_fields.specs.declared.key.Key.{Key}
 use Rattle.alloc_rules.specs.declared.object.Object.{Object}
@@ -17,8 +17,11 @@ use Rattle.alloc_rules.specs.Names.{at_key}
 use Rattle.alloc_rules.specs.State.{with_object, with_reserved, with_written, with_bound, IsAbsent}
 use Rattle.alloc_rules.specs.Pools.{device_count}
 use Rattle.alloc_rules.specs.Claims.{claim_keys, first_places}
+use Rattle.ledger_core.specs.declared.entry.Denial.TheVariants.{Devices}
 use Rattle.ledger_core.specs.declared.entry.Event.{Event}
-use Rattle.ledger_core.specs.declared.entry.Event.TheVariants.{Applied, Reserved, Wrote, Bound, Judged}
+use Rattle.ledger_core.specs.declared.entry.Event.TheVariants.{Applied, Reserved, Wrote, Bound, Judged, Denied}
+use Rattle.ledger_core.specs.declared.entry.Outcome.{Outcome}
+use Rattle.ledger_core.specs.declared.entry.Outcome.TheVariants as outcome
 use Rattle.ledger_core.specs.declared.entry.Stand.{Stand}
 use Rattle.ledger_core.specs.declared.entry.Stand.TheVariants as stand
 
@@ -29,6 +32,7 @@ after place job (Reserved pod plan) s = with_reserved job pod plan s
 after place job (Wrote pod claim seen) s = with_written place pod claim s
 after place job (Bound pod node) s = with_bound pod node s
 after place job (Judged pod verdict) s = s
+after place job (Denied denial) s = s
 
 -- what an entry of the job at a place leaves of its stand
 abbrev pub stand_after : ℕ → Event → Stand
@@ -37,6 +41,7 @@ stand_after place (Reserved pod plan) = stand.Reserved
 stand_after place (Wrote pod claim seen) = stand.Reserved
 stand_after place (Bound pod node) = stand.Ended place
 stand_after place (Judged pod verdict) = stand.Ended place
+stand_after place (Denied denial) = stand.Ended place
 
 -- a job that stands so may make the entry
 abbrev pub allows : Stand → Event → Bool
@@ -45,20 +50,35 @@ allows stand.Fresh (Reserved pod plan) = true
 allows stand.Fresh (Wrote pod claim seen) = false
 allows stand.Fresh (Bound pod node) = false
 allows stand.Fresh (Judged pod verdict) = true
+allows stand.Fresh (Denied denial) = true
 allows stand.Reserved (Applied object) = false
 allows stand.Reserved (Reserved pod plan) = false
 allows stand.Reserved (Wrote pod claim seen) = true
 allows stand.Reserved (Bound pod node) = true
 allows stand.Reserved (Judged pod verdict) = false
+allows stand.Reserved (Denied denial) = false
 allows (stand.Ended place) event = false
 
 -- all slices with the object have at most the devices that they may have
-abbrev pub HasRoom : State → Object → Type 0
-HasRoom s (object.Node x) = Unit {0}
-HasRoom s (object.Slice x) = device_count s.slices + length x.devices ≤ MOST_DEVICES
-HasRoom s (object.Class x) = Unit {0}
-HasRoom s (object.Claim x) = Unit {0}
-HasRoom s (object.Pod x) = Unit {0}
+abbrev pub has_room : State → Object → Bool
+has_room s (object.Node x) = true
+has_room s (object.Slice x) = nat_le (device_count s.slices + length x.devices) MOST_DEVICES
+has_room s (object.Class x) = true
+has_room s (object.Claim x) = true
+has_room s (object.Pod x) = true
+
+-- what a command makes that creates an object: the object, or a denial where there is no room for it
+abbrev pub creation : State → Object → Event
+creation s x = if has_room s x then Applied x else Denied (Devices x)
+
+-- what became of a command, by the kind of its entry
+abbrev pub outcome_of : Event → Outcome
+outcome_of (Applied object) = outcome.Made
+outcome_of (Reserved pod plan) = outcome.Made
+outcome_of (Wrote pod claim seen) = outcome.Made
+outcome_of (Bound pod node) = outcome.Made
+outcome_of (Judged pod verdict) = outcome.Made
+outcome_of (Denied denial) = outcome.Denied
 
 -- how a pod uses a claim
 abbrev pub use_in : Key → Option ClaimState → Option Use

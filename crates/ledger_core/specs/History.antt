@@ -1,18 +1,21 @@
 -- Which histories are legal.
-use Rattle.std.specs.Prelude.{ℕ, ◌≡◌, ◌≤◌, ◌==◌, ◌+◌, ◌-◌, Option, None, slice_get, List, [], ◌∷◌, ◌++◌, true, length, take, if◌then◌else◌}
+use Rattle.std.specs.Prelude.{ℕ, ◌≡◌, ◌≤◌, ◌==◌, ◌+◌, ◌-◌, Option, None, slice_get, List, [], ◌∷◌, ◌++◌, true, false, length, take, if◌then◌else◌}
 use Rattle.object_fields.specs.declared.key.Key.{Key}
+use Rattle.object_fields.specs.declared.kind.Kind.TheVariants.{Memory}
 use Rattle.alloc_rules.specs.declared.object.Object.{Object}
 use Rattle.alloc_rules.specs.declared.state.State.{State}
 use Rattle.alloc_rules.specs.declared.plan.Plan.{Plan}
 use Rattle.alloc_rules.specs.declared.plan.Verdict.{Verdict}
 use Rattle.alloc_rules.specs.State.{empty_state, IsAbsent}
 use Rattle.alloc_rules.specs.Plans.{PlanTrue, Holds, VerdictTrue}
+use Rattle.ledger_core.specs.declared.entry.Denial.{Denial}
+use Rattle.ledger_core.specs.declared.entry.Denial.TheVariants as denial
 use Rattle.ledger_core.specs.declared.entry.Entry.{Entry}
 use Rattle.ledger_core.specs.declared.entry.Event.{Event}
-use Rattle.ledger_core.specs.declared.entry.Event.TheVariants.{Applied, Reserved, Wrote, Bound, Judged}
+use Rattle.ledger_core.specs.declared.entry.Event.TheVariants.{Applied, Reserved, Wrote, Bound, Judged, Denied}
 use Rattle.ledger_core.specs.declared.entry.Stand.{Stand}
 use Rattle.ledger_core.specs.declared.entry.Stand.TheVariants.{Fresh}
-use Rattle.ledger_core.specs.Entry.{after, stand_after, allows, HasRoom, MayWrite, MayBind}
+use Rattle.ledger_core.specs.Entry.{after, stand_after, allows, has_room, MayWrite, MayBind}
 
 -- the state after the entries es, which follow n entries that left s
 unfoldable pub state_from : State → ℕ → List Entry → State
@@ -43,7 +46,18 @@ stand_of h job = stand_from job Fresh 0 h
 -- the object isn't there, and there is room for it
 pub record MayCreate (s : State) (object : Object) : Type 0 where
   pub absent : IsAbsent s object
-  pub room : HasRoom s object
+  pub room : has_room s object ≡ true
+
+-- the object isn't there, and there is no room for it
+pub record HasNoRoom (s : State) (object : Object) : Type 0 where
+  pub absent : IsAbsent s object
+  pub crowded : has_room s object ≡ false
+
+-- Where a command may be refused so. Which document has an error is for the reading to say, and not
+-- for the state; want of memory is no error of a document.
+abbrev pub MayDeny : State → Denial → Type 0
+MayDeny s (denial.Invalid error) = error.kind ≡ Memory → ⊥
+MayDeny s (denial.Devices object) = HasNoRoom s object
 
 -- the plan is true at its place, and nothing stands against it now
 pub record MayReserve (before : List Entry) (pod : Key) (plan : Plan) : Type 0 where
@@ -63,6 +77,7 @@ MayStand before job (Reserved pod plan) = MayReserve before pod plan
 MayStand before job (Wrote pod claim seen) = MayWrite (state_of before) pod job claim seen
 MayStand before job (Bound pod node) = MayBind (state_of before) pod job node
 MayStand before job (Judged pod verdict) = MayJudge before pod verdict
+MayStand before job (Denied denial) = MayDeny (state_of before) denial
 
 -- the entry may follow these
 pub record Step (before : List Entry) (e : Entry) : Type 0 where

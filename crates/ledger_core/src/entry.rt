@@ -1,6 +1,6 @@
 use alloc_rules::{Object, Plan, Verdict};
 use dra_values::Text;
-use object_fields::Key;
+use object_fields::{FieldError, Key};
 
 /// One event of the ledger, made by a job.
 #[derive(Drop)]
@@ -23,6 +23,28 @@ pub enum Event {
     Bound { pod: Key, node: Text },
     /// Says that the pod can't be scheduled, and changes nothing.
     Judged { pod: Key, verdict: Verdict },
+    /// Refuses a command, and changes nothing.
+    Denied(Denial),
+}
+
+/// Why a command was refused.
+#[derive(Drop)]
+pub enum Denial {
+    /// The document of an object whose fields have this first error, which isn't want of memory. It
+    /// names nothing.
+    Invalid(FieldError),
+    /// An object that was to be created, with which all slices would have more devices than they
+    /// may have.
+    Devices(Object),
+}
+
+/// What became of a command, by the kind of its entry.
+#[derive(Clone, Copy, Debug, PartialEq, Eq, Drop)]
+pub enum Outcome {
+    /// It was done.
+    Made,
+    /// It was refused.
+    Denied,
 }
 
 /// What a job's entries leave.

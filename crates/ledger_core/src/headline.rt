@@ -1,11 +1,12 @@
-ghost use Rattle.std.specs.Prelude.{◌++◌, ◌∷◌, ℕ, List};
+ghost use Rattle.std.specs.Prelude.{◌≡◌, ◌++◌, ◌∷◌, [], ℕ, List};
 ghost use Rattle.object_fields.specs.declared.key.Key.{Key};
 ghost use Rattle.alloc_rules.specs.declared.plan.Plan.{Plan};
 ghost use Rattle.alloc_rules.specs.declared.plan.Verdict.{Verdict};
 ghost use Rattle.alloc_rules.specs.Held.{HeldOnce};
+ghost use Rattle.ledger_core.specs.declared.entry.Denial.{Denial};
 ghost use Rattle.ledger_core.specs.declared.entry.Entry.{Entry};
 ghost use Rattle.ledger_core.specs.declared.entry.Event.{Event};
-ghost use Rattle.ledger_core.specs.History.{state_at, state_of, Legal, Step};
+ghost use Rattle.ledger_core.specs.History.{state_at, state_of, Legal, MayDeny, Step};
 ghost use Rattle.ledger_core.specs.Headline.{IsGrantOf, IsVerdictOf};
 
 use alloc_rules::one_holder_is_kept;
@@ -29,6 +30,15 @@ pub fn grants_are_allocations()
 pub fn verdicts_are_true()
     ensures { (front back : List Entry) (job : ℕ) (pod : Key) (verdict : Verdict) →
         Legal (front ++ record { job = job; event = Event.Judged pod verdict } ∷ back) → IsVerdictOf front pod verdict }
+{}
+
+/// Each denial of a legal history is due: its refusal holds in the state before it. The state after
+/// it is the one before it.
+pub fn denials_change_nothing()
+    ensures due { (front back : List Entry) (job : ℕ) (denial : Denial) →
+        Legal (front ++ record { job = job; event = Event.Denied denial } ∷ back) → MayDeny (state_of front) denial }
+    ensures kept { (front : List Entry) (job : ℕ) (denial : Denial) →
+        state_of (front ++ record { job = job; event = Event.Denied denial } ∷ []) ≡ state_of front }
 {}
 
 /// Each device has one holder after a legal history, and at each place of it: no device is held

@@ -1,24 +1,28 @@
 ghost use Rattle.std.specs.Prelude.{◌≡◌, ◌≤◌, ◌<◌, ◌^◌, ◌+◌, ◌-◌, [], length, ℕ, List, true, IfOk, OnOk, OnErr, IsErrOf, vec_len, option_copied, if◌then◌else◌, ◌==◌};
 ghost use Rattle.std.specs.Vec.{vec_capacity};
-ghost use Rattle.alloc_rules.specs.State.{with_object, with_reserved};
+ghost use Rattle.alloc_rules.specs.State.{with_object, with_reserved, IsAbsent};
 ghost use Rattle.alloc_rules.specs.Plans.{PlanTrue, VerdictTrue};
-ghost use Rattle.ledger_core.specs.declared.entry.Event.TheVariants.{Applied, Reserved, Wrote, Bound, Judged};
-ghost use Rattle.ledger_core.specs.Entry.{allows, stand_after, taken_node, version_of, MayWrite, MayBind};
+ghost use Rattle.ledger_core.specs.declared.entry.Denial.TheVariants.{Invalid};
+ghost use Rattle.ledger_core.specs.declared.entry.Event.TheVariants.{Applied, Reserved, Wrote, Bound, Judged, Denied};
+ghost use Rattle.ledger_core.specs.Entry.{allows, creation, has_room, outcome_of, stand_after, taken_node, version_of, MayWrite, MayBind};
 ghost use Rattle.ledger_core.specs.Ledger.{appended};
-ghost use Rattle.ledger_core.specs.History.{entry_at, state_of, stand_of, Legal, MayCreate};
+ghost use Rattle.ledger_core.specs.History.{entry_at, state_of, stand_of, Legal, MayCreate, MayDeny};
 
 use crate::room::make_room;
-use crate::{Entry, Event, LedgerError, Stand};
+use crate::{Denial, Entry, Event, LedgerError, Outcome, Stand};
 use alloc_rules::{Object, Phase, Plan, State, Verdict, grants_at_most_one, plan_holds};
 use dra_values::Text;
-use object_fields::Key;
+use object_fields::{FieldError, Key, Kind};
 use std::alloc::{AllocError, Global};
 use std::marker::Model;
 
-/// The place of an entry that was appended, from 1.
+/// An entry that was appended.
 #[derive(Clone, Copy, Debug, PartialEq, Eq, Drop)]
 pub struct Done {
+    /// Its place, from 1.
     pub place: u64,
+    /// What became of the command.
+    pub outcome: Outcome,
 }
 
 /// A legal history, and the state after it.
@@ -92,28 +96,44 @@ impl Ledger {
         stand_in(&self.entries, job)
     }
 
-    /// Creates an object.
+    /// Creates an object that isn't there. Where all slices with it would have more than 65,536
+    /// devices, the command is refused: the entry is a denial that carries the object, and the state
+    /// stays as it was. `Full` comes where the history has its limit of entries, and `Memory` only
+    /// where memory runs out; then nothing changed.
     pub fn apply(&mut self, alloc: Global, job: u64, object: Object) -> Result<Done, LedgerError>
         requires stand { allows (stand_of self.old.entries job) (Applied object) ≡ true }
-        requires created { MayCreate (state_of self.old.entries) object }
-        ensures ok { OnOk result (self.new ≡ appended self.old job (Applied object)) }
+        requires absent { IsAbsent (state_of self.old.entries) object }
+        ensures ok { OnOk result (self.new ≡ appended self.old job (creation (state_of self.old.entries) object)) }
         ensures place { IfOk result (λ done. done.place ≡ length self.new.entries) }
+        ensures outcome { IfOk result (λ done. done.outcome ≡ outcome_of (creation (state_of self.old.entries) object)) }
         ensures legal { Legal self.new.entries }
         ensures full { (n : ℕ) → IsErrOf result (LedgerError.Full n) → (length self.old.entries ≡ n) × (self.old.limit ≤ n) }
         ensures err { OnErr result (self.new ≡ self.old) }
     {
-        let place = create(
-            alloc,
-            &mut self.entries,
-            &mut self.state,
-            self.limit,
-            &object,
-        )?;
-        self.entries.push_reserved(Entry {
-            job,
-            event: Event::Applied(object),
-        });
-        Ok(Done { place })
+        if has_room(&self.state, &object) {
+            self.create(alloc, job, object)
+        } else {
+            self.refuse(job, Denial::Devices(object))
+        }
+    }
+
+    /// Refuses the document of an object whose fields have this first error, and changes nothing but
+    /// the history. `Full` comes where the history has its limit of entries, and `Memory` only where
+    /// memory runs out or where the error is want of memory itself; then nothing changed.
+    pub fn deny(&mut self, job: u64, error: FieldError) -> Result<Done, LedgerError>
+        requires { allows (stand_of self.old.entries job) (Denied (Invalid error)) ≡ true }
+        ensures ok { OnOk result (self.new ≡ appended self.old job (Denied (Invalid error))) }
+        ensures place { IfOk result (λ done. done.place ≡ length self.new.entries) }
+        ensures outcome { IfOk result (λ done. done.outcome ≡ Outcome.Denied) }
+        ensures legal { Legal self.new.entries }
+        ensures full { (n : ℕ) → IsErrOf result (LedgerError.Full n) → (length self.old.entries ≡ n) × (self.old.limit ≤ n) }
+        ensures err { OnErr result (self.new ≡ self.old) }
+    {
+        let _entries = self.len();
+        if error.kind == Kind::Memory {
+            return Err(LedgerError::Memory);
+        }
+        self.refuse(job, Denial::Invalid(error))
     }
 
     /// Takes the pod for the job, and makes the plan's grants.
@@ -129,6 +149,7 @@ impl Ledger {
         requires at { plan.now.at ≡ length self.old.entries }
         ensures ok { OnOk result (self.new ≡ appended self.old job (Reserved pod.now plan.now)) }
         ensures place { IfOk result (λ done. done.place ≡ length self.new.entries) }
+        ensures outcome { IfOk result (λ done. done.outcome ≡ Outcome.Made) }
         ensures legal { Legal self.new.entries }
         ensures full { (n : ℕ) → IsErrOf result (LedgerError.Full n) → (length self.old.entries ≡ n) × (self.old.limit ≤ n) }
         ensures err { OnErr result (self.new ≡ self.old) }
@@ -141,7 +162,10 @@ impl Ledger {
             job,
             event: Event::Reserved { pod, plan },
         });
-        Ok(Done { place })
+        Ok(Done {
+            place,
+            outcome: Outcome::Made,
+        })
     }
 
     /// Writes the pod's use of its next claim.
@@ -156,6 +180,7 @@ impl Ledger {
         requires step { MayWrite (state_of self.old.entries) pod.now job claim.now (version_of (state_of self.old.entries) claim.now) }
         ensures ok { OnOk result (self.new ≡ appended self.old job (Wrote pod.now claim.now (version_of (state_of self.old.entries) claim.now))) }
         ensures place { IfOk result (λ done. done.place ≡ length self.new.entries) }
+        ensures outcome { IfOk result (λ done. done.outcome ≡ Outcome.Made) }
         ensures legal { Legal self.new.entries }
         ensures full { (n : ℕ) → IsErrOf result (LedgerError.Full n) → (length self.old.entries ≡ n) × (self.old.limit ≤ n) }
         ensures err { OnErr result (self.new ≡ self.old) }
@@ -173,7 +198,10 @@ impl Ledger {
                 seen,
             },
         });
-        Ok(Done { place })
+        Ok(Done {
+            place,
+            outcome: Outcome::Made,
+        })
     }
 
     /// Binds the pod to the node that the job took it for, once each of its uses is written.
@@ -182,6 +210,7 @@ impl Ledger {
         requires step { MayBind (state_of self.old.entries) pod.now job (taken_node (state_of self.old.entries) pod.now) }
         ensures ok { OnOk result (self.new ≡ appended self.old job (Bound pod.now (taken_node (state_of self.old.entries) pod.now))) }
         ensures place { IfOk result (λ done. done.place ≡ length self.new.entries) }
+        ensures outcome { IfOk result (λ done. done.outcome ≡ Outcome.Made) }
         ensures legal { Legal self.new.entries }
         ensures full { (n : ℕ) → IsErrOf result (LedgerError.Full n) → (length self.old.entries ≡ n) × (self.old.limit ≤ n) }
         ensures err { OnErr result (self.new ≡ self.old) }
@@ -198,7 +227,10 @@ impl Ledger {
                 node: kept_node,
             },
         });
-        Ok(Done { place })
+        Ok(Done {
+            place,
+            outcome: Outcome::Made,
+        })
     }
 
     /// Says that a pod can't be scheduled.
@@ -214,6 +246,7 @@ impl Ledger {
         requires at { verdict.at ≡ length self.old.entries }
         ensures ok { OnOk result (self.new ≡ appended self.old job (Judged pod.now verdict)) }
         ensures place { IfOk result (λ done. done.place ≡ length self.new.entries) }
+        ensures outcome { IfOk result (λ done. done.outcome ≡ Outcome.Made) }
         ensures legal { Legal self.new.entries }
         ensures full { (n : ℕ) → IsErrOf result (LedgerError.Full n) → (length self.old.entries ≡ n) × (self.old.limit ≤ n) }
         ensures err { OnErr result (self.new ≡ self.old) }
@@ -224,12 +257,77 @@ impl Ledger {
             job,
             event: Event::Judged { pod, verdict },
         });
-        Ok(Done { place })
+        Ok(Done {
+            place,
+            outcome: Outcome::Made,
+        })
+    }
+}
+
+impl Ledger {
+    /// Creates an object that there is room for.
+    fn create(&mut self, alloc: Global, job: u64, object: Object) -> Result<Done, LedgerError>
+        requires stand { allows (stand_of self.old.entries job) (Applied object) ≡ true }
+        requires created { MayCreate (state_of self.old.entries) object }
+        ensures ok { OnOk result (self.new ≡ appended self.old job (Applied object)) }
+        ensures place { IfOk result (λ done. done.place ≡ length self.new.entries) }
+        ensures outcome { IfOk result (λ done. done.outcome ≡ Outcome.Made) }
+        ensures legal { Legal self.new.entries }
+        ensures full { (n : ℕ) → IsErrOf result (LedgerError.Full n) → (length self.old.entries ≡ n) × (self.old.limit ≤ n) }
+        ensures err { OnErr result (self.new ≡ self.old) }
+    {
+        let place = put_object(
+            alloc,
+            &mut self.entries,
+            &mut self.state,
+            self.limit,
+            &object,
+        )?;
+        self.entries.push_reserved(Entry {
+            job,
+            event: Event::Applied(object),
+        });
+        Ok(Done {
+            place,
+            outcome: Outcome::Made,
+        })
+    }
+
+    /// Refuses a command.
+    fn refuse(&mut self, job: u64, denial: Denial) -> Result<Done, LedgerError>
+        requires stand { allows (stand_of self.old.entries job) (Denied denial) ≡ true }
+        requires due { MayDeny (state_of self.old.entries) denial }
+        ensures ok { OnOk result (self.new ≡ appended self.old job (Denied denial)) }
+        ensures place { IfOk result (λ done. done.place ≡ length self.new.entries) }
+        ensures outcome { IfOk result (λ done. done.outcome ≡ Outcome.Denied) }
+        ensures legal { Legal self.new.entries }
+        ensures full { (n : ℕ) → IsErrOf result (LedgerError.Full n) → (length self.old.entries ≡ n) × (self.old.limit ≤ n) }
+        ensures err { OnErr result (self.new ≡ self.old) }
+    {
+        let place = make_room(&mut self.entries, self.limit)?;
+        self.entries.push_reserved(Entry {
+            job,
+            event: Event::Denied(denial),
+        });
+        Ok(Done {
+            place,
+            outcome: Outcome::Denied,
+        })
+    }
+}
+
+/// Whether all slices with the object have at most the devices that they may have.
+fn has_room(state: &State, object: &Object) -> bool
+    ensures { result ≡ has_room state.now object.now }
+{
+    match object {
+        Object::Slice(slice) => state.has_room(slice.devices.as_slice().len()),
+        Object::Node(_) | Object::Class(_) | Object::Claim(_) | Object::Pod(_) => true,
     }
 }
 
 /// Takes all memory for an entry, and creates its object.
-fn create(
+fn put_object(
     alloc: Global,
     entries: &mut Vec<Entry>,
     state: &mut State,
@@ -296,7 +394,9 @@ fn stand_after(place: u64, event: &Event) -> Stand
     ensures { result ≡ stand_after place event.now }
 {
     match event {
-        Event::Applied(_) | Event::Bound { .. } | Event::Judged { .. } => Stand::Ended(place),
+        Event::Applied(_) | Event::Bound { .. } | Event::Judged { .. } | Event::Denied(_) => {
+            Stand::Ended(place)
+        }
         Event::Reserved { .. } | Event::Wrote { .. } => Stand::Reserved,
     }
 }

@@ -8,9 +8,11 @@ mod laws;
 mod ledger;
 mod room;
 
-pub use entry::{Entry, Event, Stand};
+pub use entry::{Denial, Entry, Event, Outcome, Stand};
 pub use error::LedgerError;
-pub use headline::{grants_are_allocations, legal_steps, one_holder, verdicts_are_true};
+pub use headline::{
+    denials_change_nothing, grants_are_allocations, legal_steps, one_holder, verdicts_are_true,
+};
 pub use laws::{histories_grow, reserved_goes_on};
 pub use ledger::{Done, Ledger};
 

@@ -4,14 +4,14 @@ use Rattle.ledger_core.specs.declared.entry.Event.TheVariants.{Applied}
 use Rattle.ledger_core.specs.Ledger.{History}
 use Rattle.ledger_core.specs.History.{Step}
 use Rattle.ledger_core.proofs.Histories.{IsKept-more}
-use Rattle.ledger_core.proofs.ledger.Ledger.apply.Goals as goal
+use Rattle.ledger_core.proofs.ledger.Ledger.create.Goals as goal
 
 pub invariant_of-self-2 : goal.invariant_of-self-2
 invariant_of-self-2 c =
     let e : Entry = record { job = c.args.job; event = Applied c.args.object } in
     let step = subst (λ (h : History). Step h.entries e) (sym c.self.view_is) (record { allowed = c.requires.stand; stands = c.requires.created }) in
     let made = c.in_ok-place.ensures in
-    rw (c.push_reserved.ensures.items, c.create.ensures.entries) (IsKept-more _ e _ _ _ c.self.invariant step made.within made.ok)
+    rw (c.push_reserved.ensures.items, c.put_object.ensures.entries) (IsKept-more _ e _ _ _ c.self.invariant step made.within made.ok)
 
 pub returns-clause-legal : goal.returns-clause-legal
 returns-clause-legal c = (invariant_of-self-2 c).legal

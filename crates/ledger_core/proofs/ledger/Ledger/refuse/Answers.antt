@@ -1,0 +1,16 @@
+use Rattle.std.proofs.Common.{refl, sym, subst}
+use Rattle.ledger_core.specs.declared.entry.Entry.{Entry}
+use Rattle.ledger_core.specs.declared.entry.Event.TheVariants.{Denied}
+use Rattle.ledger_core.specs.Ledger.{History}
+use Rattle.ledger_core.specs.History.{Step}
+use Rattle.ledger_core.proofs.Histories.{IsKept-more}
+use Rattle.ledger_core.proofs.ledger.Ledger.refuse.Goals as goal
+
+pub invariant_of-self-2 : goal.invariant_of-self-2
+invariant_of-self-2 c =
+    let e : Entry = record { job = c.args.job; event = Denied c.args.denial } in
+    let step = subst (λ (h : History). Step h.entries e) (sym c.self.view_is) (record { allowed = c.requires.stand; stands = c.requires.due }) in
+    rw (c.push_reserved.ensures.items, c.in_ok-place.ensures.entries) (IsKept-more _ e _ _ _ c.self.invariant step c.in_ok-place.ensures.within refl)
+
+pub returns-clause-legal : goal.returns-clause-legal
+returns-clause-legal c = (invariant_of-self-2 c).legal
