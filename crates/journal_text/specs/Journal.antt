@@ -3,6 +3,7 @@ use Rattle.std.specs.Prelude.{ℕ, ◌+◌, ◌==◌, nat_lt, Bool, true, false,
 use Rattle.std.specs.List.{join_by}
 use Rattle.object_fields.specs.declared.key.Key.{Key}
 use Rattle.object_fields.specs.Keys.{key_text, device_text}
+use Rattle.object_fields.specs.Words.{kind_word, path_text}
 use Rattle.alloc_rules.specs.declared.object.Object.{Object}
 use Rattle.alloc_rules.specs.declared.object.Object.TheVariants as object
 use Rattle.alloc_rules.specs.declared.plan.Cause.{Cause}
@@ -12,12 +13,15 @@ use Rattle.alloc_rules.specs.declared.plan.Grant.{Grant}
 use Rattle.alloc_rules.specs.declared.plan.Passed.{Passed}
 use Rattle.alloc_rules.specs.declared.plan.Plan.{Plan}
 use Rattle.alloc_rules.specs.declared.plan.Verdict.{Verdict}
+use Rattle.alloc_rules.specs.declared.pool.TheConstants.{MOST_DEVICES}
 use Rattle.alloc_rules.specs.declared.state.State.{State}
 use Rattle.alloc_rules.specs.declared.state.Phase.{Phase}
 use Rattle.alloc_rules.specs.declared.state.Phase.TheVariants as phase
+use Rattle.ledger_core.specs.declared.entry.Denial.{Denial}
+use Rattle.ledger_core.specs.declared.entry.Denial.TheVariants.{Invalid, Devices}
 use Rattle.ledger_core.specs.declared.entry.Entry.{Entry}
 use Rattle.ledger_core.specs.declared.entry.Event.{Event}
-use Rattle.ledger_core.specs.declared.entry.Event.TheVariants.{Applied, Reserved, Wrote, Bound, Judged}
+use Rattle.ledger_core.specs.declared.entry.Event.TheVariants.{Applied, Reserved, Wrote, Bound, Judged, Denied}
 use Rattle.ledger_core.specs.History.{state_of}
 
 -- an object's kind and name
@@ -64,6 +68,12 @@ verdict_text pod verdict =
     codes "verdict " ++ key_text pod ++ codes " unsatisfiable at=" ++ decimal verdict.at
     ++ codes " nodes=" ++ listed passed_text verdict.nodes
 
+-- a refusal: of a document's fields the word of the error and its path, of too many devices how many
+-- all slices may have
+abbrev pub denial_text : Denial → List ℕ
+denial_text (Invalid error) = codes "denied Invalid " ++ kind_word error.kind ++ codes " " ++ path_text error.path
+denial_text (Devices object) = codes "denied Devices " ++ decimal MOST_DEVICES
+
 -- what a line says after its place and job
 abbrev pub event_text : Event → List ℕ
 event_text (Applied object) = codes "applied " ++ object_text object
@@ -71,6 +81,7 @@ event_text (Reserved pod plan) = reserved_text pod plan
 event_text (Wrote pod claim seen) = codes "wrote " ++ key_text pod ++ codes " " ++ key_text claim ++ codes " seen=" ++ decimal seen
 event_text (Bound pod node) = codes "bound " ++ key_text pod ++ codes " " ++ node
 event_text (Judged pod verdict) = verdict_text pod verdict
+event_text (Denied denial) = denial_text denial
 
 -- `?` for a byte below 0x20 and for 0x7f
 abbrev pub clean : ℕ → ℕ

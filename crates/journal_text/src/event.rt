@@ -1,9 +1,9 @@
 ghost use Rattle.std.specs.Prelude.{◌≡◌, IfOk, string_bytes};
-ghost use Rattle.journal_text.specs.Journal.{event_text, object_text, reserved_text, verdict_text};
+ghost use Rattle.journal_text.specs.Journal.{denial_text, event_text, object_text, reserved_text, verdict_text};
 
 use crate::worded::listed;
-use alloc_rules::{Object, Plan, Verdict};
-use ledger_core::Event;
+use alloc_rules::{MOST_DEVICES, Object, Plan, Verdict};
+use ledger_core::{Denial, Event};
 use object_fields::Key;
 use std::alloc::{AllocError, Global};
 
@@ -42,6 +42,17 @@ fn verdict_text(alloc: Global, pod: &Key, verdict: &Verdict) -> Result<String, A
     )
 }
 
+fn denial_text(alloc: Global, denial: &Denial) -> Result<String, AllocError>
+    ensures { IfOk result (λ s. string_bytes s ≡ denial_text denial.now) }
+{
+    match denial {
+        Denial::Invalid(error) => {
+            format!(in alloc; "denied Invalid {} {}", error.kind, error.path)
+        }
+        Denial::Devices(_) => format!(in alloc; "denied Devices {MOST_DEVICES}"),
+    }
+}
+
 /// An event's kind and the rest of its line.
 pub fn event_text(alloc: Global, event: &Event) -> Result<String, AllocError>
     ensures { IfOk result (λ s. string_bytes s ≡ event_text event.now) }
@@ -57,5 +68,6 @@ pub fn event_text(alloc: Global, event: &Event) -> Result<String, AllocError>
         }
         Event::Bound { pod, node } => format!(in alloc; "bound {pod} {node}"),
         Event::Judged { pod, verdict } => verdict_text(alloc, pod, verdict),
+        Event::Denied(denial) => denial_text(alloc, denial),
     }
 }

@@ -4,8 +4,8 @@ use api_claim::ResourceClaim;
 use api_cluster::{DeviceClass, Node, Pod};
 use api_slice::{Pool, ResourceSlice};
 use dra_values::{Seq, Text};
-use ledger_core::{Entry, Event, Ledger};
-use object_fields::{DeviceId, Key};
+use ledger_core::{Denial, Entry, Event, Ledger};
+use object_fields::{DeviceId, FieldError, Key, Kind, Path, Stage};
 use std::alloc::{AllocError, Global};
 use std::test::Fail;
 
@@ -228,6 +228,44 @@ fn schedules_have_lines(rt: HostRuntime) -> Result<(), Fail> {
             )?,
             "18446744073709551615 0 verdict default/q unsatisfiable at=11 nodes=-\n",
         ),
+    ];
+    for (got, want) in &lines {
+        assert_eq!(rt; got.as_slice(), want.as_bytes(), "{want}");
+    }
+    Ok(())
+}
+
+/// The error of an attribute of the second device by its name.
+fn attribute_error(alloc: Global, name: &str, kind: Kind) -> Result<Event, FieldError> {
+    let devices = Path::top(alloc)
+        .member(alloc, "spec")?
+        .member(alloc, "devices")?;
+    let attributes = devices.place(alloc, 1)?.member(alloc, "attributes")?;
+    let path = attributes.key(alloc, name)?;
+    Ok(Event::Denied(Denial::Invalid(FieldError { path, kind })))
+}
+
+#[test]
+fn denials_have_lines(rt: HostRuntime) -> Result<(), Fail> {
+    let alloc = rt.alloc();
+    let crowded = Event::Denied(Denial::Devices(Object::Slice(slice(alloc)?)));
+    let doubled = attribute_error(alloc, "model", Kind::Doubled)?;
+    let unread = attribute_error(alloc, "a", Kind::Selector(Stage::Parse))?;
+    let odd = attribute_error(alloc, "a\n\rb\u{7f} c", Kind::BadName)?;
+    let lines = [
+        (
+            shown(alloc, 1, 1, doubled)?,
+            "1 1 denied Invalid Doubled spec.devices[1].attributes[model]\n",
+        ),
+        (
+            shown(alloc, 2, 12, unread)?,
+            "2 12 denied Invalid Selector.Parse spec.devices[1].attributes[a]\n",
+        ),
+        (
+            shown(alloc, 3, 13, odd)?,
+            "3 13 denied Invalid BadName spec.devices[1].attributes[a??b? c]\n",
+        ),
+        (shown(alloc, 4, 14, crowded)?, "4 14 denied Devices 65536\n"),
     ];
     for (got, want) in &lines {
         assert_eq!(rt; got.as_slice(), want.as_bytes(), "{want}");
