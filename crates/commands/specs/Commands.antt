@@ -16,7 +16,7 @@ use Rattle.commands.specs.declared.document.ObjectKind.{ObjectKind}
 use Rattle.commands.specs.declared.document.Document.{Document}
 use Rattle.commands.specs.declared.document.Document.TheVariants as is
 use Rattle.commands.specs.declared.command.Command.{Command}
-use Rattle.commands.specs.declared.command.Command.TheVariants.{Apply, Schedule, NotBuilt}
+use Rattle.commands.specs.declared.command.Command.TheVariants.{Apply, Invalid, Schedule, NotBuilt}
 
 -- ---- namespace and name
 
@@ -115,11 +115,11 @@ reads is.Together d = is_together d
 
 -- ---- the commands
 
--- An object that reads is applied.
+-- An object that reads is applied; one that doesn't is a command too, with the first error.
 abbrev pub applied : Result (Option Object) FieldError → Command
 applied (Ok (Some object)) = Apply object
 applied (Ok None) = NotBuilt
-applied (Err e) = NotBuilt
+applied (Err e) = Invalid e
 
 abbrev pub apply_of : ObjectKind → Data → Command
 apply_of kind d = applied (object_of kind d)

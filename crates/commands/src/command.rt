@@ -6,7 +6,7 @@ use crate::document::{Document, ObjectKind, document_of};
 use crate::fields::{has_key, is_delete, is_list, is_together, read_key};
 use crate::objects::read_object;
 use alloc_rules::Object;
-use object_fields::{Key, Kind};
+use object_fields::{FieldError, Key, Kind};
 use serde_json::Value;
 use std::alloc::{AllocError, Global};
 use std::str;
@@ -16,6 +16,8 @@ use std::str;
 pub enum Command {
     /// Creates the object. The change of one that is there already is not built yet.
     Apply(Object),
+    /// Applies an object whose fields have this first error.
+    Invalid(FieldError),
     /// Schedules the pod of that key.
     Schedule(Key),
     /// A command of a form that this program doesn't do yet.
@@ -41,7 +43,8 @@ pub enum Command {
 /// documents of `dra.replay/v1` are this project's own. `name` is any text; `namespace` is any
 /// text, and `default` where it is missing or null. A document whose fields don't read so is no
 /// command, nor is a List or a Together with a member that isn't allowed there. An object is always
-/// a command, whatever its fields: it is NotBuilt where they don't read or set what isn't built.
+/// a command, whatever its fields: it is Invalid, with the first error in their order, where they
+/// don't read, and NotBuilt where they set what isn't built.
 pub fn read_command(alloc: Global, document: &[u8]) -> Result<Option<Command>, AllocError>
     ensures { IfOk result (λ c. c ≡ spec.command_of document.now) }
 {
@@ -71,7 +74,8 @@ fn command_in(alloc: Global, value: &Value) -> Result<Option<Command>, AllocErro
     }
 }
 
-/// The command that applies the object, or NotBuilt where it doesn't read.
+/// The command that applies the object, Invalid where it doesn't read, and NotBuilt where its form
+/// isn't built.
 fn apply(alloc: Global, kind: ObjectKind, value: &Value) -> Result<Command, AllocError>
     ensures { IfOk result (λ c. c ≡ spec.apply_of kind (view value.now)) }
 {
@@ -82,7 +86,7 @@ fn apply(alloc: Global, kind: ObjectKind, value: &Value) -> Result<Command, Allo
             if error.kind == Kind::Memory {
                 Err(AllocError)
             } else {
-                Ok(Command::NotBuilt)
+                Ok(Command::Invalid(error))
             }
         }
     }

@@ -11,13 +11,13 @@ apply DeviceClass gpu|{"apiVersion":"resource.k8s.io/v1","kind":"DeviceClass","m
 apply ResourceClaim default/c|{"apiVersion":"resource.k8s.io/v1","kind":"ResourceClaim","metadata":{"namespace":"default","name":"c"},"spec":{"devices":{"requests":[{"name":"gpu","exactly":{"deviceClassName":"gpu"}}]}}}
 apply Pod default/p|{"apiVersion":"v1","kind":"Pod","metadata":{"namespace":"default","name":"p"},"spec":{"resourceClaims":[{"name":"g","resourceClaimName":"c"}]}}
 schedule default/p|{"apiVersion":"dra.replay/v1","kind":"Schedule","namespace":"default","name":"p"}
-not built|{"apiVersion":"v1","kind":"Node"}
-not built|{"apiVersion":"v1","kind":"Node","metadata":{"name":"N1"}}
+invalid Missing metadata|{"apiVersion":"v1","kind":"Node"}
+invalid BadName metadata.name|{"apiVersion":"v1","kind":"Node","metadata":{"name":"N1"}}
 not built|{"apiVersion":"v1","kind":"Node","metadata":{"name":"n1","labels":{"zone":"a"}}}
-not built|{"apiVersion":"v1","kind":"Pod","metadata":7}
-not built|{"apiVersion":"resource.k8s.io/v1","kind":"ResourceSlice","spec":[]}
+invalid WrongType metadata|{"apiVersion":"v1","kind":"Pod","metadata":7}
+invalid Missing metadata|{"apiVersion":"resource.k8s.io/v1","kind":"ResourceSlice","spec":[]}
 not built|{"apiVersion":"resource.k8s.io/v1","kind":"DeviceClass","metadata":{"name":"gpu"},"spec":{"selectors":[{}]}}
-not built|{"apiVersion":"resource.k8s.io/v1","kind":"ResourceClaim","metadata":{"name":"c"}}
+invalid Missing spec|{"apiVersion":"resource.k8s.io/v1","kind":"ResourceClaim","metadata":{"name":"c"}}
 no command|{"apiVersion":"v1","kind":"ResourceSlice","metadata":{"name":"s"}}
 no command|{"apiVersion":"resource.k8s.io/v1","kind":"Node","metadata":{"name":"n1"}}
 no command|{"apiVersion":"dra.replay/v1","kind":"List","items":[]}
@@ -113,6 +113,7 @@ fn asked(rt: &HostRuntime, document: &[u8]) -> Result<String, Fail> {
     let alloc = rt.alloc();
     Ok(match read_command(alloc, document)? {
         None => format!(in alloc; "no command")?,
+        Some(Command::Invalid(error)) => format!(in alloc; "invalid {error}")?,
         Some(Command::NotBuilt) => format!(in alloc; "not built")?,
         Some(Command::Schedule(key)) => format!(in alloc; "schedule {key}")?,
         Some(Command::Apply(object)) => object_text(rt, &object)?,
