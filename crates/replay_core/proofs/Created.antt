@@ -1,17 +1,19 @@
--- An object of a form that is done may be created.
-use Rattle.std.proofs.Common.{◌≡◌, ◌+◌, Bool, true, ◌&&◌, Option, None, Some, is_none, length, eqb, leb, refl}
-use Rattle.std.proofs.lemmas.Bool.{and_parts, leb-true}
+-- What applying an object of a form that is done makes.
+use Rattle.std.proofs.Common.{ℕ, List, ◌≡◌, Bool, true, false, cond, ◌&&◌, Option, None, Some, is_none, refl, inl, inr}
+use Rattle.std.proofs.lemmas.Bool.{and_parts}
 use Rattle.alloc_rules.specs.declared.object.Object.{Object}
 use Rattle.alloc_rules.specs.declared.object.Object.TheVariants as object
-use Rattle.alloc_rules.specs.declared.pool.TheConstants.{MOST_DEVICES}
 use Rattle.alloc_rules.specs.declared.state.State.{State}
-use Rattle.alloc_rules.specs.Pools.{device_count, slices_of}
 use Rattle.alloc_rules.specs.State.{IsAbsent}
 use Rattle.alloc_rules.specs.Names.{at_name, at_key}
-use Rattle.ledger_core.specs.Entry.{HasRoom}
-use Rattle.ledger_core.specs.History.{MayCreate}
+use Rattle.ledger_core.specs.declared.entry.Denial.TheVariants.{Devices}
+use Rattle.ledger_core.specs.declared.entry.Entry.{Entry}
+use Rattle.ledger_core.specs.declared.entry.Event.TheVariants.{Applied, Denied}
+use Rattle.ledger_core.specs.declared.entry.Stand.TheVariants.{Ended}
+use Rattle.ledger_core.specs.Entry.{creation, has_room, stand_after}
 use Rattle.commands.specs.declared.command.Command.TheVariants as command
 use Rattle.replay_core.specs.Built.{is_new, object_built, is_built}
+use Rattle.replay_core.specs.Jobs.{IsOf, IsSearched}
 
 none_by : {X : Type 0} (o : Option X) → is_none o ≡ true → o ≡ None
 none_by None e = refl
@@ -24,16 +26,31 @@ absent s (object.Class x) e = none_by (at_name s.classes x.name) e
 absent s (object.Claim x) e = none_by (at_key s.claims x.key) e
 absent s (object.Pod x) e = none_by (at_key s.pods x.key) e
 
-roomy : (s : State) (x : Object) → object_built s x ≡ true → HasRoom s x
-roomy s (object.Node x) e = tt
-roomy s (object.Slice x) e =
-    let fits : Bool = leb (device_count s.slices + length x.devices) MOST_DEVICES in
-    leb-true (device_count s.slices + length x.devices) MOST_DEVICES
-    (and_parts (eqb (length (slices_of x.driver x.pool.name s.slices)) 0) fits (and_parts (eqb x.pool.slices 1) (eqb (length (slices_of x.driver x.pool.name s.slices)) 0 && fits) e).1).1
-roomy s (object.Class x) e = tt
-roomy s (object.Claim x) e = tt
-roomy s (object.Pod x) e = tt
-
-pub may_create : (s : State) (x : Object) → is_built s (command.Apply x) ≡ true → MayCreate s x
+-- it isn't there
+pub built_absent : (s : State) (x : Object) → is_built s (command.Apply x) ≡ true → IsAbsent s x
 unfolding is_built
-may_create s x e = let parts = and_parts (is_new s x) (object_built s x) e in record { absent = absent s x parts.0; room = roomy s x parts.1 }
+built_absent s x e = absent s x (and_parts (is_new s x) (object_built s x) e).0
+
+of_creation : (b : Bool) (x : Object) → IsOf (command.Apply x) (cond b (Applied x) (Denied (Devices x)))
+of_creation true x = inl refl
+of_creation false x = inr refl
+
+searched_creation : (b : Bool) (before : List Entry) (job begun budget : ℕ) (x : Object) → IsSearched before job begun budget (cond b (Applied x) (Denied (Devices x)))
+searched_creation true before job begun budget x = tt
+searched_creation false before job begun budget x = tt
+
+ended_creation : (b : Bool) (place : ℕ) (x : Object) → stand_after place (cond b (Applied x) (Denied (Devices x))) ≡ Ended place
+ended_creation true place x = refl
+ended_creation false place x = refl
+
+-- what it makes is of the command
+pub creation_of : (s : State) (x : Object) → IsOf (command.Apply x) (creation s x)
+creation_of s x = of_creation (has_room s x) x
+
+-- tells of no search
+pub creation_searched : (s : State) (before : List Entry) (job begun budget : ℕ) (x : Object) → IsSearched before job begun budget (creation s x)
+creation_searched s before job begun budget x = searched_creation (has_room s x) before job begun budget x
+
+-- and ends its job
+pub creation_ends : (s : State) (place : ℕ) (x : Object) → stand_after place (creation s x) ≡ Ended place
+creation_ends s place x = ended_creation (has_room s x) place x

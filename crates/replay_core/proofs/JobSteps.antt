@@ -12,7 +12,7 @@ use Rattle.ledger_core.specs.Entry.{claims_of, stand_after, GoesOn}
 use Rattle.alloc_rules.specs.declared.state.State.{State}
 use Rattle.ledger_core.specs.declared.entry.Entry.{Entry}
 use Rattle.ledger_core.specs.declared.entry.Event.{Event}
-use Rattle.ledger_core.specs.declared.entry.Event.TheVariants.{Applied, Reserved, Wrote, Bound, Judged}
+use Rattle.ledger_core.specs.declared.entry.Event.TheVariants.{Applied, Reserved, Wrote, Bound, Judged, Denied}
 use Rattle.ledger_core.specs.declared.entry.Stand.TheVariants as stand
 use Rattle.ledger_core.specs.History.{state_at, state_of, stand_of}
 use Rattle.ledger_core.specs.Ledger.{History, appended}
@@ -28,6 +28,7 @@ never_fails (Reserved pod plan) = refl
 never_fails (Wrote pod claim seen) = refl
 never_fails (Bound pod node) = refl
 never_fails (Judged pod verdict) = refl
+never_fails (Denied denial) = refl
 
 unfailed_next : (b : Bool) (n : ℕ) → b ≡ false → n ≡ 0 → cond b 1 0 + n ≡ 0
 unfailed_next true n off e = absurd (cc)
@@ -116,6 +117,7 @@ fresh_goes job h fresh place ended = let e : stand.Fresh ≡ stand.Ended place =
 
 none_before : (c : Command) → HasNone c []
 none_before (command.Apply object) = refl
+none_before (command.Invalid error) = refl
 none_before (command.Schedule pod) = tt
 none_before command.NotBuilt = refl
 

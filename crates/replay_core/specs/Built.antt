@@ -1,12 +1,11 @@
 -- Which commands are of a form that is done.
-use Rattle.std.specs.Prelude.{◌+◌, ◌==◌, Bool, true, false, ◌&&◌, is_none, length, nat_le}
+use Rattle.std.specs.Prelude.{◌==◌, Bool, true, false, ◌&&◌, is_none, length}
 use Rattle.api_slice.specs.declared.types.ResourceSlice.{ResourceSlice}
 use Rattle.alloc_rules.specs.declared.object.Object.{Object}
 use Rattle.alloc_rules.specs.declared.object.Object.TheVariants as object
-use Rattle.alloc_rules.specs.declared.pool.TheConstants.{MOST_DEVICES}
 use Rattle.alloc_rules.specs.declared.state.State.{State}
 use Rattle.alloc_rules.specs.Names.{at_name, at_key}
-use Rattle.alloc_rules.specs.Pools.{device_count, slices_of}
+use Rattle.alloc_rules.specs.Pools.{slices_of}
 use Rattle.alloc_rules.specs.Claims.{schedule_built}
 use Rattle.commands.specs.declared.command.Command.{Command}
 use Rattle.commands.specs.declared.command.Command.TheVariants as command
@@ -19,10 +18,9 @@ is_new s (object.Class x) = is_none (at_name s.classes x.name)
 is_new s (object.Claim x) = is_none (at_key s.claims x.key)
 is_new s (object.Pod x) = is_none (at_key s.pods x.key)
 
--- a slice that is the only one of its pool, whose devices there is room for
+-- a slice that is the only one of its pool
 abbrev pub slice_built : State → ResourceSlice → Bool
-slice_built s x =
-    (x.pool.slices == 1) && ((length (slices_of x.driver x.pool.name s.slices) == 0) && nat_le (device_count s.slices + length x.devices) MOST_DEVICES)
+slice_built s x = (x.pool.slices == 1) && (length (slices_of x.driver x.pool.name s.slices) == 0)
 
 abbrev pub object_built : State → Object → Bool
 object_built s (object.Node x) = true
@@ -34,5 +32,6 @@ object_built s (object.Pod x) = true
 -- the command is of a form that is done, at its turn
 unfoldable pub is_built : State → Command → Bool
 is_built s (command.Apply object) = is_new s object && object_built s object
+is_built s (command.Invalid error) = true
 is_built s (command.Schedule pod) = schedule_built s pod
 is_built s command.NotBuilt = false

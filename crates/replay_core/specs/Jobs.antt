@@ -1,10 +1,11 @@
 -- What the entries of a job are.
-use Rattle.std.specs.Prelude.{ℕ, ◌≡◌, ◌≤◌, ◌<◌, ◌+◌, ◌==◌, Bool, false, List, [], ◌∷◌, ◌++◌, Option, None, Some, length, count_by, if◌then◌else◌}
+use Rattle.std.specs.Prelude.{ℕ, ◌≡◌, ◌≤◌, ◌<◌, ◌+◌, ◌==◌, ◌⊎◌, Bool, false, List, [], ◌∷◌, ◌++◌, Option, None, Some, length, count_by, if◌then◌else◌}
 use Rattle.object_fields.specs.declared.key.Key.{Key}
 use Rattle.alloc_rules.specs.Plans.{PlanBy, VerdictBy}
+use Rattle.ledger_core.specs.declared.entry.Denial.TheVariants.{Invalid, Devices}
 use Rattle.ledger_core.specs.declared.entry.Entry.{Entry}
 use Rattle.ledger_core.specs.declared.entry.Event.{Event}
-use Rattle.ledger_core.specs.declared.entry.Event.TheVariants.{Applied, Reserved, Wrote, Bound, Judged}
+use Rattle.ledger_core.specs.declared.entry.Event.TheVariants.{Applied, Reserved, Wrote, Bound, Judged, Denied}
 use Rattle.ledger_core.specs.declared.entry.Stand.TheVariants.{Ended}
 use Rattle.ledger_core.specs.History.{state_at, stand_of}
 use Rattle.commands.specs.declared.command.Command.{Command}
@@ -17,10 +18,13 @@ pod_of (Reserved pod plan) = Some pod
 pod_of (Wrote pod claim seen) = Some pod
 pod_of (Bound pod node) = Some pod
 pod_of (Judged pod verdict) = Some pod
+pod_of (Denied denial) = None
 
--- the entry is of the command
+-- the entry is of the command: it names the command's object or pod, and a denial of a document that
+-- doesn't read carries the first error of the reading
 abbrev pub IsOf : Command → Event → Type 0
-IsOf (command.Apply object) event = event ≡ Applied object
+IsOf (command.Apply object) event = (event ≡ Applied object) ⊎ (event ≡ Denied (Devices object))
+IsOf (command.Invalid error) event = event ≡ Denied (Invalid error)
 IsOf (command.Schedule pod) event = pod_of event ≡ Some pod
 IsOf command.NotBuilt event = ⊥
 
@@ -45,6 +49,7 @@ IsSearched before job begun budget (Reserved pod plan) = IsTimely before job beg
 IsSearched before job begun budget (Wrote pod claim seen) = Unit {0}
 IsSearched before job begun budget (Bound pod node) = Unit {0}
 IsSearched before job begun budget (Judged pod verdict) = IsTimely before job begun verdict.at × VerdictBy (state_at before verdict.at) pod budget verdict
+IsSearched before job begun budget (Denied denial) = Unit {0}
 
 -- an entry of the job, whose command began after so many entries
 pub record IsMade (job : ℕ) (c : Command) (begun budget : ℕ) (before : List Entry) (e : Entry) : Type 0 where
@@ -63,6 +68,7 @@ is_failure (Reserved pod plan) = false
 is_failure (Wrote pod claim seen) = false
 is_failure (Bound pod node) = false
 is_failure (Judged pod verdict) = false
+is_failure (Denied denial) = false
 
 abbrev pub failures : List Entry → ℕ
 failures es = count_by (λ e. is_failure e.event) es
@@ -77,6 +83,7 @@ pub record JobRun (job : ℕ) (c : Command) (budget attempts : ℕ) (before segm
 -- a job that isn't a Schedule has no entry before its last
 abbrev pub HasNone : Command → List Entry → Type 0
 HasNone (command.Apply object) segment = segment ≡ []
+HasNone (command.Invalid error) segment = segment ≡ []
 HasNone (command.Schedule pod) segment = Unit {0}
 HasNone command.NotBuilt segment = segment ≡ []
 

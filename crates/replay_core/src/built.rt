@@ -14,6 +14,7 @@ pub fn is_built(alloc: Global, state: &State, command: &Command) -> Result<bool,
 {
     match command {
         Command::Apply(object) => Ok(is_new(state, object) && object_built(state, object)),
+        Command::Invalid(_) => Ok(true),
         Command::Schedule(pod) => state.may_schedule(alloc, pod),
         Command::NotBuilt => Ok(false),
     }
@@ -40,13 +41,11 @@ fn object_built(state: &State, object: &Object) -> bool
     }
 }
 
-/// Whether the slice is the only one of its pool, and there is room for its devices.
+/// Whether the slice is the only one of its pool.
 fn slice_built(state: &State, slice: &ResourceSlice) -> bool
     ensures { result ≡ slice_built state.now slice.now }
 {
-    slice.pool.slices == 1
-        && is_first(state, slice)
-        && state.has_room(slice.devices.as_slice().len())
+    slice.pool.slices == 1 && is_first(state, slice)
 }
 
 /// Whether no slice is of the same pool.

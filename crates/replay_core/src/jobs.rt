@@ -4,7 +4,7 @@ ghost use Rattle.alloc_rules.specs.Decisions.{IsReserve, IsUnsatisfiable};
 ghost use Rattle.object_fields.specs.declared.key.Key.{Key};
 ghost use Rattle.ledger_core.specs.declared.entry.Stand.TheVariants.{Fresh, Reserved, Ended};
 ghost use Rattle.ledger_core.specs.History.{state_of, stand_of};
-ghost use Rattle.commands.specs.declared.command.Command.TheVariants.{Apply, Schedule};
+ghost use Rattle.commands.specs.declared.command.Command.TheVariants.{Apply, Invalid, Schedule};
 ghost use Rattle.replay_core.specs.Built.{is_built};
 ghost use Rattle.replay_core.specs.Doing.{Begun, Doing, IsFull, MayFinish, Met, Ran, StepsOn};
 ghost use Rattle.replay_core.specs.Claims.{keys_at};
@@ -16,11 +16,11 @@ use api_cluster::{Pod, PodResourceClaim};
 use commands::Command;
 use dra_values::Seq;
 use ledger_core::{Ledger, LedgerError, histories_grow, reserved_goes_on};
-use object_fields::Key;
+use object_fields::{FieldError, Key};
 use std::alloc::{AllocError, Global};
 
-/// Does a command as a job that has no entry yet: an Apply has one entry, which creates the object,
-/// and a Schedule one for the reservation, one for each claim of the pod and one for the binding, or
+/// Does a command as a job that has no entry yet: an Apply has one entry, which creates the object or
+/// refuses it for want of room, an Invalid one, which refuses it with its error, and a Schedule one for the reservation, one for each claim of the pod and one for the binding, or
 /// one for the verdict. `Stop::NotBuilt` comes where the command is of a form that isn't done yet,
 /// and the ledger stays as it was. `Stop::Full` comes where the history has as many entries as it may
 /// have and one more is due, and `Stop::Memory` only where memory runs out: the entries that were
@@ -60,6 +60,7 @@ fn do_built(
 {
     match command {
         Command::Apply(object) => apply(alloc, ledger, job, object),
+        Command::Invalid(error) => deny(ledger, job, error),
         Command::Schedule(pod) => schedule(alloc, ledger, job, &pod),
         Command::NotBuilt => unreachable!(),
     }
@@ -75,6 +76,18 @@ fn apply(alloc: Global, ledger: &mut Ledger, job: u64, object: Object) -> Result
 {
     histories_grow();
     ledger.apply(alloc, job, object)?;
+    Ok(())
+}
+
+/// Refuses an object whose fields have this first error.
+fn deny(ledger: &mut Ledger, job: u64, error: FieldError) -> Result<(), LedgerError>
+    requires { stand_of ledger.old.entries job ≡ Fresh }
+    ensures ran { OnOk result ((budget attempts : ℕ) → 2 ≤ budget → 0 < attempts → Ran job (Invalid error) budget attempts ledger.old ledger.new) }
+    ensures begun { OnErr result ((budget attempts : ℕ) → 2 ≤ budget → 0 < attempts → Begun job (Invalid error) budget attempts ledger.old ledger.new) }
+    ensures full { (n : ℕ) → IsErrOf result (LedgerError.Full n) → IsFull ledger.new n }
+{
+    histories_grow();
+    ledger.deny(job, error)?;
     Ok(())
 }
 
