@@ -8,6 +8,8 @@ mod scan;
 mod script;
 mod status;
 mod stop;
+#[cfg(test)]
+mod tests;
 mod work;
 
 pub use script::replay;
