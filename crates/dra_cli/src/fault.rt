@@ -15,8 +15,8 @@ impl fmt::Display for Fault {
             ),
             Status::Document(at) => write!(
                 f,
-                "the document at byte {at} is not a command; each line is empty or one JSON \
-                 document of at most 2097152 bytes: an object of the Kubernetes API to apply, or a \
+                "at byte {at} stands no command; a script is JSON objects with blanks alone between \
+                 them, each of at most 2097152 bytes: an object of the Kubernetes API to apply, or a \
                  command of dra.replay/v1"
             ),
             Status::Memory => {

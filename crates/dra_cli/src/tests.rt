@@ -26,6 +26,14 @@ const REST: &str =
 const REOPEN: &str = r#"{"apiVersion":"dra.replay/v1","kind":"Reopen"}
 "#;
 
+// Two documents over several lines, with no blank between them.
+const SPREAD: &str =
+    "\r\n\t{\n  \"apiVersion\": \"v1\",\n  \"kind\": \"Node\",\n  \"metadata\": {\"name\": \"n1\"}\n}{\"apiVersion\":\"v1\",\"kind\":\"Node\",\"metadata\":{\"name\":\"n2\"}} ";
+
+const SPREAD_LINES: &str = "1 1 applied Node n1\n\
+             2 2 applied Node n2\n\
+             summary entries=2 commands=2 granted=0 bound=0\n";
+
 const NODE_WITH_MEMBER: &str = r#"{"apiVersion":"v1","kind":"Node","metadata":{"name":"n1","x":"#;
 
 const FIRST_LINE: &str = "1 1 applied Node n1\n";
@@ -96,6 +104,8 @@ fn a_whole_replay_prints_its_journal(rt: HostRuntime) -> Result<(), Fail> {
     let base = joined(rt.alloc(), &[known(FIRST), known(SECOND), known(REST)])?;
     assert!(rt; ends(&rt, &base, 1, (0, 0), Status::Done, known(ALL_LINES))?);
     assert!(rt; ends(&rt, &base, 4096, (0, 0), Status::Done, known(ALL_LINES))?);
+    let spread = known(SPREAD).as_bytes();
+    assert!(rt; ends(&rt, spread, 7, (0, 0), Status::Done, known(SPREAD_LINES))?);
     assert!(rt; ends(&rt, &[], 1, (0, 0), Status::Done, known(NO_LINES))?);
     assert!(rt; ends(&rt, &[], 4096, (0, 0), Status::Done, known(NO_LINES))?);
     Ok(())
@@ -109,6 +119,11 @@ fn a_replay_stops_at_its_first_fault(rt: HostRuntime) -> Result<(), Fail> {
     assert!(rt; ends(&rt, &reopen, 4096, (0, 0), Status::NotYet(59), line)?);
     let bad = joined(alloc, &[known(FIRST), known("{}\n"), known(SECOND)])?;
     assert!(rt; ends(&rt, &bad, 4096, (0, 0), Status::Document(59), line)?);
+    let stray = joined(alloc, &[known(FIRST), known("x")])?;
+    assert!(rt; ends(&rt, &stray, 4096, (0, 0), Status::Document(59), line)?);
+    let whole = known(FIRST).as_bytes();
+    let cut = whole.get(..57).unwrap_or(whole);
+    assert!(rt; ends(&rt, cut, 4096, (0, 0), Status::Document(0), "")?);
     let two = joined(alloc, &[known(FIRST), known(SECOND)])?;
     assert!(rt; ends(&rt, &two, 1, (60, 0), Status::Read, line)?);
     assert!(rt; ends(&rt, &two, 4096, (0, 1), Status::Write, "")?);
@@ -117,7 +132,7 @@ fn a_replay_stops_at_its_first_fault(rt: HostRuntime) -> Result<(), Fail> {
 
 #[test]
 fn a_document_has_its_limits(rt: HostRuntime) -> Result<(), Fail> {
-    let long = vec![in rt.alloc(); b'['; 2_097_153]?;
+    let long = vec![in rt.alloc(); b'{'; 2_097_153]?;
     assert!(rt; ends(&rt, &long, 4096, (0, 0), Status::Document(0), "")?);
     let mut deep = known(NODE_WITH_MEMBER).as_bytes().to_vec(rt.alloc())?;
     for _ in 0..200 {

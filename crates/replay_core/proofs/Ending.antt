@@ -1,9 +1,13 @@
 -- How a replay goes on, and how it ends.
 use Rattle.std.proofs.Common.{ℕ, ◌+◌, ◌≤◌, ◌<◌, ◌≡◌, ◌∙◌, List, [], ◌∷◌, ◌++◌, Bool, true, false, eqb, length, refl, sym, ap, subst, arith, append_assoc, append-nil, length-append, inl, inr, ⊎_elim}
-use Rattle.std.proofs.lemmas.Bool.{ne_eqb, eq-eqb}
 use Rattle.std.specs.Prelude.{Option, None, Some}
-use Rattle.std.specs.Io.KnownBytes.{Appends, Consumes, IsAtEnd}
+use Rattle.std.specs.Io.KnownBytes.{Appends, Consumes}
 use Rattle.dra_ports.specs.Fronts.{AppendsFront}
+use Rattle.doc_split.specs.Answers.{HasNone, IsCut, IsNext, NoneWhole}
+use Rattle.doc_split.specs.Documents.{Document, Documents}
+use Rattle.doc_split.specs.Documents as documents
+use Rattle.doc_split.specs.Limits.{the_limits}
+use Rattle.doc_split.specs.Split.{Split, remaining}
 use Rattle.ledger_core.specs.declared.entry.Entry.{Entry}
 use Rattle.ledger_core.specs.Ledger.{History}
 use Rattle.ledger_core.specs.History.{Legal}
@@ -13,49 +17,36 @@ use Rattle.commands.specs.Commands.{command_of}
 use Rattle.replay_core.specs.declared.status.Status.{Status}
 use Rattle.replay_core.specs.declared.status.Status.TheVariants as status
 use Rattle.replay_core.specs.declared.work.Work.{Work}
-use Rattle.replay_core.specs.declared.scan.Scan.{Scan}
-use Rattle.replay_core.specs.Script.{Clean, Bad, Long, Script, add_line, last_line, most_document, most_input, nothing, prepend, script_from, script_of}
+use Rattle.replay_core.specs.Script.{Clean, Cut, Bad, Long, Script, add_command, ending_of, nothing, prepend, script_by, script_from, script_of}
 use Rattle.replay_core.specs.Jobs.{JobBegun}
-use Rattle.replay_core.specs.Lines.{LineDid, LineStops, MetNext, MetPrinted, MetShort, PrintedShort, RanShort, Summarized, new_lines, search_budget, schedule_attempts}
+use Rattle.replay_core.specs.Lines.{DocumentDid, DocumentStops, MetNext, MetPrinted, MetShort, PrintedShort, RanShort, Summarized, new_lines, search_budget, schedule_attempts}
 use Rattle.replay_core.specs.Replay.{Ends, EndsAt, EndsDone, EndsFull, EndsNotYet, EndsRead, EndsShort, IsLines, IsPart, IsPartLines, IsRun, IsText, Tells, TellsFirst}
 use Rattle.replay_core.specs.Progress.{Progress, Standing}
-use Rattle.replay_core.proofs.Known.{appends_front, appends_kept, appends_more, consumes_kept, consumes_more, front_all, rest_at_end}
+use Rattle.replay_core.proofs.Known.{appends_front, appends_kept, appends_more, consumes_more, front_all, rest_of}
 use Rattle.replay_core.proofs.Running.{LinesLaw, StandLaw, lines_more, run_more, standing_more}
-use Rattle.replay_core.proofs.Scripts.{line_is, line_is_none, next_script, prepend_nothing, script_byte, script_end, script_line, script_long, script_long_line, tells_by, within_by}
+use Rattle.replay_core.proofs.Scripts.{document_is, document_is_none, next_script, prepend_nothing, tells_by}
 
--- the script as far as it was done, and then a line and something more
-abbrev pub TellsLine : Option (List ℕ) → List (ℕ × Command) → ℕ → List ℕ → Type 0
-TellsLine left done at line = (bytes : List ℕ) → left ≡ Some bytes → (rest : Script) × (script_of bytes ≡ prepend done (add_line at line rest))
+-- the script as far as it was done, and then a document and something more
+abbrev pub TellsDocument : Option (List ℕ) → List (ℕ × Command) → ℕ → List ℕ → Type 0
+TellsDocument left done at document = (bytes : List ℕ) → left ≡ Some bytes → (rest : Script) × (script_of bytes ≡ prepend done (add_command at (command_of document) rest))
 
--- a line that was done
-pub record Moved (limit : ℕ) (before next : Option (List ℕ)) (done : List (ℕ × Command)) (at : ℕ) (line : List ℕ) (old new : Work) : Type 0 where
+-- a document that was done
+pub record Moved (limit : ℕ) (before next : Option (List ℕ)) (done : List (ℕ × Command)) (at : ℕ) (document : List ℕ) (old new : Work) : Type 0 where
   pub now_done : List (ℕ × Command)
   pub standing : Standing limit before next now_done new
-  pub script : (rest : Script) → prepend done (add_line at line rest) ≡ prepend now_done rest
+  pub script : (rest : Script) → prepend done (add_command at (command_of document) rest) ≡ prepend now_done rest
   pub few : new.commands ≤ old.commands + 1
 
-pub line_moves : StandLaw → LinesLaw → (limit : ℕ) (before now next : Option (List ℕ)) (done : List (ℕ × Command)) (at : ℕ) (line : List ℕ) (old new : Work)
-    → Standing limit before now done old → LineDid line old new now next → Legal new.ledger.entries → Moved limit before next done at line old new
-line_moves stands lines limit before now next done at [] old new s did legal = record {
-  now_done = done;
-  standing = subst (λ (w : Work). Standing limit before next done w) (sym did.0) (record {
-    run = s.run;
-    count_is = s.count_is;
-    fresh = s.fresh;
-    printed = appends_kept before now next (lines_from 0 old.ledger.entries) s.printed did.1;
-    limit_is = s.limit_is;
-  });
-  script = λ rest. refl;
-  few = let e = ap (λ (w : Work). w.commands) did.0 in omega arith;
-}
-line_moves stands lines limit before now next done at (b ∷ bs) old new s (c, is, did) legal = record {
+pub document_moves : StandLaw → LinesLaw → (limit : ℕ) (before now next : Option (List ℕ)) (done : List (ℕ × Command)) (at : ℕ) (document : List ℕ) (old new : Work)
+    → Standing limit before now done old → DocumentDid document old new now next → Legal new.ledger.entries → Moved limit before next done at document old new
+document_moves stands lines limit before now next done at document old new s (c, is, did) legal = record {
   now_done = done ++ (at, c) ∷ [];
   standing = standing_more stands lines limit before now next done at c old new s did legal;
-  script = λ rest. line_is done at b bs c rest is;
+  script = λ rest. document_is done at document c rest is;
   few = omega (arith, did.counted);
 }
 
--- a line that wasn't done leaves the commands before it
+-- a document that wasn't done leaves the commands before it
 short_lines : (limit : ℕ) (left before now next : Option (List ℕ)) (done : List (ℕ × Command)) (old : Work) → Standing limit before now done old → TellsFirst left done → Appends now next []
     → EndsShort limit left before next
 short_lines limit left before now next done old s tells kept = record {
@@ -110,165 +101,114 @@ full_command lines limit left before now next done at c old new n s tells legal 
       (appends_more before now next (lines_from 0 old.ledger.entries) (new_lines old.ledger new.ledger) s.printed met.printed);
 }
 
-tells_command : (left : Option (List ℕ)) (done : List (ℕ × Command)) (at b : ℕ) (bs : List ℕ) (c : Command) → TellsLine left done at (b ∷ bs) → command_of (b ∷ bs) ≡ Some c → TellsFirst left (done ++ (at, c) ∷ [])
-tells_command left done at b bs c tells is bytes e = let t = tells bytes e in (t.0, t.1 ∙ line_is done at b bs c t.0 is)
+tells_command : (left : Option (List ℕ)) (done : List (ℕ × Command)) (at : ℕ) (document : List ℕ) (c : Command) → TellsDocument left done at document → command_of document ≡ Some c → TellsFirst left (done ++ (at, c) ∷ [])
+tells_command left done at document c tells is bytes e = let t = tells bytes e in (t.0, t.1 ∙ document_is done at document c t.0 is)
 
-tells_before : (left : Option (List ℕ)) (done : List (ℕ × Command)) (at : ℕ) (line : List ℕ) → TellsLine left done at line → TellsFirst left done
-tells_before left done at line tells bytes e = let t = tells bytes e in (add_line at line t.0, t.1)
+tells_before : (left : Option (List ℕ)) (done : List (ℕ × Command)) (at : ℕ) (document : List ℕ) → TellsDocument left done at document → TellsFirst left done
+tells_before left done at document tells bytes e = let t = tells bytes e in (add_command at (command_of document) t.0, t.1)
 
--- a line that wasn't done
-pub line_stops : LinesLaw → (limit : ℕ) (left left_now before now next : Option (List ℕ)) (done : List (ℕ × Command)) (at : ℕ) (line : List ℕ) (old new : Work) (s : Status)
-    → Standing limit before now done old → TellsLine left done at line → Legal new.ledger.entries → LineStops at line old new now next s → Ends limit left left_now before next s
-line_stops lines limit left left_now before now next done at [] old new s standing tells legal stops = absurd stops
-line_stops lines limit left left_now before now next done at (b ∷ bs) old new status.Done standing tells legal stops = absurd stops
-line_stops lines limit left left_now before now next done at (b ∷ bs) old new status.Usage standing tells legal stops = absurd stops
-line_stops lines limit left left_now before now next done at (b ∷ bs) old new (status.Document place) standing tells legal stops = record {
+-- a document that wasn't done
+pub document_stops : LinesLaw → (limit : ℕ) (left left_now before now next : Option (List ℕ)) (done : List (ℕ × Command)) (at : ℕ) (document : List ℕ) (old new : Work) (s : Status)
+    → Standing limit before now done old → TellsDocument left done at document → Legal new.ledger.entries → DocumentStops at document old new now next s → Ends limit left left_now before next s
+document_stops lines limit left left_now before now next done at document old new status.Done standing tells legal stops = absurd stops
+document_stops lines limit left left_now before now next done at document old new status.Usage standing tells legal stops = absurd stops
+document_stops lines limit left left_now before now next done at document old new (status.Document place) standing tells legal stops = record {
   done = done;
-  script = λ bytes e. let t = tells bytes e in t.1 ∙ line_is_none done at b bs t.0 stops.refused ∙ ap (λ (k : ℕ). record { commands = done; ending = Bad k }) (sym stops.place_is);
+  script = λ bytes e. let t = tells bytes e in t.1 ∙ document_is_none done at document t.0 stops.refused ∙ ap (λ (k : ℕ). record { commands = done; ending = Bad k }) (sym stops.place_is);
   history = old.ledger.entries;
   run = standing.run;
   written = appends_kept before now next (lines_from 0 old.ledger.entries) standing.printed stops.printed;
 }
-line_stops lines limit left left_now before now next done at (b ∷ bs) old new status.Memory standing tells legal (inl kept) =
-    short_lines limit left before now next done old standing (tells_before left done at (b ∷ bs) tells) kept
-line_stops lines limit left left_now before now next done at (b ∷ bs) old new status.Memory standing tells legal (inr (c, is, short)) =
-    short_command lines limit left before now next done at c old new standing (tells_command left done at b bs c tells is) legal short
-line_stops lines limit left left_now before now next done at (b ∷ bs) old new status.Read standing tells legal stops = absurd stops
-line_stops lines limit left left_now before now next done at (b ∷ bs) old new status.Write standing tells legal (c, is, short) =
-    short_command lines limit left before now next done at c old new standing (tells_command left done at b bs c tells is) legal short
-line_stops lines limit left left_now before now next done at (b ∷ bs) old new (status.Limit n) standing tells legal (c, is, met) =
-    inl (full_command lines limit left before now next done at c old new n standing (tells_command left done at b bs c tells is) legal met)
-line_stops lines limit left left_now before now next done at (b ∷ bs) old new (status.NotYet place) standing tells legal (c, is, same, undone) = record {
+document_stops lines limit left left_now before now next done at document old new status.Memory standing tells legal (inl kept) =
+    short_lines limit left before now next done old standing (tells_before left done at document tells) kept
+document_stops lines limit left left_now before now next done at document old new status.Memory standing tells legal (inr (c, is, short)) =
+    short_command lines limit left before now next done at c old new standing (tells_command left done at document c tells is) legal short
+document_stops lines limit left left_now before now next done at document old new status.Read standing tells legal stops = absurd stops
+document_stops lines limit left left_now before now next done at document old new status.Write standing tells legal (c, is, short) =
+    short_command lines limit left before now next done at c old new standing (tells_command left done at document c tells is) legal short
+document_stops lines limit left left_now before now next done at document old new (status.Limit n) standing tells legal (c, is, met) =
+    inl (full_command lines limit left before now next done at c old new n standing (tells_command left done at document c tells is) legal met)
+document_stops lines limit left left_now before now next done at document old new (status.NotYet place) standing tells legal (c, is, same, undone) = record {
   done = done;
   command = c;
-  script = subst (λ (k : ℕ). TellsFirst left (done ++ (k, c) ∷ [])) (sym same) (tells_command left done at b bs c tells is);
+  script = subst (λ (k : ℕ). TellsFirst left (done ++ (k, c) ∷ [])) (sym same) (tells_command left done at document c tells is);
   history = old.ledger.entries;
   run = standing.run;
   unbuilt = undone.unbuilt;
   written = appends_kept before now next (lines_from 0 old.ledger.entries) standing.printed undone.printed;
 }
 
-below_input : (n : ℕ) → n < most_input → eqb n most_input ≡ false
-below_input n h = ne_eqb n most_input (λ e. omega arith)
+-- what the script is where a document is next
+pub tells_document : (limit : ℕ) (left before written : Option (List ℕ)) (a b : Split) (left_a left_b : Option (List ℕ)) (work : Work) (doc : Document) → (p : Progress limit left (remaining a left_a) before written a.at work)
+    → IsNext the_limits a b left_a left_b doc → TellsDocument left p.done doc.at doc.bytes
+tells_document limit left before written a b left_a left_b work doc p n bytes e =
+    let r = tells_by left (remaining a left_a) p.taken p.done (λ more. script_from true a.at more) p.consumed (λ more. p.script true more) bytes e in
+    let q = rest_of (remaining a left_a) (remaining b left_b) n.taken r.0 n.consumed r.2 in
+    (script_from true b.at q.0, r.1 ∙ ap (λ (l : List ℕ). prepend p.done (script_from true a.at l)) q.1 ∙ ap (prepend p.done) (next_script a b left_a left_b doc n true q.0))
 
--- what the script is at a line's end
-pub tells_at_line : (limit : ℕ) (left now next before written : Option (List ℕ)) (scan : Scan) → (p : Progress limit left now before written scan) → Consumes now next (10 ∷ [])
-    → scan.at + length scan.line.items < most_input → TellsLine left p.done scan.at scan.line.items
-tells_at_line limit left now next before written scan p step room bytes e =
-    let t = tells_by left next (p.taken ++ 10 ∷ []) p.done (λ more. add_line scan.at scan.line.items (script_from true (scan.at + length scan.line.items + 1) [] more))
-    (consumes_more left now next p.taken (10 ∷ []) p.consumed step)
-    (λ more. next_script p.taken p.done scan.at scan.line.items p.script 10 true more ∙ ap (prepend p.done) (script_line true scan.at scan.line.items more (below_input (scan.at + length scan.line.items) room)))
-    bytes e in
-    (script_from true (scan.at + length scan.line.items + 1) [] t.0, t.1)
-
--- over a line's end
-pub over_line : (limit : ℕ) (left now next before was written : Option (List ℕ)) (scan : Scan) (work : Work) (at : ℕ) (line : List ℕ) → (p : Progress limit left now before was scan) → Consumes now next (10 ∷ [])
-    → scan.at + length scan.line.items < most_input → (m : Moved limit before written p.done scan.at scan.line.items scan.work work) → at ≡ scan.at + length scan.line.items + 1 → line ≡ []
-    → (s : Scan) → s.work ≡ work → s.at ≡ at → s.line.items ≡ line → Progress limit left next before written s
-over_line limit left now next before was written scan work at line p step room m is none s sw sa sl =
-    let place : s.at ≡ scan.at + length scan.line.items + 1 = sa ∙ is in
-    let empty : s.line.items ≡ [] = sl ∙ none in
-    let len : length s.line.items ≡ 0 = ap length empty in
-    let same : s.work.commands ≡ work.commands = ap (λ (w : Work). w.commands) sw in
-    record {
-      taken = p.taken ++ 10 ∷ [];
-      consumed = consumes_more left now next p.taken (10 ∷ []) p.consumed step;
-      done = m.now_done;
-      script = λ ended more.
-          next_script p.taken p.done scan.at scan.line.items p.script 10 ended more
-          ∙ ap (prepend p.done) (script_line ended scan.at scan.line.items more (below_input (scan.at + length scan.line.items) room))
-          ∙ m.script (script_from ended (scan.at + length scan.line.items + 1) [] more)
-          ∙ ap (λ (k : ℕ). prepend m.now_done (script_from ended k [] more)) (sym place)
-          ∙ ap (λ (l : List ℕ). prepend m.now_done (script_from ended s.at l more)) (sym empty);
-      standing = subst (λ (w : Work). Standing limit before written m.now_done w) (sym sw) m.standing;
-      seen = omega (arith, p.seen, length-append p.taken (10 ∷ []));
-      small = omega arith;
-      few = omega (arith, p.few, m.few, length-append p.taken (10 ∷ []));
-    }
-
--- over another byte
-pub over_byte : (limit : ℕ) (left now next before written : Option (List ℕ)) (scan s : Scan) (b : ℕ) → Progress limit left now before written scan → Consumes now next (b ∷ [])
-    → scan.at + length scan.line.items < most_input → (b ≡ 10 → ⊥) → (length scan.line.items ≡ most_document → ⊥)
-    → s.work ≡ scan.work → s.at ≡ scan.at → s.line.items ≡ scan.line.items ++ b ∷ [] → Progress limit left next before written s
-over_byte limit left now next before written scan s b p step room other short sw sa sl =
-    let len : length s.line.items ≡ length scan.line.items + 1 = ap length sl ∙ length-append scan.line.items (b ∷ []) in
-    let same : s.work.commands ≡ scan.work.commands = ap (λ (w : Work). w.commands) sw in
-    record {
-      taken = p.taken ++ b ∷ [];
-      consumed = consumes_more left now next p.taken (b ∷ []) p.consumed step;
-      done = p.done;
-      script = λ ended more.
-          next_script p.taken p.done scan.at scan.line.items p.script b ended more
-          ∙ ap (prepend p.done) (script_byte ended scan.at scan.line.items b more (below_input (scan.at + length scan.line.items) room) (ne_eqb b 10 other) (ne_eqb (length scan.line.items) most_document short))
-          ∙ ap (λ (k : ℕ). prepend p.done (script_from ended k (scan.line.items ++ b ∷ []) more)) (sym sa)
-          ∙ ap (λ (l : List ℕ). prepend p.done (script_from ended s.at l more)) (sym sl);
-      standing = subst (λ (w : Work). Standing limit before written p.done w) (sym sw) p.standing;
-      seen = omega (arith, p.seen, sa, length-append p.taken (b ∷ []));
-      small = omega (arith, p.small);
-      few = omega (arith, p.few, length-append p.taken (b ∷ []));
-    }
-
--- a line that is longer than a document may be
-pub too_long : (limit : ℕ) (left now next before written : Option (List ℕ)) (scan : Scan) (b : ℕ) → Progress limit left now before written scan → Consumes now next (b ∷ [])
-    → scan.at + length scan.line.items < most_input → (b ≡ 10 → ⊥) → length scan.line.items ≡ most_document → EndsAt (Bad scan.at) left before written
-too_long limit left now next before written scan b p step room other long = record {
-  done = p.done;
-  script = λ bytes e. (tells_by left next (p.taken ++ b ∷ []) p.done (λ more. nothing (Bad scan.at)) (consumes_more left now next p.taken (b ∷ []) p.consumed step)
-      (λ more. next_script p.taken p.done scan.at scan.line.items p.script b true more
-      ∙ ap (prepend p.done) (script_long_line true scan.at scan.line.items b more (below_input (scan.at + length scan.line.items) room) (ne_eqb b 10 other) (eq-eqb (length scan.line.items) most_document long)))
-      bytes e).1 ∙ prepend_nothing p.done (Bad scan.at);
-  history = scan.work.ledger.entries;
-  run = p.standing.run;
-  written = p.standing.printed;
-}
-
--- an input that is longer than it may be
-pub input_too_long : (limit : ℕ) (left now next before written : Option (List ℕ)) (scan : Scan) (b : ℕ) → Progress limit left now before written scan → Consumes now next (b ∷ [])
-    → scan.at + length scan.line.items ≡ most_input → EndsAt Long left before written
-input_too_long limit left now next before written scan b p step long = record {
-  done = p.done;
-  script = λ bytes e. (tells_by left next (p.taken ++ b ∷ []) p.done (λ more. nothing Long) (consumes_more left now next p.taken (b ∷ []) p.consumed step)
-      (λ more. next_script p.taken p.done scan.at scan.line.items p.script b true more
-      ∙ ap (prepend p.done) (script_long true scan.at scan.line.items b more (eq-eqb (scan.at + length scan.line.items) most_input long)))
-      bytes e).1 ∙ prepend_nothing p.done Long;
-  history = scan.work.ledger.entries;
-  run = p.standing.run;
-  written = p.standing.printed;
+-- over a document
+pub over_document : (limit : ℕ) (left before was written : Option (List ℕ)) (a b : Split) (left_a left_b : Option (List ℕ)) (work work_now : Work) (doc : Document) → (p : Progress limit left (remaining a left_a) before was a.at work)
+    → IsNext the_limits a b left_a left_b doc → Moved limit before written p.done doc.at doc.bytes work work_now → Progress limit left (remaining b left_b) before written b.at work_now
+over_document limit left before was written a b left_a left_b work work_now doc p n m = record {
+  taken = p.taken ++ n.taken;
+  consumed = consumes_more left (remaining a left_a) (remaining b left_b) p.taken n.taken p.consumed n.consumed;
+  done = m.now_done;
+  script = λ ended more.
+      ap (script_from ended 0) (append_assoc p.taken n.taken more)
+      ∙ p.script ended (n.taken ++ more)
+      ∙ ap (prepend p.done) (next_script a b left_a left_b doc n ended more)
+      ∙ m.script (script_from ended b.at more);
+  standing = m.standing;
+  few = omega (arith, p.few, m.few, n.moves);
 }
 
 -- want of memory between two commands
-pub memory_short : (limit : ℕ) (left now before written : Option (List ℕ)) (scan : Scan) → Progress limit left now before written scan → EndsShort limit left before written
-memory_short limit left now before written scan p = record {
-  text = lines_from 0 scan.work.ledger.entries;
+pub memory_short : (limit : ℕ) (left now before written : Option (List ℕ)) (at : ℕ) (work : Work) → Progress limit left now before written at work → EndsShort limit left before written
+memory_short limit left now before written at work p = record {
+  text = lines_from 0 work.ledger.entries;
   due = inl (record {
     done = p.done;
-    script = λ bytes e. let t = tells_by left now p.taken p.done (λ more. script_from true scan.at scan.line.items more) p.consumed (λ more. p.script true more) bytes e in (script_from true scan.at scan.line.items t.0, t.1);
-    history = scan.work.ledger.entries;
+    script = λ bytes e. let t = tells_by left now p.taken p.done (λ more. script_from true at more) p.consumed (λ more. p.script true more) bytes e in (script_from true at t.0, t.1);
+    history = work.ledger.entries;
     run = p.standing.run;
     is = refl;
   });
-  written = front_all before written (lines_from 0 scan.work.ledger.entries) p.standing.printed;
+  written = front_all before written (lines_from 0 work.ledger.entries) p.standing.printed;
 }
 
+none_within : (at : ℕ) (taken : List ℕ) → NoneWhole the_limits at taken → script_from false at taken ≡ nothing Cut
+none_within at taken (inl e) = ap (script_by false) e
+none_within at taken (inr (place, e)) = ap (script_by false) e
+
 -- a fault of the input
-pub read_short : (limit : ℕ) (left now next before written : Option (List ℕ)) (scan : Scan) → Progress limit left now before written scan → Consumes now next [] → EndsRead left next before written
-read_short limit left now next before written scan p kept = record {
-  taken = p.taken;
-  consumed = consumes_kept left now next p.taken p.consumed kept;
+pub read_short : (limit : ℕ) (left left_now before written : Option (List ℕ)) (a : Split) (left_a : Option (List ℕ)) (work : Work) → Progress limit left (remaining a left_a) before written a.at work
+    → IsCut the_limits a left_a left_now → EndsRead left left_now before written
+read_short limit left left_now before written a left_a work p cut = record {
+  taken = p.taken ++ cut.taken;
+  consumed = consumes_more left (remaining a left_a) left_now p.taken cut.taken p.consumed cut.consumed;
   done = p.done;
-  script = within_by p.taken p.done scan.at scan.line.items p.script;
-  history = scan.work.ledger.entries;
+  script = p.script false cut.taken ∙ ap (prepend p.done) (none_within a.at cut.taken cut.none_whole) ∙ prepend_nothing p.done Cut;
+  history = work.ledger.entries;
   run = p.standing.run;
   written = p.standing.printed;
 }
 
--- what the script is at the end of the input
-pub tells_at_end : (limit : ℕ) (left now before written : Option (List ℕ)) (scan : Scan) → (p : Progress limit left now before written scan) → IsAtEnd now
-    → (bytes : List ℕ) → left ≡ Some bytes → script_of bytes ≡ prepend p.done (add_line scan.at scan.line.items (nothing Clean))
-tells_at_end limit left now before written scan p end bytes e =
-    let t = tells_by left now p.taken p.done (λ more. script_from true scan.at scan.line.items more) p.consumed (λ more. p.script true more) bytes e in
-    let none : t.0 ≡ [] = rest_at_end now t.0 t.2 end in
-    t.1 ∙ ap (λ (l : List ℕ). prepend p.done (script_from true scan.at scan.line.items l)) none ∙ ap (prepend p.done) (script_end true scan.at scan.line.items)
+-- what the script is where there are no more documents
+pub tells_none : (limit : ℕ) (left before written : Option (List ℕ)) (a : Split) (left_a : Option (List ℕ)) (work : Work) (ending : documents.Ending) → (p : Progress limit left (remaining a left_a) before written a.at work)
+    → HasNone the_limits a left_a ending → Tells left (record { commands = p.done; ending = ending_of true ending })
+tells_none limit left before written a left_a work ending p none bytes e =
+    let t = tells_by left (remaining a left_a) p.taken p.done (λ more. script_from true a.at more) p.consumed (λ more. p.script true more) bytes e in
+    t.1 ∙ ap (λ (d : Documents). prepend p.done (script_by true d)) (none t.0 t.2) ∙ prepend_nothing p.done (ending_of true ending)
+
+pub ends_at : (limit : ℕ) (left before written : Option (List ℕ)) (a : Split) (left_a : Option (List ℕ)) (work : Work) (ending : documents.Ending) → Progress limit left (remaining a left_a) before written a.at work
+    → HasNone the_limits a left_a ending → EndsAt (ending_of true ending) left before written
+ends_at limit left before written a left_a work ending p none = record {
+  done = p.done;
+  script = tells_none limit left before written a left_a work ending p none;
+  history = work.ledger.entries;
+  run = p.standing.run;
+  written = p.standing.printed;
+}
 
 short_text : (limit : ℕ) (left before now next : Option (List ℕ)) (done : List (ℕ × Command)) (work : Work) → Standing limit before now done work
     → Tells left (record { commands = done; ending = Clean }) → AppendsFront now next (summary_of work.ledger.entries work.commands) → EndsShort limit left before next

@@ -1,6 +1,5 @@
 pub mod Created
 pub mod JobSteps
-pub mod Readers
 pub mod Stopping
 pub mod Known
 pub mod Running

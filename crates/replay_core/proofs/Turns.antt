@@ -1,38 +1,29 @@
 -- One turn of a replay.
-use Rattle.std.proofs.Common.{ℕ, ◌+◌, ◌^◌, ◌≤◌, ◌<◌, ◌≡◌, ◌∙◌, List, [], ◌∷◌, ◌++◌, Bool, true, length, refl, sym, ap, subst, arith, append-nil, inl}
-use Rattle.std.specs.Prelude.{Option, None, Some}
+use Rattle.std.proofs.Common.{ℕ, ◌+◌, ◌^◌, ◌≤◌, ◌<◌, ◌≡◌, ◌∙◌, List, [], ◌∷◌, ◌++◌, refl, sym, ap, subst, arith, inl, inr}
+use Rattle.std.specs.Prelude.{Option, None, Some, Ok, Err}
 use Rattle.std.specs.Io.KnownBytes.{Appends, Consumes, IsAtEnd, prepend_known}
-use Rattle.dra_ports.specs.declared.error.PortError.{PortError}
-use Rattle.dra_ports.specs.declared.error.PortError.TheVariants as port
+use Rattle.doc_split.specs.declared.error.DocError.{DocError}
+use Rattle.doc_split.specs.declared.error.DocError.TheVariants as doc
+use Rattle.doc_split.specs.Answers.{Answers, EndsSo, IsNext, document_of}
+use Rattle.doc_split.specs.declared.doc.Doc.{Doc}
+use Rattle.doc_split.specs.Documents as documents
+use Rattle.doc_split.specs.Limits.{the_limits}
+use Rattle.doc_split.specs.Split.{Split, remaining}
 use Rattle.ledger_core.specs.declared.entry.Entry.{Entry}
 use Rattle.ledger_core.specs.declared.entry.Stand.TheVariants.{Fresh}
 use Rattle.ledger_core.specs.Ledger.{History}
 use Rattle.ledger_core.specs.History.{Legal, LegalAfter, stand_of}
 use Rattle.journal_text.specs.Journal.{lines_from}
-use Rattle.commands.specs.declared.command.Command.{Command}
 use Rattle.replay_core.specs.declared.status.Status.{Status}
 use Rattle.replay_core.specs.declared.work.Work.{Work}
-use Rattle.replay_core.specs.declared.scan.Scan.{Scan}
-use Rattle.replay_core.specs.Script.{prepend, script_from, script_of, most_document, most_input}
+use Rattle.replay_core.specs.Script.{most_input, script_of}
 use Rattle.replay_core.specs.Jobs.{RunFrom, RunOf}
-use Rattle.replay_core.specs.Lines.{input_status, search_budget, schedule_attempts}
+use Rattle.replay_core.specs.Lines.{DocumentDid, DocumentStops, Summarized, input_status, search_budget, schedule_attempts}
 use Rattle.replay_core.specs.Replay.{Ends, EndsShort, IsRun}
 use Rattle.replay_core.specs.Progress.{Progress, Standing}
-use Rattle.replay_core.proofs.Known.{appends_none, consumes_kept, consumes_none}
-use Rattle.replay_core.proofs.Ending.{memory_short, read_short}
-
--- nothing more was taken
-pub progress_kept : (limit : ℕ) (left now next before written : Option (List ℕ)) (scan : Scan) → Progress limit left now before written scan → Consumes now next [] → Progress limit left next before written scan
-progress_kept limit left now next before written scan p kept = record {
-  taken = p.taken;
-  consumed = consumes_kept left now next p.taken p.consumed kept;
-  done = p.done;
-  script = p.script;
-  standing = p.standing;
-  seen = p.seen;
-  small = p.small;
-  few = p.few;
-}
+use Rattle.replay_core.proofs.Known.{appends_none}
+use Rattle.replay_core.proofs.Ending.{document_moves, document_stops, ends_at, memory_short, over_document, read_short, summary_ends, tells_document, tells_none}
+use Rattle.replay_core.proofs.Running.{LinesLaw, StandLaw}
 
 -- where the bytes that are pending and those that are left are none, none are left
 pub left_at_end : (pending : List ℕ) (left : Option (List ℕ)) → IsAtEnd (prepend_known pending left) → IsAtEnd left
@@ -40,20 +31,43 @@ left_at_end pending None end = tt
 left_at_end [] (Some xs) end = end
 left_at_end (b ∷ bs) (Some xs) end = absurd (cc)
 
-pub no_pending : (pending : List ℕ) (left : Option (List ℕ)) → pending ≡ [] → prepend_known pending left ≡ left
-no_pending pending None e = refl
-no_pending pending (Some xs) e = ap (λ (l : List ℕ). Some (l ++ xs)) e
+-- a document was next, and was done
+pub step_on : StandLaw → LinesLaw → (limit : ℕ) (left before was written : Option (List ℕ)) (a b : Split) (left_a left_b : Option (List ℕ)) (work work_now : Work) (o : Option Doc) (d : Doc) → o ≡ Some d
+    → Answers the_limits a b left_a left_b (Ok o) → DocumentDid d.bytes.items work work_now was written → Legal work_now.ledger.entries → Progress limit left (remaining a left_a) before was a.at work
+    → Progress limit left (remaining b left_b) before written b.at work_now
+step_on stands lines limit left before was written a b left_a left_b work work_now o d e answers did legal p =
+    let n : IsNext the_limits a b left_a left_b (document_of d) = subst (λ (x : Option Doc). Answers the_limits a b left_a left_b (Ok x)) e answers in
+    over_document limit left before was written a b left_a left_b work work_now (document_of d) p n
+    (document_moves stands lines limit before was written p.done d.at d.bytes.items work work_now p.standing did legal)
 
-fault_by : (limit : ℕ) (left now next before written : Option (List ℕ)) (scan : Scan) (e : PortError) → Progress limit left now before written scan → Consumes now next [] → Ends limit left next before written (input_status e)
-fault_by limit left now next before written scan port.Failed p kept = read_short limit left now next before written scan p kept
-fault_by limit left now next before written scan port.Memory p kept = memory_short limit left now before written scan p
+-- it wasn't
+pub step_ends : LinesLaw → (limit : ℕ) (left before was written : Option (List ℕ)) (a b : Split) (left_a left_b : Option (List ℕ)) (work work_now : Work) (o : Option Doc) (d : Doc) (s : Status) → o ≡ Some d
+    → Answers the_limits a b left_a left_b (Ok o) → DocumentStops d.at d.bytes.items work work_now was written s → Legal work_now.ledger.entries → Progress limit left (remaining a left_a) before was a.at work
+    → Ends limit left left_b before written s
+step_ends lines limit left before was written a b left_a left_b work work_now o d s e answers stops legal p =
+    let n : IsNext the_limits a b left_a left_b (document_of d) = subst (λ (x : Option Doc). Answers the_limits a b left_a left_b (Ok x)) e answers in
+    document_stops lines limit left left_b before was written p.done d.at d.bytes.items work work_now s p.standing
+    (tells_document limit left before was a b left_a left_b work (document_of d) p n) legal stops
 
--- a fault of the input, or want of memory
-pub fault_ends : (limit : ℕ) (left now before written : Option (List ℕ)) (pending : List ℕ) (rest : Option (List ℕ)) (scan : Scan) (e : PortError) (s : Status) → s ≡ input_status e → pending ≡ []
-    → Progress limit left now before written scan → Consumes now (prepend_known pending rest) [] → Ends limit left rest before written s
-fault_ends limit left now before written pending rest scan e s is none p kept =
-    subst (λ (t : Status). Ends limit left rest before written t) (sym is)
-    (fault_by limit left now rest before written scan e p (subst (λ (o : Option (List ℕ)). Consumes now o []) (no_pending pending rest none) kept))
+-- there was none, to the end
+pub end_of : (a b : Split) (left_a left_b : Option (List ℕ)) (o : Option Doc) → o ≡ None → Answers the_limits a b left_a left_b (Ok o) → EndsSo the_limits a b left_a left_b documents.Clean
+end_of a b left_a left_b o e answers = subst (λ (x : Option Doc). Answers the_limits a b left_a left_b (Ok x)) e answers
+
+pub end_ends : (limit : ℕ) (left before was written : Option (List ℕ)) (a b : Split) (left_a left_b : Option (List ℕ)) (work : Work) (o : Option Doc) (s : Status) → o ≡ None
+    → Answers the_limits a b left_a left_b (Ok o) → Summarized work was written s → Progress limit left (remaining a left_a) before was a.at work → Ends limit left left_b before written s
+end_ends limit left before was written a b left_a left_b work o s e answers printed p =
+    let n = end_of a b left_a left_b o e answers in
+    summary_ends limit left left_b before was written p.done work s p.standing (tells_none limit left before was a left_a work documents.Clean p n.none) printed
+
+-- there is no next document
+pub none_ends : (limit : ℕ) (left before written : Option (List ℕ)) (a b : Split) (left_a left_b : Option (List ℕ)) (work : Work) (e : DocError) → Progress limit left (remaining a left_a) before written a.at work
+    → Answers the_limits a b left_a left_b (Err e) → Ends limit left left_b before written (input_status e)
+none_ends limit left before written a b left_a left_b work doc.ReadFault p n = read_short limit left left_b before written a left_a work p n
+none_ends limit left before written a b left_a left_b work (doc.Unclosed at) p n = ends_at limit left before written a left_a work (documents.Unclosed at) p n.none
+none_ends limit left before written a b left_a left_b work (doc.Stray at) p n = ends_at limit left before written a left_a work (documents.Stray at) p n
+none_ends limit left before written a b left_a left_b work (doc.TooLong at) p n = ends_at limit left before written a left_a work (documents.TooLong at) p n
+none_ends limit left before written a b left_a left_b work doc.Memory p n = memory_short limit left (remaining a left_a) before written a.at work p
+none_ends limit left before written a b left_a left_b work doc.Input p n = inr (refl, ends_at limit left before written a left_a work documents.Long p n)
 
 empty_run : IsRun [] []
 unfolding Legal LegalAfter RunOf RunFrom
@@ -63,19 +77,20 @@ no_lines : lines_from 0 [] ≡ []
 unfolding lines_from
 no_lines = refl
 
+begins_with : (left : Option (List ℕ)) → Consumes left (prepend_known [] left) []
+begins_with None = tt
+begins_with (Some xs) = refl
+
 -- nothing was taken, and nothing done
-pub progress_begins : (limit : ℕ) (left now before : Option (List ℕ)) (scan : Scan) → ((job : ℕ) → stand_of [] job ≡ Fresh) → left ≡ now → scan.at ≡ 0 → scan.line.items ≡ [] → scan.work.commands ≡ 0
-    → scan.work.ledger ≡ record { entries = []; limit = limit } → Progress limit left now before before scan
-progress_begins limit left now before scan law same at line none ledger =
-    let entries : scan.work.ledger.entries ≡ [] = ap (λ (h : History). h.entries) ledger in
-    let len : length scan.line.items ≡ 0 = ap length line in
+pub progress_begins : (limit : ℕ) (left before : Option (List ℕ)) (work : Work) → ((job : ℕ) → stand_of [] job ≡ Fresh) → work.commands ≡ 0
+    → work.ledger ≡ record { entries = []; limit = limit } → Progress limit left (prepend_known [] left) before before 0 work
+progress_begins limit left before work law none ledger =
+    let entries : work.ledger.entries ≡ [] = ap (λ (h : History). h.entries) ledger in
     record {
       taken = [];
-      consumed = subst (λ (o : Option (List ℕ)). Consumes left o []) same (consumes_none left);
+      consumed = begins_with left;
       done = [];
-      script = λ ended more.
-          ap (λ (k : ℕ). prepend [] (script_from ended k [] more)) (sym at)
-          ∙ ap (λ (l : List ℕ). prepend [] (script_from ended scan.at l more)) (sym line);
+      script = λ ended more. refl;
       standing = record {
         run = subst (λ (h : List Entry). IsRun [] h) (sym entries) empty_run;
         count_is = none;
@@ -83,17 +98,15 @@ progress_begins limit left now before scan law same at line none ledger =
         printed = subst (λ (t : List ℕ). Appends before before t) (sym (ap (lines_from 0) entries ∙ no_lines)) (appends_none before);
         limit_is = ap (λ (h : History). h.limit) ledger;
       };
-      seen = omega arith;
-      small = omega arith;
       few = omega arith;
     }
 
 -- what the next turn requires
-pub next_fresh : (limit : ℕ) (left now before written : Option (List ℕ)) (scan : Scan) → Progress limit left now before written scan → stand_of scan.work.ledger.entries (scan.work.commands + 1) ≡ Fresh
-next_fresh limit left now before written scan p = p.standing.fresh (scan.work.commands + 1) (omega arith)
+pub next_fresh : (limit : ℕ) (left now before written : Option (List ℕ)) (at : ℕ) (work : Work) → Progress limit left now before written at work → stand_of work.ledger.entries (work.commands + 1) ≡ Fresh
+next_fresh limit left now before written at work p = p.standing.fresh (work.commands + 1) (omega arith)
 
-pub next_room : (limit : ℕ) (left now before written : Option (List ℕ)) (scan : Scan) → Progress limit left now before written scan → scan.at + length scan.line.items ≤ most_input → scan.work.commands + 1 < 2 ^ 64
-next_room limit left now before written scan p h = omega (arith, p.few, p.seen)
+pub next_room : (limit : ℕ) (left now before written : Option (List ℕ)) (at : ℕ) (work : Work) → Progress limit left now before written at work → at ≤ most_input → work.commands + 1 < 2 ^ 64
+next_room limit left now before written at work p h = omega (arith, p.few)
 
 -- nothing was done, and nothing written
 pub nothing_done : (limit : ℕ) (left before : Option (List ℕ)) → EndsShort limit left before before

@@ -1,9 +1,11 @@
--- What doing one line's document does.
+-- What doing one document does.
 use Rattle.std.specs.Prelude.{ℕ, ◌≡◌, ◌≤◌, ◌<◌, ◌+◌, ◌⊎◌, List, [], ◌∷◌, Option, None, Some, false, drop, length}
 use Rattle.std.specs.Io.KnownBytes.{Appends}
 use Rattle.dra_ports.specs.Fronts.{AppendsFront}
 use Rattle.dra_ports.specs.declared.error.PortError.{PortError}
 use Rattle.dra_ports.specs.declared.error.PortError.TheVariants as port
+use Rattle.doc_split.specs.declared.error.DocError.{DocError}
+use Rattle.doc_split.specs.declared.error.DocError.TheVariants as doc
 use Rattle.ledger_core.specs.declared.entry.Entry.{Entry}
 use Rattle.ledger_core.specs.Ledger.{History}
 use Rattle.ledger_core.specs.History.{state_of}
@@ -14,6 +16,7 @@ use Rattle.replay_core.specs.declared.status.Status.{Status}
 use Rattle.replay_core.specs.declared.status.Status.TheVariants as status
 use Rattle.replay_core.specs.declared.work.Work.{Work}
 use Rattle.replay_core.specs.Built.{is_built}
+use Rattle.replay_core.specs.Script.{most_input}
 use Rattle.replay_core.specs.Doing.{Ran, Met}
 
 -- the search budget, and the attempts to schedule a pod
@@ -28,10 +31,14 @@ abbrev pub output_status : PortError → Status
 output_status port.Failed = status.Write
 output_status port.Memory = status.Memory
 
--- the status for a fault of the input
-abbrev pub input_status : PortError → Status
-input_status port.Failed = status.Read
-input_status port.Memory = status.Memory
+-- the status where there is no next document
+abbrev pub input_status : DocError → Status
+input_status doc.ReadFault = status.Read
+input_status (doc.Unclosed at) = status.Document at
+input_status (doc.Stray at) = status.Document at
+input_status (doc.TooLong at) = status.Document at
+input_status doc.Memory = status.Memory
+input_status doc.Input = status.Limit most_input
 
 -- the lines of the entries that are new
 abbrev pub new_lines : History → History → List ℕ
@@ -108,16 +115,6 @@ DocumentStops at document old new before after (status.Limit n) = (c : Command) 
 DocumentStops at document old new before after (status.NotYet place) =
     (c : Command) × (command_of document ≡ Some c) × (place ≡ at) × Undone c old before after
 
--- a line's document, if it has one, was done
-abbrev pub LineDid : List ℕ → Work → Work → Option (List ℕ) → Option (List ℕ) → Type 0
-LineDid [] old new before after = (new ≡ old) × Appends before after []
-LineDid (b ∷ bs) old new before after = DocumentDid (b ∷ bs) old new before after
-
--- why it wasn't
-abbrev pub LineStops : ℕ → List ℕ → Work → Work → Option (List ℕ) → Option (List ℕ) → Status → Type 0
-LineStops at [] old new before after s = ⊥
-LineStops at (b ∷ bs) old new before after s = DocumentStops at (b ∷ bs) old new before after s
-
 -- how printing the summary ends
 abbrev pub Summarized : Work → Option (List ℕ) → Option (List ℕ) → Status → Type 0
 Summarized work before after status.Done = Appends before after (summary_of work.ledger.entries work.commands)
@@ -128,25 +125,3 @@ Summarized work before after status.Read = ⊥
 Summarized work before after status.Write = AppendsFront before after (summary_of work.ledger.entries work.commands)
 Summarized work before after (status.Limit count) = ⊥
 Summarized work before after (status.NotYet at) = ⊥
-
--- a replay that stops within its input, for want of memory, by a fault of the output, or at a command
-abbrev pub IsStop : Status → Type 0
-IsStop status.Done = ⊥
-IsStop status.Usage = ⊥
-IsStop (status.Document at) = Unit {0}
-IsStop status.Memory = Unit {0}
-IsStop status.Read = ⊥
-IsStop status.Write = Unit {0}
-IsStop (status.Limit count) = Unit {0}
-IsStop (status.NotYet at) = Unit {0}
-
--- a replay that stops at the end of its input
-abbrev pub IsEnd : Status → Type 0
-IsEnd status.Done = Unit {0}
-IsEnd status.Usage = ⊥
-IsEnd (status.Document at) = Unit {0}
-IsEnd status.Memory = Unit {0}
-IsEnd status.Read = ⊥
-IsEnd status.Write = Unit {0}
-IsEnd (status.Limit count) = Unit {0}
-IsEnd (status.NotYet at) = Unit {0}

@@ -1,13 +1,12 @@
 -- How far a replay has come.
-use Rattle.std.specs.Prelude.{ℕ, ◌≡◌, ◌≤◌, ◌<◌, ◌+◌, Bool, List, [], ◌++◌, Option, length}
+use Rattle.std.specs.Prelude.{ℕ, ◌≡◌, ◌≤◌, ◌<◌, Bool, List, ◌++◌, Option, length}
 use Rattle.std.specs.Io.KnownBytes.{Appends, Consumes}
 use Rattle.ledger_core.specs.declared.entry.Stand.TheVariants.{Fresh}
 use Rattle.ledger_core.specs.History.{stand_of}
 use Rattle.journal_text.specs.Journal.{lines_from}
 use Rattle.commands.specs.declared.command.Command.{Command}
 use Rattle.replay_core.specs.declared.work.Work.{Work}
-use Rattle.replay_core.specs.declared.scan.Scan.{Scan}
-use Rattle.replay_core.specs.Script.{most_document, prepend, script_from}
+use Rattle.replay_core.specs.Script.{prepend, script_from}
 use Rattle.replay_core.specs.Replay.{IsRun}
 
 -- these commands were done, and their lines are printed
@@ -18,14 +17,12 @@ pub record Standing (limit : ℕ) (before now : Option (List ℕ)) (done : List 
   pub printed : Appends before now (lines_from 0 work.ledger.entries)
   pub limit_is : work.ledger.limit ≡ limit
 
--- What was taken of the input, and what was done of it: whatever follows, the script is the commands
--- done and those of the line that has begun and of what follows.
-pub record Progress (limit : ℕ) (left left_now before now : Option (List ℕ)) (scan : Scan) : Type 0 where
+-- What was taken of the input up to an offset, and what was done of it: whatever follows, the script
+-- is the commands done and those of what follows.
+pub record Progress (limit : ℕ) (left left_now before now : Option (List ℕ)) (at : ℕ) (work : Work) : Type 0 where
   pub taken : List ℕ
   pub consumed : Consumes left left_now taken
   pub done : List (ℕ × Command)
-  pub script : (ended : Bool) (more : List ℕ) → script_from ended 0 [] (taken ++ more) ≡ prepend done (script_from ended scan.at scan.line.items more)
-  pub standing : Standing limit before now done scan.work
-  pub seen : length taken ≡ scan.at + length scan.line.items
-  pub small : length scan.line.items ≤ most_document
-  pub few : scan.work.commands ≤ length taken
+  pub script : (ended : Bool) (more : List ℕ) → script_from ended 0 (taken ++ more) ≡ prepend done (script_from ended at more)
+  pub standing : Standing limit before now done work
+  pub few : work.commands ≤ at

@@ -74,7 +74,7 @@ pub record EndsFull (limit count : ℕ) (left before after : Option (List ℕ)) 
   pub count_is : count ≡ length history
   pub written : Appends before after (lines_from 0 history)
 
--- the commands whose lines stand whole in what was taken were done
+-- the commands of the documents that stand whole in what was taken were done
 pub record EndsRead (left left_now before after : Option (List ℕ)) : Type 0 where
   pub taken : List ℕ
   pub consumed : Consumes left left_now taken

@@ -1,5 +1,8 @@
 -- The commands of an input.
-use Rattle.std.specs.Prelude.{ℕ, ◌+◌, ◌^◌, ◌==◌, Bool, true, false, List, [], ◌∷◌, ◌++◌, Option, None, Some, length, map, if◌then◌else◌}
+use Rattle.std.specs.Prelude.{ℕ, Bool, true, false, List, [], ◌∷◌, ◌++◌, Option, None, Some, map}
+use Rattle.doc_split.specs.Documents.{Document, Documents}
+use Rattle.doc_split.specs.Documents as documents
+use Rattle.doc_split.specs.Limits.{documents_at, the_limits}
 use Rattle.commands.specs.declared.command.Command.{Command}
 use Rattle.commands.specs.Commands.{command_of}
 
@@ -19,10 +22,7 @@ pub record Script : Type 0 where
   pub commands : List (ℕ × Command)
   pub ending : Ending
 
--- the most bytes of a document, and of an input
-abbrev pub most_document : ℕ
-most_document = 2097152
-
+-- the most bytes of an input
 abbrev pub most_input : ℕ
 most_input = 1073741824
 
@@ -37,32 +37,36 @@ abbrev pub add_command : ℕ → Option Command → Script → Script
 add_command at None rest = nothing (Bad at)
 add_command at (Some c) rest = prepend ((at, c) ∷ []) rest
 
--- a line's document, before the others. An empty line has none
-abbrev pub add_line : ℕ → List ℕ → Script → Script
-add_line at [] rest = rest
-add_line at (b ∷ bs) rest = add_command at (command_of (b ∷ bs)) rest
+-- why there are no more commands, by why there are no more documents: at the end of an input, or of
+-- what was taken of it
+abbrev pub ending_of : Bool → documents.Ending → Ending
+ending_of true documents.Clean = Clean
+ending_of true (documents.Unclosed at) = Bad at
+ending_of false documents.Clean = Cut
+ending_of false (documents.Unclosed at) = Cut
+ending_of ended (documents.Stray at) = Bad at
+ending_of ended (documents.TooLong at) = Bad at
+ending_of ended documents.Long = Long
 
--- a line at the end of the input, or of what was taken of it
-abbrev pub last_line : Bool → ℕ → List ℕ → Script
-last_line true at line = add_line at line (nothing Clean)
-last_line false at line = nothing Cut
+-- the commands of documents in order, up to the first document that is none
+abbrev pub commands_in : List Document → Ending → Script
+commands_in [] ending = nothing ending
+commands_in (d ∷ ds) ending = add_command d.at (command_of d.bytes) (commands_in ds ending)
 
--- the commands of a line that began at an offset, and of what follows
-unfoldable pub script_from : Bool → ℕ → List ℕ → List ℕ → Script
-script_from ended at line [] = last_line ended at line
-script_from ended at line (b ∷ bs) =
-    if at + length line == most_input then nothing Long
-    else if b == 10 then add_line at line (script_from ended (at + length line + 1) [] bs)
-    else if length line == most_document then nothing (Bad at)
-    else script_from ended at (line ++ b ∷ []) bs
+abbrev pub script_by : Bool → Documents → Script
+script_by ended d = commands_in d.documents (ending_of ended d.ending)
+
+-- the commands of what is left of an input from an offset on
+abbrev pub script_from : Bool → ℕ → List ℕ → Script
+script_from ended at bytes = script_by ended (documents_at the_limits at bytes)
 
 -- the commands of an input
-unfoldable pub script_of : List ℕ → Script
-script_of bytes = script_from true 0 [] bytes
+abbrev pub script_of : List ℕ → Script
+script_of bytes = script_from true 0 bytes
 
--- the commands of the lines that stand whole in the front of an input
-unfoldable pub script_within : List ℕ → Script
-script_within bytes = script_from false 0 [] bytes
+-- the commands of the documents that stand whole in the front of an input
+abbrev pub script_within : List ℕ → Script
+script_within bytes = script_from false 0 bytes
 
 abbrev pub commands_of : List (ℕ × Command) → List Command
 commands_of cs = map (λ c. c.1) cs

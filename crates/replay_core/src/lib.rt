@@ -3,8 +3,6 @@
 
 mod built;
 mod jobs;
-mod reader;
-mod scan;
 mod script;
 mod status;
 mod stop;

@@ -1,6 +1,7 @@
-ghost use Rattle.std.specs.Prelude.{◌≡◌, ◌<◌, ◌≤◌, ◌+◌, ◌^◌, ℕ, List, Option, length, IfErr, OnOk};
-ghost use Rattle.std.specs.Io.KnownBytes.{IsAtEnd, prepend_known};
+ghost use Rattle.std.specs.Prelude.{◌≡◌, ◌<◌, ◌≤◌, ◌+◌, ◌^◌, ℕ, List, Option, IfErr, OnOk};
+ghost use Rattle.std.specs.Io.KnownBytes.{IsAtEnd};
 ghost use Rattle.dra_ports.specs.Causes.{Rose};
+ghost use Rattle.doc_split.specs.Split.{remaining};
 ghost use Rattle.ledger_core.specs.declared.entry.Stand.TheVariants.{Fresh};
 ghost use Rattle.ledger_core.specs.History.{stand_of};
 ghost use Rattle.replay_core.specs.Lines.{input_status};
@@ -9,30 +10,30 @@ ghost use Rattle.replay_core.specs.Replay.{Ends};
 ghost use Rattle.replay_core.specs.Script.{most_input};
 
 use crate::Status;
-use crate::reader::Reader;
-use crate::scan::{Scan, end_input, take_byte};
-use crate::work::Work;
-use dra_ports::{PortError, Sink, Source};
+use crate::work::{Work, do_document, print_summary};
+use doc_split::{DocError, Splitter};
+use dra_ports::{Sink, Source};
+use journal_text::lines_of_more;
 use ledger_core::{Ledger, histories_grow};
 use std::alloc::Global;
 
 /// The most bytes of an input: 1 GiB.
 const MOST_INPUT: u64 = 1_073_741_824;
 
-/// Takes the next byte of the input, or ends at its end.
+/// Does the next document of the input, or ends.
 fn step<S: Source, K: Sink>(
     alloc: Global,
-    reader: &mut Reader,
-    scan: &mut Scan,
+    splitter: &mut Splitter,
+    work: &mut Work,
     input: &mut S,
     output: &mut K,
 ) -> Result<(), Status>
-    requires fresh { stand_of scan.old.work.ledger.entries (scan.old.work.commands + 1) ≡ Fresh }
-    requires room { scan.old.work.commands + 1 < 2 ^ 64 }
-    requires seen { scan.old.at + length scan.old.line.items < most_input }
-    ensures ok { OnOk result ((limit : ℕ) (left before : Option (List ℕ)) → Progress limit left (prepend_known reader.old (S.left input.old)) before (K.written output.old) scan.old → Progress limit left (prepend_known reader.new (S.left input.new)) before (K.written output.new) scan.new) }
-    ensures seen { OnOk result (scan.new.at + length scan.new.line.items ≡ scan.old.at + length scan.old.line.items + 1) }
-    ensures ends { IfErr result (λ s. (limit : ℕ) (left before : Option (List ℕ)) → Progress limit left (prepend_known reader.old (S.left input.old)) before (K.written output.old) scan.old → Ends limit left (S.left input.new) before (K.written output.new) s) }
+    requires fresh { stand_of work.old.ledger.entries (work.old.commands + 1) ≡ Fresh }
+    requires room { work.old.commands + 1 < 2 ^ 64 }
+    ensures ok { OnOk result ((limit : ℕ) (left before : Option (List ℕ)) → Progress limit left (remaining splitter.old (S.left input.old)) before (K.written output.old) splitter.old.at work.old → Progress limit left (remaining splitter.new (S.left input.new)) before (K.written output.new) splitter.new.at work.new) }
+    ensures moves { OnOk result (splitter.old.at < splitter.new.at) }
+    ensures within { OnOk result (splitter.new.at ≤ most_input) }
+    ensures ends { IfErr result (λ s. (limit : ℕ) (left before : Option (List ℕ)) → Progress limit left (remaining splitter.old (S.left input.old)) before (K.written output.old) splitter.old.at work.old → Ends limit left (S.left input.new) before (K.written output.new) s) }
     ensures all_read { IfErr result (λ s. s ≡ Status.Done → IsAtEnd (S.left input.new)) }
     ensures read { IfErr result (λ s. s ≡ Status.Read → Rose (S.faults input.old) (S.faults input.new)) }
     ensures write { IfErr result (λ s. s ≡ Status.Write → Rose (K.faults output.old) (K.faults output.new)) }
@@ -41,23 +42,29 @@ fn step<S: Source, K: Sink>(
     ensures err_faultless_input { IfErr result (λ s. (s ≡ Status.Read → ⊥) → S.faults input.new ≡ S.faults input.old) }
     ensures err_faultless_output { IfErr result (λ s. (s ≡ Status.Write → ⊥) → K.faults output.new ≡ K.faults output.old) }
 {
-    match reader.next(input) {
-        Ok(Some(byte)) => match take_byte(alloc, scan, byte, output) {
+    histories_grow();
+    lines_of_more();
+    match splitter.next_document(alloc, input) {
+        Ok(Some(doc)) => match do_document(alloc, work, doc.at, &doc.bytes, output) {
             Ok(()) => Ok(()),
             Err(status) => Err(status),
         },
-        Ok(None) => Err(end_input(alloc, scan, output)),
+        Ok(None) => Err(print_summary(alloc, work, output)),
         Err(error) => Err(input_status(error)),
     }
 }
 
-/// The status for a fault of the input.
-fn input_status(error: PortError) -> Status
+/// The status where there is no next document.
+fn input_status(error: DocError) -> Status
     ensures { result ≡ input_status error }
 {
     match error {
-        PortError::Failed => Status::Read,
-        PortError::Memory => Status::Memory,
+        DocError::ReadFault => Status::Read,
+        DocError::Unclosed(at) => Status::Document(at),
+        DocError::Stray(at) => Status::Document(at),
+        DocError::TooLong(at) => Status::Document(at),
+        DocError::Memory => Status::Memory,
+        DocError::Input => Status::Limit(MOST_INPUT),
     }
 }
 
@@ -78,47 +85,18 @@ pub fn replay<S: Source, K: Sink>(
     ensures faultless_output { (result ≡ Status.Write → ⊥) → K.faults output.new ≡ K.faults output.old }
 {
     histories_grow();
-    let (Ok(ledger), Ok(mut reader)) = (Ledger::new(alloc, entries), Reader::new(alloc)) else {
+    let Ok(ledger) = Ledger::new(alloc, entries) else {
         return Status::Memory;
     };
-    let mut scan = Scan {
-        work: Work {
-            ledger,
-            commands: 0,
-        },
-        at: 0,
-        line: Vec::new(alloc),
+    let mut splitter = Splitter::new(alloc);
+    let mut work = Work {
+        ledger,
+        commands: 0,
     };
-    for _taken in 0..MOST_INPUT {
-        match step(alloc, &mut reader, &mut scan, input, output) {
+    'documents: loop {
+        match step(alloc, &mut splitter, &mut work, input, output) {
             Ok(()) => {}
             Err(status) => return status,
         }
-    }
-    last_step(alloc, &mut reader, &mut scan, input, output)
-}
-
-/// Ends at the end of an input that is as long as it may be.
-fn last_step<S: Source, K: Sink>(
-    alloc: Global,
-    reader: &mut Reader,
-    scan: &mut Scan,
-    input: &mut S,
-    output: &mut K,
-) -> Status
-    requires fresh { stand_of scan.old.work.ledger.entries (scan.old.work.commands + 1) ≡ Fresh }
-    requires room { scan.old.work.commands + 1 < 2 ^ 64 }
-    requires seen { scan.old.at + length scan.old.line.items ≡ most_input }
-    ensures ends { (limit : ℕ) (left before : Option (List ℕ)) → Progress limit left (prepend_known reader.old (S.left input.old)) before (K.written output.old) scan.old → Ends limit left (S.left input.new) before (K.written output.new) result }
-    ensures all_read { result ≡ Status.Done → IsAtEnd (S.left input.new) }
-    ensures read { result ≡ Status.Read → Rose (S.faults input.old) (S.faults input.new) }
-    ensures faultless_input { (result ≡ Status.Read → ⊥) → S.faults input.new ≡ S.faults input.old }
-    ensures write { result ≡ Status.Write → Rose (K.faults output.old) (K.faults output.new) }
-    ensures faultless_output { (result ≡ Status.Write → ⊥) → K.faults output.new ≡ K.faults output.old }
-{
-    match reader.next(input) {
-        Ok(Some(_)) => Status::Limit(MOST_INPUT),
-        Ok(None) => end_input(alloc, scan, output),
-        Err(error) => input_status(error),
     }
 }

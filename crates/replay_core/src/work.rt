@@ -5,13 +5,13 @@ ghost use Rattle.dra_ports.specs.Fronts.{AppendsFront};
 ghost use Rattle.ledger_core.specs.declared.entry.Stand.TheVariants.{Fresh};
 ghost use Rattle.ledger_core.specs.History.{stand_of, Legal};
 ghost use Rattle.journal_text.specs.Journal.{lines_from};
-ghost use Rattle.replay_core.specs.Lines.{output_status, Did, DocumentDid, DocumentStops, Stops};
+ghost use Rattle.replay_core.specs.Lines.{output_status, Did, DocumentDid, DocumentStops, Stops, Summarized};
 
 use crate::jobs::do_command;
 use crate::{Status, Stop};
 use commands::{Command, read_command};
 use dra_ports::{PortError, Sink, write_all};
-use journal_text::lines;
+use journal_text::{lines, summary};
 use ledger_core::Ledger;
 use std::alloc::Global;
 
@@ -109,5 +109,21 @@ pub fn do_document<K: Sink>(
         Ok(Some(command)) => do_next(alloc, work, at, command, output),
         Ok(None) => Err(Status::Document(at)),
         Err(_) => Err(Status::Memory),
+    }
+}
+
+/// Prints the summary.
+pub fn print_summary<K: Sink>(alloc: Global, work: &Work, output: &mut K) -> Status
+    ensures printed { Summarized work.now (K.written output.old) (K.written output.new) result }
+    ensures write { result ≡ Status.Write → Rose (K.faults output.old) (K.faults output.new) }
+    ensures later { K.faults output.old ≤ K.faults output.new }
+    ensures faultless { (result ≡ Status.Write → ⊥) → K.faults output.new ≡ K.faults output.old }
+{
+    let Ok(text) = summary(alloc, &work.ledger, work.commands) else {
+        return Status::Memory;
+    };
+    match write_all(output, &text) {
+        Ok(()) => Status::Done,
+        Err(error) => write_status(error),
     }
 }

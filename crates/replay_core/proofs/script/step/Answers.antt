@@ -1,27 +1,33 @@
-use Rattle.std.proofs.Common.{◌≡◌, refl}
-use Rattle.std.specs.Io.KnownBytes.{prepend_known}
-use Rattle.replay_core.proofs.Stopping.{end_kind, ends_with}
-use Rattle.replay_core.proofs.Turns.{fault_ends, left_at_end, progress_kept}
+use Rattle.std.proofs.Common.{◌≡◌, refl, sym, subst}
+use Rattle.replay_core.specs.declared.status.Status.{Status}
+use Rattle.replay_core.specs.Replay.{Ends}
+use Rattle.replay_core.proofs.Turns.{end_ends, end_of, left_at_end, none_ends, step_ends, step_on}
 use Rattle.replay_core.proofs.script.step.Goals as goal
 
-pub returns-in-Err-take_byte-clause-ends : goal.returns-in-Err-take_byte-clause-ends
-returns-in-Err-take_byte-clause-ends g c = λ limit left before p.
-    let now = prepend_known c.args.reader.now (g.S.Source.left c.args.input.now) in
-    let next = prepend_known c.next.new.self (g.S.Source.left c.next.new.source) in
-    ends_with limit left next (g.S.Source.left c.next.new.source) before (g.K.Sink.written c.take_byte.new.output) c.in-Err-take_byte.status (end_kind c.in-Err-take_byte.status c.in-Err-take_byte.ensures.kind)
-    (c.in-Err-take_byte.ensures.stops limit left now next before p (rw c.in-Ok-Some.field-0-is at c.in-Ok-Some.ensures.byte))
+pub returns-in-Ok-clause-ok : goal.returns-in-Ok-clause-ok
+returns-in-Ok-clause-ok g c = λ limit left before p.
+    step_on c.histories_grow.ensures.stand c.lines_of_more.ensures limit left before (g.K.Sink.written c.args.output.now) (g.K.Sink.written c.do_document.new.output)
+    c.args.splitter.now c.next_document.new.self (g.S.Source.left c.args.input.now) (g.S.Source.left c.next_document.new.from) c.args.work.now c.do_document.new.work
+    c.in-Ok-Some.field-0 c.in-Ok-Some.doc c.in-Ok-Some.field-0-is c.in-Ok-Some.ensures.answers (rw c.deref.ensures.value at c.in-Ok.ensures.did) c.in-Ok.ensures.legal p
+
+pub returns-in-Ok-Some-clause-ends : goal.returns-in-Ok-Some-clause-ends
+returns-in-Ok-Some-clause-ends g c = λ limit left before p.
+    step_ends c.lines_of_more.ensures limit left before (g.K.Sink.written c.args.output.now) (g.K.Sink.written c.do_document.new.output)
+    c.args.splitter.now c.next_document.new.self (g.S.Source.left c.args.input.now) (g.S.Source.left c.next_document.new.from) c.args.work.now c.do_document.new.work
+    c.in-Ok-Some.field-0 c.in-Ok-Some.doc c.in-Err-do_document.status c.in-Ok-Some.field-0-is c.in-Ok-Some.ensures.answers (rw c.deref.ensures.value at c.in-Err-do_document.ensures.stops) c.in-Err-do_document.ensures.legal p
 
 pub returns-in-Ok-None-clause-ends : goal.returns-in-Ok-None-clause-ends
 returns-in-Ok-None-clause-ends g c = λ limit left before p.
-    let now = prepend_known c.args.reader.now (g.S.Source.left c.args.input.now) in
-    let next = prepend_known c.next.new.self (g.S.Source.left c.next.new.source) in
-    ends_with limit left next (g.S.Source.left c.next.new.source) before (g.K.Sink.written c.end_input.new.output) c.end_input.result c.end_input.ensures.kind
-    (c.end_input.ensures.ends limit left next before (progress_kept limit left now next before (g.K.Sink.written c.args.output.now) c.args.scan.now p (rw c.in-Ok-None.field-0-is at c.in-Ok-None.ensures.byte)) (rw c.in-Ok-None.field-0-is at c.in-Ok-None.ensures.end))
+    end_ends limit left before (g.K.Sink.written c.args.output.now) (g.K.Sink.written c.print_summary.new.output)
+    c.args.splitter.now c.next_document.new.self (g.S.Source.left c.args.input.now) (g.S.Source.left c.next_document.new.from) c.args.work.now
+    c.in-Ok-None.field-0 c.print_summary.result c.in-Ok-None.field-0-is c.in-Ok-None.ensures.answers c.print_summary.ensures.printed p
 
 pub returns-in-Ok-None-clause-all_read : goal.returns-in-Ok-None-clause-all_read
-returns-in-Ok-None-clause-all_read g c = λ is. left_at_end c.next.new.self (g.S.Source.left c.next.new.source) (rw c.in-Ok-None.field-0-is at c.in-Ok-None.ensures.end)
+returns-in-Ok-None-clause-all_read g c = λ is.
+    let n = end_of c.args.splitter.now c.next_document.new.self (g.S.Source.left c.args.input.now) (g.S.Source.left c.next_document.new.from) c.in-Ok-None.field-0 c.in-Ok-None.field-0-is c.in-Ok-None.ensures.answers in
+    left_at_end c.next_document.new.self.ahead (g.S.Source.left c.next_document.new.from) n.end
 
-pub returns-in-Err-clause-ends : goal.returns-in-Err-clause-ends
-returns-in-Err-clause-ends g c = λ limit left before p.
-    let now = prepend_known c.args.reader.now (g.S.Source.left c.args.input.now) in
-    fault_ends limit left now before (g.K.Sink.written c.args.output.now) c.next.new.self (g.S.Source.left c.next.new.source) c.args.scan.now c.in-Err.error c.input_status.result c.input_status.ensures c.in-Err.ensures.empty p c.in-Err.ensures.kept
+pub returns-clause-ends : goal.returns-clause-ends
+returns-clause-ends g c = λ limit left before p.
+    subst (λ (s : Status). Ends limit left (g.S.Source.left c.next_document.new.from) before (g.K.Sink.written c.args.output.now) s) (sym c.input_status.ensures)
+    (none_ends limit left before (g.K.Sink.written c.args.output.now) c.args.splitter.now c.next_document.new.self (g.S.Source.left c.args.input.now) (g.S.Source.left c.next_document.new.from) c.args.work.now c.in-Err.error p c.in-Err.ensures.answers)
