@@ -1,0 +1,6 @@
+pub mod Lists
+pub mod Asks
+pub mod Requests
+pub mod Constraints
+pub mod Claims
+pub mod Status

@@ -1,6 +1,13 @@
 //! ResourceClaims: the devices that a pod asks for, as fields of `resource.k8s.io/v1`.
 #![tactic(auto)]
 
+mod asks;
+mod claim;
+mod constraints;
+mod joins;
+mod lists;
+mod requests;
+mod status;
 mod types;
 
 pub use types::{

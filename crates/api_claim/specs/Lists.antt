@@ -1,0 +1,80 @@
+-- Lists whose items are read one after another, and names that stand in them once.
+use Rattle.std.specs.Prelude.{ℕ, ◌+◌, Bool, false, true, List, [], ◌∷◌, ◌++◌, Option, Some, None, Result, Ok, Err, codes}
+use Rattle.std.specs.List.{list_any}
+use Rattle.std.specs.Str.{bytes_eq}
+use Rattle.serde_json.specs.Data.{Data, null, boolean, number, string, array, object, Items, no_items, item}
+use Rattle.object_fields.specs.Fields.{dns_label_at, field_error, member_of, optional_at, short_list_at, unless, ◌>>=◌}
+use Rattle.object_fields.specs.declared.error.FieldError.{FieldError}
+use Rattle.object_fields.specs.declared.kind.Kind.TheVariants.{Doubled, Missing}
+use Rattle.object_fields.specs.declared.path.Step.{Step}
+use Rattle.object_fields.specs.declared.path.Step.TheVariants.{Member, Place}
+
+-- the items from a place on, each read at its place beside those before, and put behind them
+abbrev pub each_from : {A : Type 0} → (List Step → List A → Data → Result A FieldError) → List Step → ℕ → List A → Items → Result (List A) FieldError
+each_from reading path place before no_items = Ok before
+each_from reading path place before (item d ds) =
+    reading (path ++ Place place ∷ []) before d >>= λ x. each_from reading path (place + 1) (before ++ x ∷ []) ds
+
+-- the items, each read beside those before
+abbrev pub each_beside : {A : Type 0} → (List Step → List A → Data → Result A FieldError) → List Step → Items → Result (List A) FieldError
+each_beside reading path ds = each_from reading path 0 [] ds
+
+-- a reading that doesn't look at what stands before
+abbrev pub alone : {A : Type 0} → (List Step → Data → Result A FieldError) → List Step → List A → Data → Result A FieldError
+alone reading path before d = reading path d
+
+-- the items, each read by itself
+abbrev pub each : {A : Type 0} → (List Step → Data → Result A FieldError) → List Step → Items → Result (List A) FieldError
+each reading path ds = each_beside (alone reading) path ds
+
+-- none where there is no list
+abbrev pub each_in : {A : Type 0} → (List Step → Data → Result A FieldError) → List Step → Option Items → Result (List A) FieldError
+each_in reading path None = Ok []
+each_in reading path (Some ds) = each reading path ds
+
+-- a list of at most so many items, which may be missing
+abbrev pub each_at : {A : Type 0} → ℕ → (List Step → Data → Result A FieldError) → List Step → List ℕ → Data → Result (List A) FieldError
+each_at most reading path name d =
+    optional_at (short_list_at most) path name d >>= each_in reading (path ++ Member name ∷ [])
+
+abbrev pub has_items : Items → Bool
+has_items no_items = false
+has_items (item d ds) = true
+
+-- anything but an empty list
+abbrev pub is_no_empty_list : Data → Bool
+is_no_empty_list null = true
+is_no_empty_list (boolean b) = true
+is_no_empty_list (number n) = true
+is_no_empty_list (string s) = true
+is_no_empty_list (array ds) = has_items ds
+is_no_empty_list (object ms) = true
+
+abbrev pub passes : (Data → Bool) → Option Data → Bool
+passes test None = false
+passes test (Some d) = test d
+
+-- the member is there; an empty list counts as not there
+abbrev pub has_some : List ℕ → Data → Bool
+has_some name d = passes is_no_empty_list (member_of name d)
+
+-- a list that must have an item
+abbrev pub some_items : FieldError → Items → Result Items FieldError
+some_items e no_items = Err e
+some_items e (item d ds) = Ok (item d ds)
+
+-- a list of 1 to so many items; an empty one is as if it were missing
+abbrev pub some_items_at : ℕ → List Step → List ℕ → Data → Result Items FieldError
+some_items_at most path name d =
+    short_list_at most path name d >>= some_items (field_error path name Missing)
+
+-- ---- names
+
+abbrev pub has_text : List ℕ → List (List ℕ) → Bool
+has_text text texts = list_any (λ t. bytes_eq t text) texts
+
+-- `name`, a DNS label that isn't among the names before
+abbrev pub new_name_at : List Step → List (List ℕ) → Data → Result (List ℕ) FieldError
+new_name_at path before d =
+    dns_label_at path (codes "name") d >>= λ name.
+    unless (field_error path (codes "name") Doubled) (has_text name before) name

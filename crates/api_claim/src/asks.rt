@@ -1,0 +1,223 @@
+ghost use Rattle.std.specs.Prelude.{◌≡◌};
+ghost use Rattle.serde_json.specs.View.{items_view, view};
+ghost use Rattle.object_fields.specs.Fields.{Reads};
+ghost use Rattle.api_claim.specs.Lists.{each};
+ghost use Rattle.api_claim.specs.Asks as fields;
+
+use crate::lists::has_some;
+use crate::types::{AllocationMode, DeviceAsk, ExactDeviceRequest};
+use dra_values::{Seq, Text};
+use object_fields::{
+    FieldError, Kind, Path, list, object, optional_natural, optional_short_list, optional_text,
+    optional_truth, or_memory, text, unset, value_object,
+};
+use serde_json::Value;
+use std::alloc::Global;
+
+/// The most selectors of `exactly` or of a subrequest (API reference of `resource.k8s.io/v1`).
+const SELECTORS_MOST: usize = 32;
+
+/// The greatest `count`, 2^31-1.
+const COUNT_MOST: u64 = 2_147_483_647;
+
+/// What one request asks for, before the names of its subrequests are read.
+#[derive(Drop)]
+pub(crate) enum Asked {
+    Exactly(ExactDeviceRequest),
+    FirstAvailable(Seq<DeviceAsk>),
+}
+
+/// What each of the requests asks for.
+pub(crate) fn read_asks(
+    alloc: Global,
+    requests: &[Value],
+    path: &Path,
+) -> Result<Seq<Asked>, FieldError>
+    ensures { Reads result (each fields.asked_at path.now (items_view requests.now)) }
+{
+    let mut asks = Seq::empty(alloc);
+    for place in 0..requests.len() {
+        let at = path.place(alloc, place)?;
+        let asked = read_asked(alloc, &requests[place], &at)?;
+        or_memory(alloc, asks.push(asked))?;
+    }
+    Ok(asks)
+}
+
+fn read_asked(alloc: Global, request: &Value, path: &Path) -> Result<Asked, FieldError>
+    ensures { Reads result (fields.asked_at path.now (view request.now)) }
+{
+    if has_some(request, "firstAvailable") {
+        Ok(Asked::FirstAvailable(read_first_available(alloc, request, path)?))
+    } else {
+        Ok(Asked::Exactly(read_exactly(alloc, request, path)?))
+    }
+}
+
+fn read_first_available(
+    alloc: Global,
+    request: &Value,
+    path: &Path,
+) -> Result<Seq<DeviceAsk>, FieldError>
+    ensures { Reads result (fields.first_available_at path.now (view request.now)) }
+{
+    let subrequests = list(alloc, request, path, "firstAvailable")?;
+    let path = path.member(alloc, "firstAvailable")?;
+    read_subrequests(alloc, subrequests, &path)
+}
+
+fn read_exactly(
+    alloc: Global,
+    request: &Value,
+    path: &Path,
+) -> Result<ExactDeviceRequest, FieldError>
+    ensures { Reads result (fields.exactly_at path.now (view request.now)) }
+{
+    let exactly = object(alloc, request, path, "exactly")?;
+    let path = path.member(alloc, "exactly")?;
+    read_exact(alloc, exactly, &path)
+}
+
+fn read_subrequests(
+    alloc: Global,
+    subrequests: &[Value],
+    path: &Path,
+) -> Result<Seq<DeviceAsk>, FieldError>
+    ensures { Reads result (each fields.subrequest_in path.now (items_view subrequests.now)) }
+{
+    let mut asks = Seq::empty(alloc);
+    for place in 0..subrequests.len() {
+        let at = path.place(alloc, place)?;
+        let ask = read_subrequest(alloc, &subrequests[place], &at)?;
+        or_memory(alloc, asks.push(ask))?;
+    }
+    Ok(asks)
+}
+
+fn read_subrequest(alloc: Global, value: &Value, path: &Path) -> Result<DeviceAsk, FieldError>
+    ensures { Reads result (fields.subrequest_in path.now (view value.now)) }
+{
+    let subrequest = value_object(alloc, value, path)?;
+    let ask = read_ask(alloc, subrequest, path)?;
+    left_out(alloc, subrequest, path)?;
+    Ok(ask)
+}
+
+fn read_exact(alloc: Global, exactly: &Value, path: &Path) -> Result<ExactDeviceRequest, FieldError>
+    ensures { Reads result (fields.exactly_in path.now (view exactly.now)) }
+{
+    let ask = read_ask(alloc, exactly, path)?;
+    let admin = read_admin(alloc, exactly, path)?;
+    left_out(alloc, exactly, path)?;
+    Ok(ExactDeviceRequest { ask, admin })
+}
+
+/// `adminAccess`, false where it is missing or null.
+pub(crate) fn read_admin(alloc: Global, object: &Value, path: &Path) -> Result<bool, FieldError>
+    ensures { Reads result (fields.admin_at path.now (view object.now)) }
+{
+    Ok(optional_truth(alloc, object, path, "adminAccess")?.unwrap_or(false))
+}
+
+/// `tolerations` and `capacity`, which are left out.
+fn left_out(alloc: Global, ask: &Value, path: &Path) -> Result<(), FieldError>
+    ensures { Reads result (fields.left_out_at path.now (view ask.now)) }
+{
+    unset(alloc, ask, path, "tolerations")?;
+    unset(alloc, ask, path, "capacity")
+}
+
+fn read_ask(alloc: Global, ask: &Value, path: &Path) -> Result<DeviceAsk, FieldError>
+    ensures { Reads result (fields.ask_at path.now (view ask.now)) }
+{
+    let class = Text::new(text(alloc, ask, path, "deviceClassName")?);
+    let selectors = read_selectors(alloc, ask, path)?;
+    let mode = read_mode(alloc, ask, path)?;
+    Ok(DeviceAsk {
+        class,
+        selectors,
+        mode,
+    })
+}
+
+fn read_selectors(alloc: Global, ask: &Value, path: &Path) -> Result<Seq<Text>, FieldError>
+    ensures { Reads result (fields.selectors_at path.now (view ask.now)) }
+{
+    match optional_short_list(alloc, ask, path, "selectors", SELECTORS_MOST)? {
+        Some(selectors) => {
+            let path = path.member(alloc, "selectors")?;
+            read_each_selector(alloc, selectors, &path)
+        }
+        None => Ok(Seq::empty(alloc)),
+    }
+}
+
+fn read_each_selector(
+    alloc: Global,
+    selectors: &[Value],
+    path: &Path,
+) -> Result<Seq<Text>, FieldError>
+    ensures { Reads result (each fields.selector_at path.now (items_view selectors.now)) }
+{
+    let mut texts = Seq::empty(alloc);
+    for place in 0..selectors.len() {
+        let at = path.place(alloc, place)?;
+        let text = read_selector(alloc, &selectors[place], &at)?;
+        or_memory(alloc, texts.push(text))?;
+    }
+    Ok(texts)
+}
+
+fn read_selector(alloc: Global, value: &Value, path: &Path) -> Result<Text, FieldError>
+    ensures { Reads result (fields.selector_at path.now (view value.now)) }
+{
+    let selector = value_object(alloc, value, path)?;
+    let cel = object(alloc, selector, path, "cel")?;
+    let path = path.member(alloc, "cel")?;
+    Ok(Text::new(text(alloc, cel, &path, "expression")?))
+}
+
+/// `allocationMode`, then `count`.
+fn read_mode(alloc: Global, ask: &Value, path: &Path) -> Result<AllocationMode, FieldError>
+    ensures { Reads result (fields.mode_at path.now (view ask.now)) }
+{
+    if read_all(alloc, ask, path)? {
+        optional_natural(alloc, ask, path, "count", 0, 0)?;
+        Ok(AllocationMode::All)
+    } else {
+        let count = optional_natural(alloc, ask, path, "count", 0, COUNT_MOST)?;
+        Ok(counted(count))
+    }
+}
+
+/// So many as a count says; one where it is 0 or missing.
+fn counted(count: Option<u64>) -> AllocationMode
+    ensures { result ≡ fields.counted count }
+{
+    match count {
+        None | Some(0) => AllocationMode::ExactCount(1),
+        Some(count) => AllocationMode::ExactCount(count),
+    }
+}
+
+/// Whether `allocationMode` asks for all devices. NotSupported at another word than its two.
+fn read_all(alloc: Global, ask: &Value, path: &Path) -> Result<bool, FieldError>
+    ensures { Reads result (fields.all_at path.now (view ask.now)) }
+{
+    match optional_text(alloc, ask, path, "allocationMode")? {
+        None => Ok(false),
+        Some(word) => all_asked(alloc, path, word.as_str()),
+    }
+}
+
+fn all_asked(alloc: Global, path: &Path, word: &str) -> Result<bool, FieldError>
+    ensures { Reads result (fields.all_meant path.now word.now) }
+{
+    if word == "ExactCount" {
+        Ok(false)
+    } else if word == "All" {
+        Ok(true)
+    } else {
+        Err(FieldError::of_field(alloc, path, "allocationMode", Kind::NotSupported))
+    }
+}
