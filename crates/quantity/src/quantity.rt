@@ -10,6 +10,8 @@ ghost use Rattle.quantity.specs.Value.{quantity_value, magnitude_value, signed};
 use crate::QuantityError;
 use crate::magnitude::magnitude;
 use crate::text::{digits, fraction, sign, suffix};
+use dra_values::Duplicate;
+use std::alloc::{AllocError, Global};
 use std::cmp::Ordering;
 use std::marker::Model;
 
@@ -112,6 +114,12 @@ impl Quantity {
         } else {
             None
         }
+    }
+}
+
+impl Duplicate for Quantity {
+    fn duplicate(&self, _alloc: Global) -> Result<Quantity, AllocError> {
+        Ok(*self)
     }
 }
 
