@@ -1,27 +1,35 @@
 ghost use Rattle.std.specs.Prelude.{◌≡◌, IfOk};
 
-use dra_values::{Duplicate, Seq, Text};
+use dra_values::{Duplicate, Seq, Table, Text};
+use node_select::Selector;
+use object_fields::QualName;
+use quantity::Quantity;
 use std::alloc::{AllocError, Global};
 
-/// A ResourceSlice of `resource.k8s.io/v1`: devices that a driver offers on one node.
+/// A ResourceSlice of `resource.k8s.io/v1`: devices that a driver offers.
 #[derive(Drop)]
 pub struct ResourceSlice {
-    /// `metadata.name`.
+    /// `metadata.name`, a DNS subdomain of at most 253 bytes.
     pub name: Text,
-    /// `spec.driver`.
+    /// `metadata.resourceVersion`, from 0 to 2^64-1.
+    pub version: Option<u64>,
+    /// `spec.driver`, a DNS subdomain of at most 63 bytes.
     pub driver: Text,
     /// `spec.pool`.
     pub pool: Pool,
-    /// `spec.nodeName`: the one node that the devices are visible to.
-    pub node: Text,
-    /// `spec.devices`.
+    /// Where the devices are: the one of `spec.nodeName`, `nodeSelector`, `allNodes` and
+    /// `perDeviceNodeSelection` that is set.
+    pub nodes: SliceNodes,
+    /// `spec.sharedCounters`, with at most 32 counters in all.
+    pub counters: Seq<CounterSet>,
+    /// `spec.devices`, at most 128.
     pub devices: Seq<Device>,
 }
 
 /// `spec.pool` of a ResourceSlice.
 #[derive(Drop)]
 pub struct Pool {
-    /// Unique among the pools of the driver.
+    /// Unique among the pools of the driver: DNS subdomains joined by `/`, at most 253 bytes in all.
     pub name: Text,
     /// 0 to 2^63-1; only the slices of a pool's highest generation are used.
     pub generation: u64,
@@ -29,10 +37,68 @@ pub struct Pool {
     pub slices: u64,
 }
 
-/// A device of a slice.
+/// Where the devices of a slice are.
+#[derive(Drop)]
+pub enum SliceNodes {
+    /// All of them are on the same nodes.
+    Nodes(Nodes),
+    /// `perDeviceNodeSelection`: each device has its own.
+    PerDevice,
+}
+
+/// Nodes that devices are on.
+#[derive(Drop)]
+pub enum Nodes {
+    /// `nodeName`: the one node of that name, which isn't empty.
+    Named(Text),
+    /// `nodeSelector`: the nodes that it selects.
+    Selected(Selector),
+    /// `allNodes`.
+    All,
+}
+
+/// A counter set: amounts that the devices of a slice share (KEP 4815).
+#[derive(Drop)]
+pub struct CounterSet {
+    /// A DNS label, which no other set of the slice has.
+    pub name: Text,
+    /// The amount of each counter by its name, a DNS label; none is negative.
+    pub counters: Table<Text, Quantity>,
+}
+
+/// A device of a slice. Its attributes and its capacities are at most 32 together.
 #[derive(Drop)]
 pub struct Device {
+    /// A DNS label, which no other device of the slice has.
     pub name: Text,
+    /// The attributes by their full names.
+    pub attributes: Table<QualName, Attribute>,
+    /// The capacities by their full names.
+    pub capacity: Table<QualName, Quantity>,
+    /// `consumesCounters`, at most 32 amounts in all.
+    pub consumes: Seq<CounterConsumption>,
+    /// Where the device is; there exactly where the slice has `perDeviceNodeSelection`.
+    pub nodes: Option<Nodes>,
+}
+
+/// The value of an attribute.
+#[derive(Drop)]
+pub enum Attribute {
+    Int(i64),
+    Bool(bool),
+    /// A text of at most 64 characters.
+    Text(Text),
+    /// A version of Semantic Versioning 2.0.0, as it is written, of at most 64 characters.
+    Version(Text),
+}
+
+/// What a device draws from one counter set of its slice.
+#[derive(Drop)]
+pub struct CounterConsumption {
+    /// The name of a counter set of the slice.
+    pub set: Text,
+    /// The amount from each counter by its name, a counter of that set; none is negative.
+    pub amounts: Table<Text, Quantity>,
 }
 
 impl ResourceSlice {
@@ -40,13 +106,26 @@ impl ResourceSlice {
     pub fn copy(&self, alloc: Global) -> Result<ResourceSlice, AllocError>
         ensures { IfOk result (λ copy. copy ≡ self.now) }
     {
+        let name = self.name.copy(alloc)?;
+        let driver = self.driver.copy(alloc)?;
+        let pool = self.pool.copy(alloc)?;
+        let nodes = self.nodes.duplicate(alloc)?;
+        let counters = self.counters.copy(alloc)?;
         Ok(ResourceSlice {
-            name: self.name.copy(alloc)?,
-            driver: self.driver.copy(alloc)?,
-            pool: self.pool.copy(alloc)?,
-            node: self.node.copy(alloc)?,
+            name,
+            version: self.version,
+            driver,
+            pool,
+            nodes,
+            counters,
             devices: self.devices.copy(alloc)?,
         })
+    }
+}
+
+impl Duplicate for ResourceSlice {
+    fn duplicate(&self, alloc: Global) -> Result<ResourceSlice, AllocError> {
+        self.copy(alloc)
     }
 }
 
@@ -63,10 +142,62 @@ impl Pool {
     }
 }
 
+impl Duplicate for SliceNodes {
+    fn duplicate(&self, alloc: Global) -> Result<SliceNodes, AllocError> {
+        match self {
+            SliceNodes::Nodes(nodes) => Ok(SliceNodes::Nodes(nodes.duplicate(alloc)?)),
+            SliceNodes::PerDevice => Ok(SliceNodes::PerDevice),
+        }
+    }
+}
+
+impl Duplicate for Nodes {
+    fn duplicate(&self, alloc: Global) -> Result<Nodes, AllocError> {
+        match self {
+            Nodes::Named(name) => Ok(Nodes::Named(name.copy(alloc)?)),
+            Nodes::Selected(selector) => Ok(Nodes::Selected(selector.copy(alloc)?)),
+            Nodes::All => Ok(Nodes::All),
+        }
+    }
+}
+
+impl Duplicate for CounterSet {
+    fn duplicate(&self, alloc: Global) -> Result<CounterSet, AllocError> {
+        Ok(CounterSet {
+            name: self.name.copy(alloc)?,
+            counters: self.counters.copy(alloc)?,
+        })
+    }
+}
+
 impl Duplicate for Device {
     fn duplicate(&self, alloc: Global) -> Result<Device, AllocError> {
         Ok(Device {
             name: self.name.copy(alloc)?,
+            attributes: self.attributes.copy(alloc)?,
+            capacity: self.capacity.copy(alloc)?,
+            consumes: self.consumes.copy(alloc)?,
+            nodes: self.nodes.duplicate(alloc)?,
+        })
+    }
+}
+
+impl Duplicate for Attribute {
+    fn duplicate(&self, alloc: Global) -> Result<Attribute, AllocError> {
+        match self {
+            Attribute::Int(number) => Ok(Attribute::Int(*number)),
+            Attribute::Bool(truth) => Ok(Attribute::Bool(*truth)),
+            Attribute::Text(text) => Ok(Attribute::Text(text.copy(alloc)?)),
+            Attribute::Version(text) => Ok(Attribute::Version(text.copy(alloc)?)),
+        }
+    }
+}
+
+impl Duplicate for CounterConsumption {
+    fn duplicate(&self, alloc: Global) -> Result<CounterConsumption, AllocError> {
+        Ok(CounterConsumption {
+            set: self.set.copy(alloc)?,
+            amounts: self.amounts.copy(alloc)?,
         })
     }
 }
