@@ -1,23 +1,40 @@
 -- What is read of a DeviceClass (API reference of resource.k8s.io/v1).
-use Rattle.std.specs.Prelude.{Bool, ◌||◌, List, [], ◌∷◌, Option, Result, Ok, codes}
+use Rattle.std.specs.Prelude.{ℕ, List, [], ◌∷◌, ◌++◌, Option, Some, None, Result, Ok, codes}
 use Rattle.serde_json.specs.Data.{Data}
-use Rattle.object_fields.specs.Fields.{member_of, object_at, optional_at, ◌>>=◌}
+use Rattle.object_fields.specs.Fields.{object_at, object_value, optional_at, text_at, ◌>>=◌}
+use Rattle.object_fields.specs.Meta.{meta_at}
 use Rattle.object_fields.specs.declared.error.FieldError.{FieldError}
 use Rattle.object_fields.specs.declared.meta.Scope.TheVariants.{Cluster}
-use Rattle.api_cluster.specs.Form.{if_built, key_at, passes, sets_any, unbuilt_meta}
+use Rattle.object_fields.specs.declared.path.Step.{Step}
+use Rattle.object_fields.specs.declared.path.Step.TheVariants.{Member}
+use Rattle.api_cluster.specs.Lists.{each_at}
 use Rattle.api_cluster.specs.declared.types.DeviceClass.{DeviceClass}
 
--- members that aren't built
-abbrev pub unbuilt_class : Data → Bool
-unbuilt_class d =
-    unbuilt_meta d || passes (sets_any (codes "selectors" ∷ [])) (member_of (codes "spec") d)
+-- a class has at most 32 selectors
+abbrev pub selectors_most : ℕ
+selectors_most = 32
 
--- name, then spec, which may be missing
-abbrev pub class_at : Data → Result DeviceClass FieldError
-class_at d =
-    key_at Cluster d >>= λ key.
-    optional_at object_at [] (codes "spec") d >>= λ spec.
-    Ok (record { name = key.name })
+-- the text of a selector, which is any text
+abbrev pub selector_at : List Step → Data → Result (List ℕ) FieldError
+selector_at path d =
+    object_value path d >>= λ selector.
+    object_at path (codes "cel") selector >>= λ cel.
+    text_at (path ++ Member (codes "cel") ∷ []) (codes "expression") cel
 
-abbrev pub class_of : Data → Result (Option DeviceClass) FieldError
-class_of d = if_built (unbuilt_class d) (class_at d)
+abbrev pub selectors_at : List Step → Data → Result (List (List ℕ)) FieldError
+selectors_at path spec = each_at selectors_most selector_at path (codes "selectors") spec
+
+-- spec may be missing
+abbrev pub selectors_in : Option Data → Result (List (List ℕ)) FieldError
+selectors_in None = Ok []
+selectors_in (Some spec) = selectors_at (Member (codes "spec") ∷ []) spec
+
+abbrev pub spec_at : Data → Result (List (List ℕ)) FieldError
+spec_at d = optional_at object_at [] (codes "spec") d >>= selectors_in
+
+-- the metadata, then the selectors
+abbrev pub class_of : Data → Result DeviceClass FieldError
+class_of d =
+    meta_at Cluster d >>= λ meta.
+    spec_at d >>= λ selectors.
+    Ok (record { name = meta.key.name; version = meta.version; selectors = selectors })

@@ -2,7 +2,6 @@
 #![tactic(auto)]
 
 mod class;
-mod form;
 mod node;
 mod pod;
 #[cfg(test)]

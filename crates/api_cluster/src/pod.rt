@@ -1,14 +1,15 @@
-ghost use Rattle.std.specs.Prelude.{◌≡◌, []};
+ghost use Rattle.std.specs.Prelude.{◌≡◌, [], option_map};
+ghost use Rattle.serde_json.specs.Find.{get};
 ghost use Rattle.serde_json.specs.View.{items_view, view};
 ghost use Rattle.object_fields.specs.Fields.{Reads};
+ghost use Rattle.api_cluster.specs.Lists.{each_from};
 ghost use Rattle.api_cluster.specs.Pods as fields;
 
-use crate::form::{read_key, sets_any, unbuilt_meta};
 use crate::types::{Pod, PodResourceClaim};
 use dra_values::{Seq, Text};
 use object_fields::{
-    FieldError, Path, Scope, member, optional_object, optional_short_list, or_memory, text,
-    value_object,
+    FieldError, Kind, ObjectMeta, Path, Scope, optional_object, optional_short_list, or_memory,
+    text, unset, value_object,
 };
 use serde_json::Value;
 use std::alloc::Global;
@@ -17,55 +18,28 @@ use std::alloc::Global;
 const CLAIMS_MOST: usize = 32;
 
 impl Pod {
-    /// Reads a Pod of the API reference of `v1`: `metadata.name`, a DNS subdomain of at most 253
-    /// bytes, `metadata.namespace`, a DNS label of at most 63 bytes (`default` where there is
-    /// none), and `spec.resourceClaims`, at most one entry of `name` and `resourceClaimName`, each
-    /// any text. `spec` and `spec.resourceClaims` may be missing. The errors are Missing, WrongType,
-    /// TooLong and BadName, in this order at each field.
+    /// Reads a Pod of the API reference of `v1`: its metadata, with the errors of
+    /// `ObjectMeta::read`, then `spec` (WrongType), and in it `nodeName` and `resourceClaims`
+    /// (WrongType, TooMany above 32), which all may be missing.
     ///
-    /// The answer is None where there are more entries, or where `metadata.labels`,
-    /// `metadata.resourceVersion`, `spec.nodeName` or an entry's `resourceClaimTemplateName` is
-    /// set, which is not built yet; such a document is not a fault. Fields that this project
-    /// doesn't know, as a pod's containers, are not looked at. Memory may come at any time.
-    pub fn read(alloc: Global, value: &Value) -> Result<Option<Pod>, FieldError>
+    /// A `nodeName` that isn't missing, null or the empty text is NotSupported, since a pod is bound
+    /// by the scheduling of this project alone. Each entry of `resourceClaims` (Missing, WrongType)
+    /// has no `resourceClaimTemplateName` (NotSupported where one is set, since nothing here makes
+    /// claims from templates), and a `name` and a `resourceClaimName`, which are any texts (Missing,
+    /// WrongType), in this order.
+    ///
+    /// Fields that this project doesn't know, as a pod's containers, are not looked at. Memory may
+    /// come at any time.
+    pub fn read(alloc: Global, value: &Value) -> Result<Pod, FieldError>
         ensures { Reads result (fields.pod_of (view value.now)) }
     {
-        if unbuilt_pod(value) {
-            return Ok(None);
-        }
-        let key = read_key(alloc, value, Scope::Namespaced)?;
+        let meta = ObjectMeta::read(alloc, value, Scope::Namespaced)?;
         let claims = read_spec(alloc, value)?;
-        Ok(Some(Pod { key, claims }))
-    }
-}
-
-fn unbuilt_pod(document: &Value) -> bool
-    ensures { result ≡ fields.unbuilt_pod (view document.now) }
-{
-    unbuilt_meta(document)
-        || match member(document, "spec") {
-            Some(spec) => unbuilt_spec(spec),
-            None => false,
-        }
-}
-
-fn unbuilt_spec(spec: &Value) -> bool
-    ensures { result ≡ fields.unbuilt_spec (view spec.now) }
-{
-    sets_any(spec, &["nodeName"])
-        || match member(spec, "resourceClaims") {
-            Some(Value::Array(entries)) => unbuilt_entries(entries.as_slice()),
-            _ => false,
-        }
-}
-
-fn unbuilt_entries(entries: &[Value]) -> bool
-    ensures { result ≡ fields.unbuilt_entries (items_view entries.now) }
-{
-    match entries {
-        [] => false,
-        [entry] => sets_any(entry, &["resourceClaimTemplateName"]),
-        [_, _, ..] => true,
+        Ok(Pod {
+            key: meta.key,
+            version: meta.version,
+            claims,
+        })
     }
 }
 
@@ -76,9 +50,42 @@ fn read_spec(alloc: Global, document: &Value) -> Result<Seq<PodResourceClaim>, F
     match optional_object(alloc, document, &top, "spec")? {
         Some(spec) => {
             let path = top.member(alloc, "spec")?;
-            read_claims(alloc, spec, &path)
+            read_members(alloc, spec, &path)
         }
         None => Ok(Seq::empty(alloc)),
+    }
+}
+
+fn read_members(
+    alloc: Global,
+    spec: &Value,
+    path: &Path,
+) -> Result<Seq<PodResourceClaim>, FieldError>
+    ensures { Reads result (fields.members_at path.now (view spec.now)) }
+{
+    read_node(alloc, spec, path)?;
+    read_claims(alloc, spec, path)
+}
+
+/// Nothing, where the spec names no node.
+fn read_node(alloc: Global, spec: &Value, path: &Path) -> Result<(), FieldError>
+    ensures { Reads result (fields.node_at path.now (view spec.now)) }
+{
+    if is_no_name(spec.get("nodeName")) {
+        Ok(())
+    } else {
+        Err(FieldError::of_field(alloc, path, "nodeName", Kind::NotSupported))
+    }
+}
+
+/// Whether a member is missing, null or the empty text.
+fn is_no_name(member: Option<&Value>) -> bool
+    ensures { result ≡ fields.is_no_name (option_map (λ v. view v.now) member.entry) }
+{
+    match member {
+        None | Some(Value::Null) => true,
+        Some(Value::String(text)) => text.is_empty(),
+        Some(_) => false,
     }
 }
 
@@ -103,7 +110,7 @@ fn read_entries(
     entries: &[Value],
     path: &Path,
 ) -> Result<Seq<PodResourceClaim>, FieldError>
-    ensures { Reads result (fields.entries_from path.now 0 [] (items_view entries.now)) }
+    ensures { Reads result (each_from fields.entry_at path.now 0 [] (items_view entries.now)) }
 {
     let mut claims = Seq::empty(alloc);
     for place in 0..entries.len() {
@@ -118,6 +125,7 @@ fn read_entry(alloc: Global, entry: &Value, path: &Path) -> Result<PodResourceCl
     ensures { Reads result (fields.entry_at path.now (view entry.now)) }
 {
     let entry = value_object(alloc, entry, path)?;
+    unset(alloc, entry, path, "resourceClaimTemplateName")?;
     let name = Text::new(text(alloc, entry, path, "name")?);
     let claim = Text::new(text(alloc, entry, path, "resourceClaimName")?);
     Ok(PodResourceClaim { name, claim })

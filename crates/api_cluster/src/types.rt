@@ -1,21 +1,29 @@
 ghost use Rattle.std.specs.Prelude.{◌≡◌, IfOk};
 
-use dra_values::{Duplicate, Seq, Text};
+use dra_values::{Duplicate, Seq, Table, Text};
 use object_fields::Key;
 use std::alloc::{AllocError, Global};
 
-/// A Node of `v1`.
+/// A Node of `v1`: what says which devices it sees.
 #[derive(Drop)]
 pub struct Node {
     /// `metadata.name`.
     pub name: Text,
+    /// `metadata.resourceVersion`, from 0 to 2^64-1, where it is given.
+    pub version: Option<u64>,
+    /// `metadata.labels`, by their keys.
+    pub labels: Table<Text, Text>,
 }
 
-/// A DeviceClass of `resource.k8s.io/v1` without selectors.
+/// A DeviceClass of `resource.k8s.io/v1`: what a device of the class must be.
 #[derive(Drop)]
 pub struct DeviceClass {
     /// `metadata.name`.
     pub name: Text,
+    /// `metadata.resourceVersion`, from 0 to 2^64-1, where it is given.
+    pub version: Option<u64>,
+    /// `spec.selectors`: the text of each `cel.expression`, at most 32, as they were written.
+    pub selectors: Seq<Text>,
 }
 
 /// A Pod of `v1`: the claims that it uses.
@@ -23,7 +31,9 @@ pub struct DeviceClass {
 pub struct Pod {
     /// `metadata.namespace` and `metadata.name`.
     pub key: Key,
-    /// `spec.resourceClaims`.
+    /// `metadata.resourceVersion`, from 0 to 2^64-1, where it is given.
+    pub version: Option<u64>,
+    /// `spec.resourceClaims`, at most 32.
     pub claims: Seq<PodResourceClaim>,
 }
 
@@ -43,6 +53,8 @@ impl Node {
     {
         Ok(Node {
             name: self.name.copy(alloc)?,
+            version: self.version,
+            labels: self.labels.copy(alloc)?,
         })
     }
 }
@@ -54,6 +66,8 @@ impl DeviceClass {
     {
         Ok(DeviceClass {
             name: self.name.copy(alloc)?,
+            version: self.version,
+            selectors: self.selectors.copy(alloc)?,
         })
     }
 }
@@ -65,6 +79,7 @@ impl Pod {
     {
         Ok(Pod {
             key: self.key.copy(alloc)?,
+            version: self.version,
             claims: self.claims.copy(alloc)?,
         })
     }
