@@ -1,220 +1,317 @@
 use crate::{DeviceClass, Node, Pod};
+use dra_values::Seq;
 use object_fields::FieldError;
 use serde_json::Value;
 use std::alloc::{AllocError, Global};
 use std::test::Fail;
 
-/// `not built`, or the word and the path of the error.
-fn failure(alloc: Global, error: Option<&FieldError>) -> Result<String, AllocError> {
-    match error {
-        Some(error) => format!(in alloc; "{error}"),
-        None => String::from_str(alloc, "not built"),
+fn push_version(text: &mut String, alloc: Global, version: Option<u64>) -> Result<(), AllocError> {
+    match version {
+        Some(number) => text.push_str(format!(in alloc; " @{number}")?.as_str())?,
+        None => (),
     }
+    Ok(())
+}
+
+fn node_text(alloc: Global, node: &Node) -> Result<String, AllocError> {
+    let mut text = format!(in alloc; "{}", node.name)?;
+    push_version(&mut text, alloc, node.version)?;
+    for (key, label) in node.labels.as_map() {
+        text.push_str(format!(in alloc; " {key}={label}")?.as_str())?;
+    }
+    Ok(text)
+}
+
+fn class_text(alloc: Global, class: &DeviceClass) -> Result<String, AllocError> {
+    let mut text = format!(in alloc; "{}", class.name)?;
+    push_version(&mut text, alloc, class.version)?;
+    for selector in class.selectors.as_slice() {
+        text.push_str(format!(in alloc; " [{selector}]")?.as_str())?;
+    }
+    Ok(text)
+}
+
+fn pod_text(alloc: Global, pod: &Pod) -> Result<String, AllocError> {
+    let mut text = format!(in alloc; "{}", pod.key)?;
+    push_version(&mut text, alloc, pod.version)?;
+    for claim in pod.claims.as_slice() {
+        let (name, claim) = (&claim.name, &claim.claim);
+        text.push_str(format!(in alloc; " {name}={claim}")?.as_str())?;
+    }
+    Ok(text)
+}
+
+fn failure(alloc: Global, error: &FieldError) -> Result<String, AllocError> {
+    format!(in alloc; "{error}")
 }
 
 fn node(alloc: Global, value: &Value) -> Result<String, AllocError> {
     match Node::read(alloc, value) {
-        Ok(Some(node)) => Ok(node.copy(alloc)?.name.into_string()),
-        Ok(None) => failure(alloc, None),
-        Err(error) => failure(alloc, Some(&error)),
+        Ok(node) => node_text(alloc, &node.copy(alloc)?),
+        Err(error) => failure(alloc, &error),
     }
 }
 
 fn class(alloc: Global, value: &Value) -> Result<String, AllocError> {
     match DeviceClass::read(alloc, value) {
-        Ok(Some(class)) => Ok(class.copy(alloc)?.name.into_string()),
-        Ok(None) => failure(alloc, None),
-        Err(error) => failure(alloc, Some(&error)),
+        Ok(class) => class_text(alloc, &class.copy(alloc)?),
+        Err(error) => failure(alloc, &error),
     }
 }
 
 fn pod(alloc: Global, value: &Value) -> Result<String, AllocError> {
     match Pod::read(alloc, value) {
-        Ok(Some(pod)) => copied_text(alloc, &pod),
-        Ok(None) => failure(alloc, None),
-        Err(error) => failure(alloc, Some(&error)),
+        Ok(pod) => pod_text(alloc, &pod.copy(alloc)?),
+        Err(error) => failure(alloc, &error),
     }
 }
 
-fn copied_text(alloc: Global, pod: &Pod) -> Result<String, AllocError> {
-    let copy = pod.copy(alloc)?;
-    pod_text(alloc, &copy)
-}
-
-fn pod_text(alloc: Global, pod: &Pod) -> Result<String, AllocError> {
-    let mut text = format!(in alloc; "{}", pod.key)?;
-    for claim in pod.claims.as_slice() {
-        text.push(' ')?;
-        text.push_str(claim.name.as_str())?;
-        text.push('=')?;
-        text.push_str(claim.claim.as_str())?;
-    }
-    Ok(text)
-}
-
-/// What the reader of that kind answers to a document, as text: the fields, `not built`, or the
-/// word and the path of the error.
+/// What the reader of that kind answers to a document, as text: the fields, or the word and the
+/// path of the error.
 fn shown(alloc: Global, kind: &str, document: &str) -> Result<String, Fail> {
     let value = Value::from_str(alloc, document)?;
     let text = match kind {
         "Node" => node(alloc, &value),
-        "Class" => class(alloc, &value),
+        "DeviceClass" => class(alloc, &value),
         _ => pod(alloc, &value),
     };
     Ok(text?)
 }
 
 #[test]
-fn nodes_and_classes_read_or_have_their_error(rt: HostRuntime) -> Result<(), Fail> {
+fn metadata_is_read_of_each_kind(rt: HostRuntime) -> Result<(), Fail> {
     let alloc = rt.alloc();
-    for (document, node, class) in [
+    for (document, node, class, pod) in [
         (
-            r#"{"apiVersion":"v1","kind":"Node","metadata":{"name":"n2","namespace":7,"uid":1},"status":{}}"#,
+            r#"{"apiVersion":"v1","metadata":{"name":"n2","namespace":"a","uid":1},"status":{}}"#,
             "n2",
             "n2",
+            "a/n2",
         ),
         (
-            r#"{"metadata":{"name":"gpu"},"spec":{"config":[],"selectors":null}}"#,
-            "gpu",
-            "gpu",
+            r#"{"metadata":{"name":"n","labels":{"zone":"b","":"","cpu":"7"},"resourceVersion":"12"},"spec":{}}"#,
+            "n @12 = cpu=7 zone=b",
+            "n @12",
+            "default/n @12",
         ),
-        ("[]", "Missing metadata", "Missing metadata"),
         (
-            r#"{"metadata":"a"}"#,
+            r#"{"metadata":{"name":"n","labels":null,"resourceVersion":""},"spec":null}"#,
+            "n",
+            "n",
+            "default/n",
+        ),
+        (
+            "[]",
+            "Missing metadata",
+            "Missing metadata",
+            "Missing metadata",
+        ),
+        (
+            r#"{"metadata":"a","spec":1}"#,
             "WrongType metadata",
             "WrongType metadata",
+            "WrongType metadata",
         ),
         (
-            r#"{"metadata":{}}"#,
+            r#"{"metadata":{"labels":1},"spec":1}"#,
             "Missing metadata.name",
             "Missing metadata.name",
-        ),
-        (
-            r#"{"metadata":{"name":null}}"#,
             "Missing metadata.name",
-            "Missing metadata.name",
-        ),
-        (
-            r#"{"metadata":{"name":1},"spec":1}"#,
-            "WrongType metadata.name",
-            "WrongType metadata.name",
         ),
         (
             r#"{"metadata":{"name":"a..b"}}"#,
             "BadName metadata.name",
             "BadName metadata.name",
+            "BadName metadata.name",
         ),
         (
-            r#"{"metadata":{"name":"a"},"spec":1}"#,
-            "a",
+            r#"{"metadata":{"name":"n","namespace":"A","labels":[]}}"#,
+            "WrongType metadata.labels",
+            "WrongType metadata.labels",
+            "BadName metadata.namespace",
+        ),
+        (
+            r#"{"metadata":{"name":"n","labels":{"b":1,"a":null},"resourceVersion":"01"}}"#,
+            "Missing metadata.labels[a]",
+            "Missing metadata.labels[a]",
+            "Missing metadata.labels[a]",
+        ),
+        (
+            r#"{"metadata":{"name":"n","resourceVersion":"01"},"spec":1}"#,
+            "WrongType metadata.resourceVersion",
+            "WrongType metadata.resourceVersion",
+            "WrongType metadata.resourceVersion",
+        ),
+        (
+            r#"{"metadata":{"name":"n"},"spec":[]}"#,
+            "n",
             "WrongType spec",
-        ),
-        (r#"{"metadata":{"labels":{}}}"#, "not built", "not built"),
-        (
-            r#"{"metadata":{"resourceVersion":"1"}}"#,
-            "not built",
-            "not built",
-        ),
-        (
-            r#"{"metadata":{"name":"a"},"spec":{"selectors":[]}}"#,
-            "a",
-            "not built",
+            "WrongType spec",
         ),
     ] {
         let got = shown(alloc, "Node", document)?;
         assert_eq!(rt; got.as_str(), node, "node {document}");
-        let got = shown(alloc, "Class", document)?;
+        let got = shown(alloc, "DeviceClass", document)?;
         assert_eq!(rt; got.as_str(), class, "class {document}");
+        let got = shown(alloc, "Pod", document)?;
+        assert_eq!(rt; got.as_str(), pod, "pod {document}");
     }
     Ok(())
 }
 
 #[test]
-fn pods_read_or_have_their_error(rt: HostRuntime) -> Result<(), Fail> {
+fn specs_read_or_have_their_first_error(rt: HostRuntime) -> Result<(), Fail> {
     let alloc = rt.alloc();
-    for (metadata, spec, want) in [
+    for (kind, spec, want) in [
+        ("DeviceClass", r#"{"config":[],"selectors":null}"#, "x"),
+        ("DeviceClass", r#"{"selectors":[]}"#, "x"),
         (
-            r#"{"namespace":"x","name":"p"}"#,
-            r#"{"containers":[],"resourceClaims":[{"name":"g","resourceClaimName":"c"}]}"#,
-            "x/p g=c",
+            "DeviceClass",
+            r#"{"selectors":[{"cel":{"expression":"device.driver == 'a.b'"}},{"cel":{"expression":""},"x":1}]}"#,
+            "x [device.driver == 'a.b'] []",
         ),
         (
-            r#"{"name":"p"}"#,
-            r#"{"resourceClaims":[{"name":"","resourceClaimName":"_","resourceClaimTemplateName":null}]}"#,
-            "default/p =_",
-        ),
-        (r#"{"name":"p","namespace":null}"#, "null", "default/p"),
-        (r#"{"name":"p"}"#, "{}", "default/p"),
-        (
-            r#"{"name":"p"}"#,
-            r#"{"nodeName":null,"resourceClaims":[]}"#,
-            "default/p",
-        ),
-        ("{}", "1", "Missing metadata.name"),
-        (
-            r#"{"name":"p","namespace":1}"#,
-            "1",
-            "WrongType metadata.namespace",
+            "DeviceClass",
+            r#"{"selectors":{}}"#,
+            "WrongType spec.selectors",
         ),
         (
-            r#"{"name":"p","namespace":"a.b"}"#,
-            "1",
-            "BadName metadata.namespace",
+            "DeviceClass",
+            r#"{"selectors":[null]}"#,
+            "Missing spec.selectors[0]",
         ),
         (
-            r#"{"name":"p","namespace":"a23456789a123456789a123456789a123456789a123456789a123456789a1234"}"#,
-            "1",
-            "TooLong metadata.namespace",
+            "DeviceClass",
+            r#"{"selectors":["a"]}"#,
+            "WrongType spec.selectors[0]",
         ),
-        (r#"{"name":"p"}"#, "[]", "WrongType spec"),
         (
-            r#"{"name":"p"}"#,
+            "DeviceClass",
+            r#"{"selectors":[{}]}"#,
+            "Missing spec.selectors[0].cel",
+        ),
+        (
+            "DeviceClass",
+            r#"{"selectors":[{"cel":"a"}]}"#,
+            "WrongType spec.selectors[0].cel",
+        ),
+        (
+            "DeviceClass",
+            r#"{"selectors":[{"cel":{"expression":"a"}},{"cel":{"expression":null}},{}]}"#,
+            "Missing spec.selectors[1].cel.expression",
+        ),
+        (
+            "DeviceClass",
+            r#"{"selectors":[{"cel":{"expression":true}}]}"#,
+            "WrongType spec.selectors[0].cel.expression",
+        ),
+        ("Pod", r#"{"containers":[],"nodeName":null}"#, "default/x"),
+        ("Pod", r#"{"nodeName":"","resourceClaims":[]}"#, "default/x"),
+        (
+            "Pod",
+            r#"{"nodeName":"n","resourceClaims":1}"#,
+            "NotSupported spec.nodeName",
+        ),
+        ("Pod", r#"{"nodeName":false}"#, "NotSupported spec.nodeName"),
+        ("Pod", r#"{"nodeName":[]}"#, "NotSupported spec.nodeName"),
+        (
+            "Pod",
+            r#"{"resourceClaims":[{"name":"g","resourceClaimName":"c"},{"name":"","resourceClaimName":"_","resourceClaimTemplateName":null}]}"#,
+            "default/x g=c =_",
+        ),
+        (
+            "Pod",
             r#"{"resourceClaims":{}}"#,
             "WrongType spec.resourceClaims",
         ),
         (
-            r#"{"name":"p"}"#,
+            "Pod",
             r#"{"resourceClaims":[null]}"#,
             "Missing spec.resourceClaims[0]",
         ),
         (
-            r#"{"name":"p"}"#,
+            "Pod",
             r#"{"resourceClaims":["c"]}"#,
             "WrongType spec.resourceClaims[0]",
         ),
         (
-            r#"{"name":"p"}"#,
-            r#"{"resourceClaims":[{"resourceClaimName":1}]}"#,
+            "Pod",
+            r#"{"resourceClaims":[{"resourceClaimTemplateName":"t"}]}"#,
+            "NotSupported spec.resourceClaims[0].resourceClaimTemplateName",
+        ),
+        (
+            "Pod",
+            r#"{"resourceClaims":[{"resourceClaimName":1,"resourceClaimTemplateName":""}]}"#,
             "Missing spec.resourceClaims[0].name",
         ),
         (
-            r#"{"name":"p"}"#,
+            "Pod",
             r#"{"resourceClaims":[{"name":1}]}"#,
             "WrongType spec.resourceClaims[0].name",
         ),
         (
-            r#"{"name":"p"}"#,
-            r#"{"resourceClaims":[{"name":"g"}]}"#,
-            "Missing spec.resourceClaims[0].resourceClaimName",
+            "Pod",
+            r#"{"resourceClaims":[{"name":"g","resourceClaimName":"c"},{"name":"g"}]}"#,
+            "Missing spec.resourceClaims[1].resourceClaimName",
         ),
         (
-            r#"{"name":"p"}"#,
+            "Pod",
             r#"{"resourceClaims":[{"name":"g","resourceClaimName":[]}]}"#,
             "WrongType spec.resourceClaims[0].resourceClaimName",
         ),
-        (r#"{"labels":{}}"#, "{}", "not built"),
-        (r#"{"resourceVersion":""}"#, "{}", "not built"),
-        (r#"{"name":"p"}"#, r#"{"nodeName":""}"#, "not built"),
-        (r#"{}"#, r#"{"resourceClaims":[1,2]}"#, "not built"),
+    ] {
+        let document = format!(in alloc; "{{\"metadata\":{{\"name\":\"x\"}},\"spec\":{spec}}}")?;
+        let got = shown(alloc, kind, document.as_str())?;
+        assert_eq!(rt; got.as_str(), want, "{kind} {spec}");
+    }
+    Ok(())
+}
+
+/// A document whose spec has a list of so many items.
+fn listed(alloc: Global, name: &str, item: &str, count: usize) -> Result<String, AllocError> {
+    let mut text = format!(in alloc; "{{\"metadata\":{{\"name\":\"x\"}},\"spec\":{{\"{name}\":[")?;
+    for place in 0..count {
+        if place > 0 {
+            text.push(',')?;
+        }
+        text.push_str(item)?;
+    }
+    text.push_str("]}}")?;
+    Ok(text)
+}
+
+fn length<T>(items: &Seq<T>) -> usize {
+    items.as_slice().len()
+}
+
+#[test]
+fn lists_have_at_most_32_items(rt: HostRuntime) -> Result<(), Fail> {
+    let alloc = rt.alloc();
+    let selector = r#"{"cel":{"expression":"true"}}"#;
+    let claim = r#"{"name":"g","resourceClaimName":"c"}"#;
+    let document = listed(alloc, "selectors", selector, 32)?;
+    let class = DeviceClass::read(alloc, &Value::from_str(alloc, document.as_str())?)?;
+    assert_eq!(rt; length(&class.selectors), 32usize);
+    let document = listed(alloc, "resourceClaims", claim, 32)?;
+    let pod = Pod::read(alloc, &Value::from_str(alloc, document.as_str())?)?;
+    assert_eq!(rt; length(&pod.claims), 32usize);
+    for (kind, name, item, want) in [
         (
-            r#"{"name":"p"}"#,
-            r#"{"resourceClaims":[{"resourceClaimTemplateName":"t"}]}"#,
-            "not built",
+            "DeviceClass",
+            "selectors",
+            selector,
+            "TooMany spec.selectors",
+        ),
+        ("DeviceClass", "selectors", "1", "TooMany spec.selectors"),
+        (
+            "Pod",
+            "resourceClaims",
+            claim,
+            "TooMany spec.resourceClaims",
         ),
     ] {
-        let document = format!(in alloc; "{{\"metadata\":{metadata},\"spec\":{spec}}}")?;
-        let got = shown(alloc, "Pod", document.as_str())?;
-        assert_eq!(rt; got.as_str(), want, "{document}");
+        let got = shown(alloc, kind, listed(alloc, name, item, 33)?.as_str())?;
+        assert_eq!(rt; got.as_str(), want, "{kind}");
     }
     Ok(())
 }
