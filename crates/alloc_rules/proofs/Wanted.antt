@@ -2,7 +2,7 @@
 use Rattle.std.proofs.Common.{◌≡◌, ◌≤◌, ◌==◌, ◌∙◌, nat_lt, length, get_or, arith, length-append, List, [], ◌∷◌, Bool, true, false, ◌&&◌, Option, None, Some, map, ◌++◌, refl, sym, ap}
 use Rattle.std.specs.List.{find, slice_get}
 use Rattle.std.specs.Option.{is_none, option_to_list}
-use Rattle.std.proofs.lemmas.Bool.{and_parts, eqb-true}
+use Rattle.std.proofs.lemmas.Bool.{and_parts}
 use Rattle.std.proofs.lemmas.List.{length-map}
 use Rattle.object_fields.specs.declared.key.DeviceId.{DeviceId}
 use Rattle.object_fields.specs.declared.key.Key.{Key}
@@ -17,6 +17,7 @@ use Rattle.alloc_rules.specs.declared.state.Phase.TheVariants.{Idle, Taken, Boun
 use Rattle.alloc_rules.specs.declared.state.PodState.{PodState}
 use Rattle.alloc_rules.specs.declared.state.State.{State}
 use Rattle.alloc_rules.specs.Names.{at_key}
+use Rattle.alloc_rules.specs.Plain.{is_one_plain, is_plain_claim}
 use Rattle.alloc_rules.specs.Pools.{is_free}
 use Rattle.alloc_rules.specs.Claims.{add_ungranted, add_wanted, claim_built, claim_keys, claims_built, first_places, is_idle, most_users, pod_built, schedule_built, slots_of, wanted, wanted_of}
 use Rattle.alloc_rules.specs.Rules.{grants_for, is_met, results_for}
@@ -114,12 +115,19 @@ unfolding slots_of
 short_of k c None e h = simp (length-append, length-map) (omega (arith, h))
 short_of k c (Some g) e h = absurd (cc)
 
+-- one plain request is one
+one_of : (rs : List DeviceRequest) → is_one_plain rs ≡ true → length rs ≡ 1
+one_of [] e = absurd (cc)
+one_of (r ∷ []) e = refl
+one_of (r ∷ q ∷ rs) e = absurd (cc)
+
 short_at : (k : Key) (o : Option ClaimState) → claim_built o ≡ true → length (slots_of (add_wanted k o [])) ≤ 1
 short_at k None e = absurd (cc)
 short_at k (Some c) e =
-    let a = and_parts (is_none c.grant) (nat_lt (length c.users) most_users && (length c.claim.object.requests == 1)) e in
-    let b = and_parts (nat_lt (length c.users) most_users) (length c.claim.object.requests == 1) a.1 in
-    short_of k c c.grant a.0 (eqb-true (length c.claim.object.requests) 1 b.1)
+    let a = and_parts (is_none c.grant) (nat_lt (length c.users) most_users && is_plain_claim c.claim.object) e in
+    let b = and_parts (nat_lt (length c.users) most_users) (is_plain_claim c.claim.object) a.1 in
+    let p = and_parts (is_one_plain c.claim.object.requests) (length c.claim.object.constraints == 0) b.1 in
+    short_of k c c.grant a.0 (one_of c.claim.object.requests p.0)
 
 short_by : (s : State) (ks : List Key) → claims_built s ks ≡ true → length (slots_of (wanted_of s (first_places [] ks))) ≤ 1
 unfolding slots_of

@@ -1,5 +1,5 @@
 -- The claims of a pod, and the results that they are due.
-use Rattle.std.specs.Prelude.{ℕ, ◌==◌, List, [], ◌∷◌, Bool, true, false, ◌&&◌, Option, None, Some, option_map, is_none, map, length, nat_lt, if◌then◌else◌}
+use Rattle.std.specs.Prelude.{ℕ, List, [], ◌∷◌, Bool, true, false, ◌&&◌, Option, None, Some, option_map, is_none, map, length, nat_lt, if◌then◌else◌}
 use Rattle.std.specs.List.{flat_map, list_any}
 use Rattle.object_fields.specs.declared.key.Key.{Key}
 use Rattle.api_claim.specs.declared.types.ResourceClaim.{ResourceClaim}
@@ -14,6 +14,7 @@ use Rattle.alloc_rules.specs.declared.state.Phase.TheVariants.{Idle, Taken, Boun
 use Rattle.alloc_rules.specs.declared.plan.Known.{Known}
 use Rattle.alloc_rules.specs.declared.plan.KnownClaim.{KnownClaim}
 use Rattle.alloc_rules.specs.Names.{key_eq, at_key}
+use Rattle.alloc_rules.specs.Plain.{is_plain_claim}
 
 -- the claims that a pod names
 abbrev pub claim_keys : Pod → List Key
@@ -75,10 +76,10 @@ is_idle Idle = true
 is_idle (Taken job node) = false
 is_idle (Bound node) = false
 
--- a claim of the form that is built: it has no grant, room for a user, and one request
+-- a claim of the form that is built: it is plain, has no grant, and room for a user
 abbrev pub claim_built : Option ClaimState → Bool
 claim_built None = false
-claim_built (Some c) = is_none c.grant && (nat_lt (length c.users) most_users && (length c.claim.object.requests == 1))
+claim_built (Some c) = is_none c.grant && (nat_lt (length c.users) most_users && is_plain_claim c.claim.object)
 
 abbrev pub claims_built : State → List Key → Bool
 claims_built s [] = true

@@ -1,4 +1,5 @@
 pub mod Names
+pub mod Plain
 pub mod State
 pub mod Pools
 pub mod Claims

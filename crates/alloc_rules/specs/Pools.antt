@@ -13,6 +13,7 @@ use Rattle.alloc_rules.specs.declared.state.Stored.{Stored}
 use Rattle.alloc_rules.specs.declared.state.Granted.{Granted}
 use Rattle.alloc_rules.specs.declared.plan.DeviceResult.{DeviceResult}
 use Rattle.alloc_rules.specs.Names.{text_cmp, text_eq, device_eq, at_name}
+use Rattle.alloc_rules.specs.Plain.{named_node}
 
 -- stored objects, by name
 abbrev pub Named : Type 0 → Type 0
@@ -88,9 +89,14 @@ used_places s = placed s.slices s.slices []
 abbrev pub id_of : ResourceSlice → Device → DeviceId
 id_of x d = record { driver = x.driver; pool = x.pool.name; device = d.name }
 
+-- the slice names the node
+abbrev pub is_on : Option (List ℕ) → List ℕ → Bool
+is_on None node = false
+is_on (Some n) node = text_eq n node
+
 abbrev pub ids_for : List ℕ → Option (Stored ResourceSlice) → List DeviceId
 ids_for node None = []
-ids_for node (Some e) = if text_eq e.object.node node then map (id_of e.object) e.object.devices else []
+ids_for node (Some e) = if is_on (named_node e.object.nodes) node then map (id_of e.object) e.object.devices else []
 
 -- the devices of the slice at a place, where it is visible to the node
 abbrev pub devices_at : State → List ℕ → SlicePlace → List DeviceId

@@ -1,22 +1,34 @@
 -- Which devices may stand for which results, and the search's problem.
-use Rattle.std.specs.Prelude.{ℕ, List, [], ◌∷◌, ◌++◌, Bool, true, false, not, ◌&&◌, Option, None, Some, is_some, map, length, drop, slice_get}
+use Rattle.std.specs.Prelude.{ℕ, List, [], ◌∷◌, ◌++◌, Bool, true, false, not, ◌&&◌, Option, None, Some, map, length, drop, slice_get}
 use Rattle.std.specs.List.{list_any}
 use Rattle.walk.specs.Walk.{Problem, Item, Open, walk}
 use Rattle.walk.specs.Outcome.{Outcome, outcome}
 use Rattle.object_fields.specs.declared.key.DeviceId.{DeviceId}
 use Rattle.api_claim.specs.declared.types.ResourceClaim.{ResourceClaim}
 use Rattle.api_claim.specs.declared.types.DeviceRequest.{DeviceRequest}
+use Rattle.api_cluster.specs.declared.types.DeviceClass.{DeviceClass}
 use Rattle.api_cluster.specs.declared.types.Pod.{Pod}
 use Rattle.alloc_rules.specs.declared.state.State.{State}
+use Rattle.alloc_rules.specs.declared.state.Stored.{Stored}
 use Rattle.alloc_rules.specs.declared.plan.Grant.{Grant}
 use Rattle.alloc_rules.specs.declared.plan.DeviceResult.{DeviceResult}
 use Rattle.alloc_rules.specs.Names.{device_eq, at_name}
+use Rattle.alloc_rules.specs.Plain.{is_plain_class, plain_class}
 use Rattle.alloc_rules.specs.Pools.{devices_on, is_free}
 use Rattle.alloc_rules.specs.Claims.{Slot, slots_of, wanted}
 
--- the class of the request is there; without selectors each device then meets the request
+-- the class is there, and each device is of it
+abbrev pub is_class : Option (Stored DeviceClass) → Bool
+is_class None = false
+is_class (Some c) = is_plain_class c.object
+
+abbrev pub has_class : State → Option (List ℕ) → Bool
+has_class s None = false
+has_class s (Some name) = is_class (at_name s.classes name)
+
+-- the request is for any device of a class that is there; each device then meets it
 abbrev pub is_met : State → DeviceRequest → Bool
-is_met s r = is_some (at_name s.classes r.exactly.class)
+is_met s r = has_class s (plain_class r)
 
 -- the device meets the slot's request, and no claim holds it
 abbrev pub fits : State → Option DeviceId → Option Slot → Bool

@@ -4,11 +4,12 @@ ghost use Rattle.std.specs.Map.{keys_of};
 ghost use Rattle.alloc_rules.specs.Names.{at_key};
 ghost use Rattle.alloc_rules.specs.Pools.{used_places};
 ghost use Rattle.alloc_rules.specs.Claims.{add_wanted, claim_built, claim_keys, claims_built, schedule_built, slots_of, wanted};
-ghost use Rattle.alloc_rules.specs.Rules.{is_met};
+ghost use Rattle.alloc_rules.specs.Rules.{has_class, is_met};
 ghost use Rattle.alloc_rules.specs.Fits.{fit_on, fits_for, fits_of, node_fit, request_due};
 
 use crate::free::first_free_on;
 use crate::order::SlicePlace;
+use crate::plain::{is_plain_class, plain_class};
 use crate::pool::places_in_use;
 use crate::state::claim_key;
 use crate::{PodState, State};
@@ -95,10 +96,22 @@ fn request_at<'a>(state: &'a State, key: &Key) -> Option<&'a DeviceRequest>
     }
 }
 
+fn has_class(state: &State, name: &Text) -> bool
+    ensures { result ≡ has_class state.now (Some name.now) }
+{
+    match state.classes.get(name) {
+        None => false,
+        Some(class) => is_plain_class(&class.object),
+    }
+}
+
 fn is_met(state: &State, request: &DeviceRequest) -> bool
     ensures { result ≡ is_met state.now request.now }
 {
-    state.classes.contains_key(&request.exactly.class)
+    match plain_class(request) {
+        None => false,
+        Some(class) => has_class(state, class),
+    }
 }
 
 /// The first device of the node for the request, where these are the places in use.

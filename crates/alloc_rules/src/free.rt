@@ -1,11 +1,13 @@
 ghost use Rattle.std.specs.Prelude.{◌≡◌, IfOk, [], find, map, if◌then◌else◌};
 ghost use Rattle.std.specs.List.{list_any};
-ghost use Rattle.alloc_rules.specs.Names.{device_eq, text_eq};
-ghost use Rattle.alloc_rules.specs.Pools.{devices_at, devices_held, devices_on, held, held_by, id_of, is_free, used_places};
+ghost use Rattle.alloc_rules.specs.Names.{device_eq};
+ghost use Rattle.alloc_rules.specs.Plain.{named_node};
+ghost use Rattle.alloc_rules.specs.Pools.{devices_at, devices_held, devices_on, held, held_by, id_of, is_free, is_on, used_places};
 
 use crate::order::SlicePlace;
+use crate::plain::named_node;
 use crate::{DeviceResult, Granted, State};
-use api_slice::{Device, ResourceSlice};
+use api_slice::{Device, ResourceSlice, SliceNodes};
 use dra_values::Text;
 use object_fields::DeviceId;
 use std::alloc::{AllocError, Global};
@@ -99,15 +101,25 @@ fn first_free_at(
     }
 }
 
+/// Whether the slice names the node.
+fn is_on(nodes: &SliceNodes, node: &Text) -> bool
+    ensures { result ≡ is_on (named_node nodes.now) node.now }
+{
+    match named_node(nodes) {
+        None => false,
+        Some(name) => *name == *node,
+    }
+}
+
 fn first_free_where(
     alloc: Global,
     state: &State,
     node: &Text,
     slice: &ResourceSlice,
 ) -> Result<Option<DeviceId>, AllocError>
-    ensures { IfOk result (λ id. id ≡ find (is_free state.now) (if text_eq slice.now.node node.now then map (id_of slice.now) slice.now.devices else [])) }
+    ensures { IfOk result (λ id. id ≡ find (is_free state.now) (if is_on (named_node slice.now.nodes) node.now then map (id_of slice.now) slice.now.devices else [])) }
 {
-    if slice.node == *node {
+    if is_on(&slice.nodes, node) {
         first_free_of(alloc, state, slice)
     } else {
         Ok(None)

@@ -3,6 +3,7 @@ ghost use Rattle.alloc_rules.specs.Names.{at_key};
 ghost use Rattle.alloc_rules.specs.Claims.{is_idle, claim_built, claim_keys, claims_built};
 ghost use Rattle.alloc_rules.specs.State.{changed_at, with_phase, with_grant, with_grants, written_by};
 
+use crate::plain::is_plain_claim;
 use crate::pool::{MOST_DEVICES, has_room};
 use crate::{DeviceResult, Grant, Object, Plan};
 use api_claim::ResourceClaim;
@@ -288,8 +289,8 @@ impl State {
     ghost use Rattle.alloc_rules.specs.Pools.{device_count};
 
     /// Whether the pod is there and Idle, and has at most one claim, which is there without a grant,
-    /// with fewer than 256 users and one request: the form that is built. `AllocError` comes only
-    /// where memory runs out.
+    /// with fewer than 256 users, and plain (`is_plain_claim`): the form that is built. `AllocError`
+    /// comes only where memory runs out.
     #[tactic(auto, unfolding(crate::specs::Claims::schedule_built))]
     pub fn may_schedule(&self, alloc: Global, pod: &Key) -> Result<bool, AllocError>
         ensures { IfOk result (λ built. built ≡ schedule_built self.now pod.now) }
@@ -361,7 +362,7 @@ pub fn claim_key(alloc: Global, pod: &Pod, entry: &PodResourceClaim) -> Result<K
     })
 }
 
-/// Whether a claim is there without a grant, with room for a user, and with one request.
+/// Whether a claim is there that is plain, without a grant, and with room for a user.
 fn claim_built(claim: Option<&ClaimState>) -> bool
     ensures { result ≡ claim_built (option_copied claim.entry) }
 {
@@ -370,7 +371,7 @@ fn claim_built(claim: Option<&ClaimState>) -> bool
         Some(state) => {
             state.grant.is_none()
                 && state.users.len() < MOST_USERS
-                && state.claim.object.requests.as_slice().len() == 1
+                && is_plain_claim(&state.claim.object)
         }
     }
 }
