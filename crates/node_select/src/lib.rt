@@ -7,5 +7,6 @@ mod selector;
 #[cfg(test)]
 mod tests;
 
+pub use number::whole;
 pub use requirement::{Requirement, Test};
 pub use selector::Selector;
