@@ -1,8 +1,25 @@
 //! ResourceSlices: the devices that a driver offers, as fields of `resource.k8s.io/v1`.
 #![tactic(auto)]
 
+mod amount;
+mod attribute;
+mod capacity;
+mod consumption;
+mod counters;
+mod device;
+mod laws;
+mod lists;
+mod nodes;
+mod operator;
+mod qualified;
+mod selector;
+mod slice;
+#[cfg(test)]
+mod tests;
 mod types;
 
+pub use laws::slices_keep_limits;
+pub use selector::read_selector;
 pub use types::{
     Attribute, CounterConsumption, CounterSet, Device, Nodes, Pool, ResourceSlice, SliceNodes,
 };

@@ -1,0 +1,4 @@
+pub mod Lengths
+pub mod Readings
+pub mod Parts
+pub mod Limits

@@ -1,0 +1,326 @@
+-- Why each slice that is read keeps the limits: its devices, and then the whole.
+use Rattle.std.proofs.Common.{◌≡◌, ℕ, suc, ◌+◌, ◌≤◌, ◌<◌, nat_lt, nat_le, ◌≢◌, ℤ, pos, negsuc, cond, map, Bool, true, false, ◌&&◌, ◌||◌, not, List, [], ◌∷◌, ◌++◌, length, Option, Some, None, Result, Ok, Err, refl, sym, ap, subst, append_assoc, length-append, ◌∙◌, arith, if◌then◌else◌, codes, option_and_then}
+use Rattle.std.proofs.lemmas.Bool.Decides.{nat_tests}
+use Rattle.std.proofs.lemmas.List.{append-nil, map-append}
+use Rattle.std.proofs.lemmas.List.Sums.{sum_by-append}
+use Rattle.std.proofs.lemmas.Slice.Eq.{bytes_eq-Decides}
+use Rattle.std.proofs.lemmas.List.Elements.{All-nil, All-cons, All-head, All-tail, All-append}
+use Rattle.std.proofs.lemmas.Map.Views.{All-keys-insert_entry, All-values-insert_entry}
+use Rattle.std.specs.BTreeMap.{insert_entry}
+use Rattle.std.specs.List.{All, list_any, sum_by}
+use Rattle.std.specs.Map.{keys_of, values_of}
+use Rattle.std.specs.Cmp.Lexicographic.{slice_cmp}
+use Rattle.std.specs.Ordering.{match_ordering, nat_cmp}
+use Rattle.std.specs.declared.cmp.Ordering.{Ordering}
+use Rattle.std.specs.declared.cmp.Ordering.TheVariants.{Less, Equal, Greater}
+use Rattle.std.specs.Str.{bytes_eq, chars}
+use Rattle.serde_json.specs.Data.{Data, Items, no_items, item, Members, no_members, member}
+use Rattle.serde_json.specs.Find.{as_object}
+use Rattle.object_fields.specs.Fields.{dns_label_at, dns_subdomain_at, error_at, field_error, if_there, items_length, judged, list_at, member_of, name_at, name_in, natural_at, natural_between, object_at, pool_name_at, whole_at, object_value, optional_at, short_list_at, signed_at, some_or, table_at, text_at, truth_at, unless, unset_at, ◌>>=◌}
+use Rattle.object_fields.specs.Meta.{key_at, labels_at, members_at, meta_at, name_most, namespace_at, version_at as metadata_version_at}
+use Rattle.object_fields.specs.Names.{is_dns_label, is_dns_name, is_pool_name, label_most, pool_most}
+use Rattle.object_fields.specs.Qualified.{cut_at, domain_and_id, domain_most, id_alone, id_most, is_c_identifier, qual_name_in, qualified_from}
+use Rattle.object_fields.specs.declared.error.FieldError.{FieldError}
+use Rattle.object_fields.specs.declared.kind.Kind.TheVariants.{BadName, Doubled, NotOne, OutOfRange, TooLong, TooMany, Missing, Unknown, WrongType}
+use Rattle.object_fields.specs.declared.key.Key.{Key}
+use Rattle.object_fields.specs.declared.meta.ObjectMeta.{ObjectMeta}
+use Rattle.object_fields.specs.declared.meta.Scope.TheVariants.{Cluster}
+use Rattle.object_fields.specs.declared.path.Step.{Step}
+use Rattle.object_fields.specs.declared.path.Step.TheVariants as step
+use Rattle.object_fields.specs.declared.qualified.QualName.{QualName}
+use Rattle.api_slice.specs.Amounts as amounts
+use Rattle.api_slice.specs.Attributes.{attribute_of, attributes_in, attributes_of, attributes_with, chars_most, is_long, new_name, one_value, qual_cmp, short_text_at, version_at, version_text, has_name}
+use Rattle.api_slice.specs.Capacity.{amount_of, capacity_in, capacity_of, capacity_with, together_at, together_most}
+use Rattle.api_slice.specs.Consumption.{amounts_at, amounts_most, amounts_with, consumes_of, draws_from, draws_on, find_set, has_counter, known_counter, new_draw_on}
+use Rattle.api_slice.specs.Counters.{counter_name, counter_sets_at, counters_at, counters_most, counters_with, has_set, new_set_name, sets_from}
+use Rattle.api_slice.specs.Devices.{columns_of, devices_at, devices_most, devices_of, devices_with, has_device, names_from, new_device_name, nothing_more_from, rows_of}
+use Rattle.api_slice.specs.Limits.{AreDifferent, DrawsOn, IsAmount, IsCounterSet, IsFullName, IsLabel, IsPool, IsShort, IsWithinLimits, KeepsLimits, char_count}
+use Rattle.api_slice.specs.Lists.{count_at, count_on, each, each_from, items_or_none, members_length, members_or_none}
+use Rattle.api_slice.specs.Nodes.{device_nodes_of, is_per_device, slice_nodes_at}
+use Rattle.api_slice.specs.Slices.{driver_at, driver_most, pool_at, pool_in, signed_most, slice_of, spec_in}
+use Rattle.api_slice.specs.declared.device.Columns.{Columns}
+use Rattle.api_slice.specs.declared.types.Attribute.{Attribute}
+use Rattle.api_slice.specs.declared.types.Attribute.TheVariants as attribute
+use Rattle.api_slice.specs.declared.types.CounterConsumption.{CounterConsumption}
+use Rattle.api_slice.specs.declared.types.CounterSet.{CounterSet}
+use Rattle.api_slice.specs.declared.types.Device.{Device}
+use Rattle.api_slice.specs.declared.types.Nodes.{Nodes}
+use Rattle.api_slice.specs.declared.types.Pool.{Pool}
+use Rattle.api_slice.specs.declared.types.ResourceSlice.{ResourceSlice}
+use Rattle.api_slice.proofs.Readings.{Gave, gave, done, the_same, not_refused, kept, was_some, at_most, along, given, Taken, choice, taken, or_left, or_right, and_left, and_right, IsDriver, alone, both, either, full_name, length-insert, IsTable, no_entries, one_more, within, if_taken, taken_is, not_false, not_below, named_by, labelled, in_range, numbered, short_items, few_of, few_items, none_named, none_is, push_different}
+use Rattle.api_slice.proofs.Parts.{short_text, short_version, short_one, short_value, attributes_table, IsAnyAmount, capacity_table, counted_in, counted, attributes_in_table, capacity_in_table, an_amount, is_counter_name, counters_table, counted_on, CountersOf, counters_of, SetsMet, AreSets, new_set, sets_keep, counters_keep, is_known, amounts_table, AmountsOf, amounts_in, found, found_itself, a_set, DrawsMet, AreDraws, draws_keep, all_drawn}
+
+-- ---- a device
+
+device_keeps : (driver : List ℕ) (sets : List CounterSet) (path : List Step) (d : Data) (x : Device) → IsDriver driver → attributes_of driver path d ≡ Ok x.attributes → capacity_of driver path d ≡ Ok x.capacity → consumes_of sets path d ≡ Ok x.consumes → KeepsLimits sets x
+device_keeps driver sets path d x is a c draws =
+    let g = gave (optional_at table_at path (codes "attributes") d) (attributes_in driver (path ++ step.Member (codes "attributes") ∷ [])) x.attributes a in
+    let t = attributes_in_table driver (path ++ step.Member (codes "attributes") ∷ []) g.value x.attributes is g.second in
+    let k = gave (optional_at table_at path (codes "capacity") d) (λ ms. together_at path d >>= λ nothing. capacity_in driver (path ++ step.Member (codes "capacity") ∷ []) ms) x.capacity c in
+    let w = gave (together_at path d) (λ nothing. capacity_in driver (path ++ step.Member (codes "capacity") ∷ []) k.value) x.capacity k.second in
+    let u = capacity_in_table driver (path ++ step.Member (codes "capacity") ∷ []) k.value x.capacity is w.second in
+    let few = not_refused (field_error path (codes "capacity") TooMany) (nat_lt together_most (count_at (codes "attributes") d + count_at (codes "capacity") d)) tt w.value w.first in
+    let most = at_most together_most (count_at (codes "attributes") d + count_at (codes "capacity") d) few in
+    let these = counted path (codes "attributes") d g.value g.first in
+    let those = counted path (codes "capacity") d k.value k.first in
+    let drawn = all_drawn sets path d x.consumes draws in
+    record {
+      attribute_names = t.keys;
+      attribute_texts = t.values;
+      capacity_names = u.keys;
+      together = omega (arith, most, these, those, t.size, u.size);
+      draws = drawn.all;
+      drawn = omega (arith, drawn.total, drawn.few);
+    }
+
+-- ---- all devices
+
+-- each element is what the reading gives of the item at its place
+abbrev Column : {A : Type 0} → (List Step → Data → Result A FieldError) → List Step → ℕ → List A → Items → Type 0
+Column r path place [] no_items = Unit {0}
+Column r path place [] (item d ds) = ⊥
+Column r path place (x ∷ xs) no_items = ⊥
+Column r path place (x ∷ xs) (item d ds) = (r (path ++ step.Place place ∷ []) d ≡ Ok x) × Column r path (place + 1) xs ds
+
+record Behind {A : Type 0} (r : List Step → Data → Result A FieldError) (path : List Step) (place : ℕ) (before : List A) (ds : Items) (xs : List A) : Type 0 where
+  own : List A
+  is : before ++ own ≡ xs
+  column : Column r path place own ds
+
+behind : {A : Type 0} (r : List Step → Data → Result A FieldError) (path : List Step) (place : ℕ) (before : List A) (ds : Items) (xs : List A) → each_from r path place before ds ≡ Ok xs → Behind r path place before ds xs
+behind r path place before no_items xs h = record { own = []; is = append-nil before ∙ the_same before xs h; column = tt }
+behind r path place before (item d ds) xs h =
+    let g = gave (r (path ++ step.Place place ∷ []) d) (λ x. each_from r path (place + 1) (before ++ x ∷ []) ds) xs h in
+    let b = behind r path (place + 1) (before ++ g.value ∷ []) ds xs g.second in
+    record { own = g.value ∷ b.own; is = sym (append_assoc before (g.value ∷ []) b.own) ∙ b.is; column = (g.first, b.column) }
+
+column : {A : Type 0} (r : List Step → Data → Result A FieldError) (path : List Step) (ds : Items) (xs : List A) → each r path ds ≡ Ok xs → Column r path 0 xs ds
+column r path ds xs h = let b = behind r path 0 [] ds xs h in along (λ ys. Column r path 0 ys ds) b.own xs b.is b.column
+
+devices_keep : (driver : List ℕ) (sets : List CounterSet) (path : List Step) (place : ℕ) (ds : Items) (names : List (List ℕ)) (attributes : List (List (QualName × Attribute))) (capacity : List (List (QualName × ℤ))) (consumes : List (List CounterConsumption)) (nodes : List (Option Nodes)) →
+    IsDriver driver → Column (attributes_of driver) path place attributes ds → Column (capacity_of driver) path place capacity ds → Column (consumes_of sets) path place consumes ds → All (KeepsLimits sets) (devices_with names attributes capacity consumes nodes)
+devices_keep driver sets path place ds [] attributes capacity consumes nodes is a c q = All-nil (KeepsLimits sets)
+devices_keep driver sets path place ds (n ∷ ns) [] capacity consumes nodes is a c q = All-nil (KeepsLimits sets)
+devices_keep driver sets path place ds (n ∷ ns) (x ∷ xs) [] consumes nodes is a c q = All-nil (KeepsLimits sets)
+devices_keep driver sets path place ds (n ∷ ns) (x ∷ xs) (y ∷ ys) [] nodes is a c q = All-nil (KeepsLimits sets)
+devices_keep driver sets path place ds (n ∷ ns) (x ∷ xs) (y ∷ ys) (k ∷ ks) [] is a c q = All-nil (KeepsLimits sets)
+devices_keep driver sets path place no_items (n ∷ ns) (x ∷ xs) (y ∷ ys) (k ∷ ks) (w ∷ ws) is a c q = absurd a
+devices_keep driver sets path place (item d ds) (n ∷ ns) (x ∷ xs) (y ∷ ys) (k ∷ ks) (w ∷ ws) is a c q =
+    let one : Device = record { name = n; attributes = x; capacity = y; consumes = k; nodes = w } in
+    All-cons (KeepsLimits sets) one (devices_with ns xs ys ks ws)
+    (device_keeps driver sets (path ++ step.Place place ∷ []) d one is a.0 c.0 q.0)
+    (devices_keep driver sets path (place + 1) ds ns xs ys ks ws is a.1 c.1 q.1)
+
+-- ---- names of devices
+
+with_all : (P : List ℕ → Type 0) (names : List (List ℕ)) (attributes : List (List (QualName × Attribute))) (capacity : List (List (QualName × ℤ))) (consumes : List (List CounterConsumption)) (nodes : List (Option Nodes)) → All P names → All P (map (λ d. d.name) (devices_with names attributes capacity consumes nodes))
+with_all P [] attributes capacity consumes nodes h = All-nil P
+with_all P (n ∷ ns) [] capacity consumes nodes h = All-nil P
+with_all P (n ∷ ns) (a ∷ attributes) [] consumes nodes h = All-nil P
+with_all P (n ∷ ns) (a ∷ attributes) (c ∷ capacity) [] nodes h = All-nil P
+with_all P (n ∷ ns) (a ∷ attributes) (c ∷ capacity) (k ∷ consumes) [] h = All-nil P
+with_all P (n ∷ ns) (a ∷ attributes) (c ∷ capacity) (k ∷ consumes) (w ∷ nodes) h =
+    All-cons P n (map (λ d. d.name) (devices_with ns attributes capacity consumes nodes)) (All-head P n ns h) (with_all P ns attributes capacity consumes nodes (All-tail P n ns h))
+
+with_different : (names : List (List ℕ)) (attributes : List (List (QualName × Attribute))) (capacity : List (List (QualName × ℤ))) (consumes : List (List CounterConsumption)) (nodes : List (Option Nodes)) → AreDifferent names → AreDifferent (map (λ d. d.name) (devices_with names attributes capacity consumes nodes))
+with_different [] attributes capacity consumes nodes h = tt
+with_different (n ∷ ns) [] capacity consumes nodes h = tt
+with_different (n ∷ ns) (a ∷ attributes) [] consumes nodes h = tt
+with_different (n ∷ ns) (a ∷ attributes) (c ∷ capacity) [] nodes h = tt
+with_different (n ∷ ns) (a ∷ attributes) (c ∷ capacity) (k ∷ consumes) [] h = tt
+with_different (n ∷ ns) (a ∷ attributes) (c ∷ capacity) (k ∷ consumes) (w ∷ nodes) h =
+    (with_all (λ other. other ≢ n) ns attributes capacity consumes nodes h.0, with_different ns attributes capacity consumes nodes h.1)
+
+with_length : (names : List (List ℕ)) (attributes : List (List (QualName × Attribute))) (capacity : List (List (QualName × ℤ))) (consumes : List (List CounterConsumption)) (nodes : List (Option Nodes)) → length (devices_with names attributes capacity consumes nodes) ≤ length names
+with_length [] attributes capacity consumes nodes = omega arith
+with_length (n ∷ ns) [] capacity consumes nodes = omega arith
+with_length (n ∷ ns) (a ∷ attributes) [] consumes nodes = omega arith
+with_length (n ∷ ns) (a ∷ attributes) (c ∷ capacity) [] nodes = omega arith
+with_length (n ∷ ns) (a ∷ attributes) (c ∷ capacity) (k ∷ consumes) [] = omega arith
+with_length (n ∷ ns) (a ∷ attributes) (c ∷ capacity) (k ∷ consumes) (w ∷ nodes) = omega (arith, with_length ns attributes capacity consumes nodes)
+
+record AreNames (most : ℕ) (names : List (List ℕ)) : Type 0 where
+  labels : All IsLabel names
+  different : AreDifferent names
+  size : length names ≤ most
+
+new_name_of : (path : List Step) (before : List (List ℕ)) (value : Data) (name : List ℕ) → new_device_name path before value ≡ Ok name → IsLabel name × All (λ other. other ≢ name) before
+new_name_of path before value name h =
+    let g = gave (object_value path value >>= dns_label_at path (codes "name")) (λ text. unless (field_error path (codes "name") Doubled) (has_device text before) text) name h in
+    let o = gave (object_value path value) (dns_label_at path (codes "name")) g.value g.first in
+    let e : g.value ≡ name = kept (field_error path (codes "name") Doubled) (has_device g.value before) g.value name g.second in
+    let b : has_device g.value before ≡ false = not_refused (field_error path (codes "name") Doubled) (has_device g.value before) g.value name g.second in
+    let l : IsLabel g.value = labelled path (codes "name") o.value g.value o.second in
+    (along IsLabel g.value name e l, along (λ n. All (λ other. other ≢ n) before) g.value name e (none_is g.value before b))
+
+names_keep : (path : List Step) (place most : ℕ) (before : List (List ℕ)) (ds : Items) (out : List (List ℕ)) → AreNames most before → names_from path place before ds ≡ Ok out → AreNames (most + items_length ds) out
+names_keep path place most before no_items out t h =
+    let more : AreNames (most + 0) before = record { labels = t.labels; different = t.different; size = omega (arith, t.size) } in
+    along (AreNames (most + 0)) before out (the_same before out h) more
+names_keep path place most before (item d ds) out t h =
+    let g = gave (new_device_name (path ++ step.Place place ∷ []) before d) (λ name. names_from path (place + 1) (before ++ name ∷ []) ds) out h in
+    let n = new_name_of (path ++ step.Place place ∷ []) before d g.value g.first in
+    let one : AreNames (most + 1) (before ++ g.value ∷ []) = record {
+      labels = All-append IsLabel before (g.value ∷ []) t.labels (All-cons IsLabel g.value [] n.0 (All-nil IsLabel));
+      different = push_different before g.value t.different n.1;
+      size = let s = length-append before (g.value ∷ []) in omega (arith, s, t.size);
+    } in
+    let r = names_keep path (place + 1) (most + 1) (before ++ g.value ∷ []) ds out one g.second in
+    record { labels = r.labels; different = r.different; size = omega (arith, r.size) }
+
+-- ---- all of them
+
+record AllKeep (sets : List CounterSet) (most : ℕ) (devices : List Device) : Type 0 where
+  count : length devices ≤ most
+  labels : All IsLabel (map (λ d. d.name) devices)
+  different : AreDifferent (map (λ d. d.name) devices)
+  each_one : All (KeepsLimits sets) devices
+
+columns_keep : (driver : List ℕ) (sets : List CounterSet) (per_device : Bool) (path : List Step) (ds : Items) (out : Columns) → IsDriver driver → columns_of driver sets per_device path ds ≡ Ok out → AllKeep sets (items_length ds) (devices_of out)
+columns_keep driver sets per_device path ds out is h =
+    let n = gave (names_from path 0 [] ds) (λ names.
+    each (attributes_of driver) path ds >>= λ attributes.
+    each (capacity_of driver) path ds >>= λ capacity.
+    each (consumes_of sets) path ds >>= λ consumes.
+    each (device_nodes_of per_device) path ds >>= λ nodes.
+    Ok (record { names = names; attributes = attributes; capacity = capacity; consumes = consumes; nodes = nodes })) out h in
+    let a = gave (each (attributes_of driver) path ds) (λ attributes.
+    each (capacity_of driver) path ds >>= λ capacity.
+    each (consumes_of sets) path ds >>= λ consumes.
+    each (device_nodes_of per_device) path ds >>= λ nodes.
+    Ok (record { names = n.value; attributes = attributes; capacity = capacity; consumes = consumes; nodes = nodes })) out n.second in
+    let c = gave (each (capacity_of driver) path ds) (λ capacity.
+    each (consumes_of sets) path ds >>= λ consumes.
+    each (device_nodes_of per_device) path ds >>= λ nodes.
+    Ok (record { names = n.value; attributes = a.value; capacity = capacity; consumes = consumes; nodes = nodes })) out a.second in
+    let k = gave (each (consumes_of sets) path ds) (λ consumes.
+    each (device_nodes_of per_device) path ds >>= λ nodes.
+    Ok (record { names = n.value; attributes = a.value; capacity = c.value; consumes = consumes; nodes = nodes })) out c.second in
+    let w = gave (each (device_nodes_of per_device) path ds) (λ nodes.
+    Ok (record { names = n.value; attributes = a.value; capacity = c.value; consumes = k.value; nodes = nodes })) out k.second in
+    let made : Columns = record { names = n.value; attributes = a.value; capacity = c.value; consumes = k.value; nodes = w.value } in
+    let r = names_keep path 0 0 [] ds n.value (record { labels = All-nil IsLabel; different = tt; size = omega arith }) n.first in
+    let s = with_length n.value a.value c.value k.value w.value in
+    along (λ x. AllKeep sets (items_length ds) (devices_of x)) made out (the_same made out w.second)
+    (record {
+      count = omega (arith, s, r.size);
+      labels = with_all IsLabel n.value a.value c.value k.value w.value r.labels;
+      different = with_different n.value a.value c.value k.value w.value r.different;
+      each_one = devices_keep driver sets path 0 ds n.value a.value c.value k.value w.value is (column (attributes_of driver) path ds a.value a.first) (column (capacity_of driver) path ds c.value c.first) (column (consumes_of sets) path ds k.value k.first);
+    })
+
+rows_keep : (driver : List ℕ) (sets : List CounterSet) (per_device : Bool) (path : List Step) (ds : Items) (out : List Device) → IsDriver driver → rows_of driver sets per_device path ds ≡ Ok out → AllKeep sets (items_length ds) out
+rows_keep driver sets per_device path ds out is h =
+    let c = gave (columns_of driver sets per_device path ds) (λ columns. nothing_more_from path 0 ds >>= λ nothing. Ok (devices_of columns)) out h in
+    let m = gave (nothing_more_from path 0 ds) (λ nothing. Ok (devices_of c.value)) out c.second in
+    along (AllKeep sets (items_length ds)) (devices_of c.value) out (the_same (devices_of c.value) out m.second)
+    (columns_keep driver sets per_device path ds c.value is c.first)
+
+all_keep : (driver : List ℕ) (sets : List CounterSet) (per_device : Bool) (path : List Step) (spec : Data) (out : List Device) → IsDriver driver → devices_at driver sets per_device path spec ≡ Ok out → AllKeep sets devices_most out
+all_keep driver sets per_device path spec out is h =
+    let g = gave (optional_at (short_list_at devices_most) path (codes "devices") spec) (λ ds.
+    rows_of driver sets per_device (path ++ step.Member (codes "devices") ∷ []) (items_or_none ds)) out h in
+    let r = rows_keep driver sets per_device (path ++ step.Member (codes "devices") ∷ []) (items_or_none g.value) out is g.second in
+    let few = few_items devices_most path (codes "devices") spec g.value g.first in
+    record { count = omega (arith, few, r.count); labels = r.labels; different = r.different; each_one = r.each_one }
+
+-- ---- the slice
+
+a_driver : (path : List Step) (spec : Data) (driver : List ℕ) → driver_at path spec ≡ Ok driver → IsDriver driver
+a_driver path spec driver h =
+    let g = gave (text_at path (codes "driver") spec) (name_in (path ++ step.Member (codes "driver") ∷ []) driver_most is_dns_name) driver h in
+    let t = taken (path ++ step.Member (codes "driver") ∷ []) driver_most (is_dns_name g.value) g.value driver g.second in
+    along IsDriver g.value driver t.same (record { size = t.size; form = t.form })
+
+a_pool_in : (path : List Step) (d : Data) (p : Pool) → pool_in path d ≡ Ok p → IsPool p
+a_pool_in path d p h =
+    let n = gave (pool_name_at path (codes "name") d) (λ name.
+    natural_at 0 signed_most path (codes "generation") d >>= λ generation.
+    natural_at 1 signed_most path (codes "resourceSliceCount") d >>= λ slices.
+    Ok (record { name = name; generation = generation; slices = slices })) p h in
+    let g = gave (natural_at 0 signed_most path (codes "generation") d) (λ generation.
+    natural_at 1 signed_most path (codes "resourceSliceCount") d >>= λ slices.
+    Ok (record { name = n.value; generation = generation; slices = slices })) p n.second in
+    let c = gave (natural_at 1 signed_most path (codes "resourceSliceCount") d) (λ slices.
+    Ok (record { name = n.value; generation = g.value; slices = slices })) p g.second in
+    let made : Pool = record { name = n.value; generation = g.value; slices = c.value } in
+    let name = named_by pool_most is_pool_name path (codes "name") d n.value n.first in
+    let low = numbered 0 signed_most path (codes "generation") d g.value g.first in
+    let high = numbered 1 signed_most path (codes "resourceSliceCount") d c.value c.first in
+    along IsPool made p (the_same made p c.second)
+    (record { name = name.0; name_form = name.1; generation = low.1; slices_least = high.0; slices_most = high.1 })
+
+a_pool : (path : List Step) (spec : Data) (p : Pool) → pool_at path spec ≡ Ok p → IsPool p
+a_pool path spec p h =
+    let g = gave (object_at path (codes "pool") spec) (pool_in (path ++ step.Member (codes "pool") ∷ [])) p h in
+    a_pool_in (path ++ step.Member (codes "pool") ∷ []) g.value p g.second
+
+a_key : (path : List Step) (d : Data) (k : Key) → key_at Cluster path d ≡ Ok k → (length k.name ≤ name_most) × (is_dns_name k.name ≡ true)
+a_key path d k h =
+    let n = gave (dns_subdomain_at name_most path (codes "name") d) (λ name. namespace_at Cluster path d >>= λ namespace. Ok (record { namespace = namespace; name = name })) k h in
+    let s = gave (namespace_at Cluster path d) (λ namespace. Ok (record { namespace = namespace; name = n.value })) k n.second in
+    let made : Key = record { namespace = s.value; name = n.value } in
+    along (λ (x : Key). (length x.name ≤ name_most) × (is_dns_name x.name ≡ true)) made k (the_same made k s.second)
+    (named_by name_most is_dns_name path (codes "name") d n.value n.first)
+
+a_name : (d : Data) (m : ObjectMeta) → meta_at Cluster d ≡ Ok m → (length m.key.name ≤ name_most) × (is_dns_name m.key.name ≡ true)
+a_name d m h =
+    let o = gave (object_at [] (codes "metadata") d) (members_at Cluster (step.Member (codes "metadata") ∷ [])) m h in
+    let k = gave (key_at Cluster (step.Member (codes "metadata") ∷ []) o.value) (λ key. labels_at (step.Member (codes "metadata") ∷ []) o.value >>= λ labels. metadata_version_at (step.Member (codes "metadata") ∷ []) o.value >>= λ version.
+    Ok (record { key = key; labels = labels; version = version })) m o.second in
+    let l = gave (labels_at (step.Member (codes "metadata") ∷ []) o.value) (λ labels. metadata_version_at (step.Member (codes "metadata") ∷ []) o.value >>= λ version.
+    Ok (record { key = k.value; labels = labels; version = version })) m k.second in
+    let v = gave (metadata_version_at (step.Member (codes "metadata") ∷ []) o.value) (λ version.
+    Ok (record { key = k.value; labels = l.value; version = version })) m l.second in
+    let made : ObjectMeta = record { key = k.value; labels = l.value; version = v.value } in
+    along (λ (x : ObjectMeta). (length x.key.name ≤ name_most) × (is_dns_name x.key.name ≡ true)) made m (the_same made m v.second)
+    (a_key (step.Member (codes "metadata") ∷ []) o.value k.value k.first)
+
+spec_keeps : (name : List ℕ) (version : Option ℕ) (path : List Step) (spec : Data) (s : ResourceSlice) → length name ≤ name_most → is_dns_name name ≡ true → spec_in name version path spec ≡ Ok s → IsWithinLimits s
+spec_keeps name version path spec s size form h =
+    let d = gave (driver_at path spec) (λ driver.
+    pool_at path spec >>= λ pool.
+    slice_nodes_at path spec >>= λ nodes.
+    counter_sets_at path spec >>= λ counters.
+    devices_at driver counters (is_per_device nodes) path spec >>= λ devices.
+    Ok (record { name = name; version = version; driver = driver; pool = pool; nodes = nodes; counters = counters; devices = devices })) s h in
+    let p = gave (pool_at path spec) (λ pool.
+    slice_nodes_at path spec >>= λ nodes.
+    counter_sets_at path spec >>= λ counters.
+    devices_at d.value counters (is_per_device nodes) path spec >>= λ devices.
+    Ok (record { name = name; version = version; driver = d.value; pool = pool; nodes = nodes; counters = counters; devices = devices })) s d.second in
+    let n = gave (slice_nodes_at path spec) (λ nodes.
+    counter_sets_at path spec >>= λ counters.
+    devices_at d.value counters (is_per_device nodes) path spec >>= λ devices.
+    Ok (record { name = name; version = version; driver = d.value; pool = p.value; nodes = nodes; counters = counters; devices = devices })) s p.second in
+    let c = gave (counter_sets_at path spec) (λ counters.
+    devices_at d.value counters (is_per_device n.value) path spec >>= λ devices.
+    Ok (record { name = name; version = version; driver = d.value; pool = p.value; nodes = n.value; counters = counters; devices = devices })) s n.second in
+    let v = gave (devices_at d.value c.value (is_per_device n.value) path spec) (λ devices.
+    Ok (record { name = name; version = version; driver = d.value; pool = p.value; nodes = n.value; counters = c.value; devices = devices })) s c.second in
+    let made : ResourceSlice = record { name = name; version = version; driver = d.value; pool = p.value; nodes = n.value; counters = c.value; devices = v.value } in
+    let is = a_driver path spec d.value d.first in
+    let sets = counters_keep path spec c.value c.first in
+    let all = all_keep d.value c.value (is_per_device n.value) path spec v.value is v.first in
+    along IsWithinLimits made s (the_same made s v.second)
+    (record {
+      name = size;
+      name_form = form;
+      driver = is.size;
+      driver_form = is.form;
+      pool = a_pool path spec p.value p.first;
+      sets = sets.all;
+      set_names = sets.different;
+      counters = omega (arith, sets.total, sets.few);
+      device_count = all.count;
+      device_names = all.labels;
+      device_names_differ = all.different;
+      devices = all.each_one;
+    })
+
+pub slice_keeps : (d : Data) (s : ResourceSlice) → slice_of d ≡ Ok s → IsWithinLimits s
+slice_keeps d s h =
+    let m = gave (meta_at Cluster d) (λ meta. object_at [] (codes "spec") d >>= spec_in meta.key.name meta.version (step.Member (codes "spec") ∷ [])) s h in
+    let o = gave (object_at [] (codes "spec") d) (spec_in m.value.key.name m.value.version (step.Member (codes "spec") ∷ [])) s m.second in
+    let n = a_name d m.value m.first in
+    spec_keeps m.value.key.name m.value.version (step.Member (codes "spec") ∷ []) o.value s n.0 n.1 o.second

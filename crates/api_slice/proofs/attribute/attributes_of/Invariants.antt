@@ -1,0 +1,12 @@
+use Rattle.std.proofs.Common.{◌≡◌, []}
+use Rattle.serde_json.specs.View.{members_view}
+use Rattle.api_slice.specs.Attributes.{attributes_with}
+use Rattle.api_slice.proofs.attribute.attributes_of.Given as goal
+
+-- the members that are left, behind those read, are all members
+abbrev pub invariant-loop-key : goal.invariant-loop-key
+invariant-loop-key l = record {
+  can : (goal.iterator-loop-key).can_next l.key-iterator;
+  finite : (goal.iterator-loop-key).is_finite l.key-iterator;
+  rest : attributes_with l.driver l.path l.attributes (members_view l.key-iterator) ≡ attributes_with l.driver l.path [] (members_view l.members.entries);
+}

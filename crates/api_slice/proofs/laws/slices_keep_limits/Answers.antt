@@ -1,0 +1,5 @@
+use Rattle.api_slice.proofs.Limits.{slice_keeps}
+use Rattle.api_slice.proofs.laws.slices_keep_limits.Goals as goal
+
+pub returns : goal.returns
+returns c = slice_keeps

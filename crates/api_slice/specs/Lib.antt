@@ -1,0 +1,11 @@
+pub mod Lists
+pub mod Amounts
+pub mod Selectors
+pub mod Nodes
+pub mod Counters
+pub mod Consumption
+pub mod Attributes
+pub mod Capacity
+pub mod Devices
+pub mod Slices
+pub mod Limits

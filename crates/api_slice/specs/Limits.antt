@@ -1,0 +1,103 @@
+-- The limits and the name rules that each slice keeps that is read (API reference of
+-- resource.k8s.io/v1).
+use Rattle.std.specs.Prelude.{◌≡◌, ℕ, ◌+◌, ◌≤◌, ◌≢◌, ℤ, pos, true, List, [], ◌∷◌, map, length, Some}
+use Rattle.std.specs.List.{All, sum_by}
+use Rattle.std.specs.Map.{keys_of, values_of}
+use Rattle.std.specs.Str.{chars}
+use Rattle.object_fields.specs.Meta.{name_most}
+use Rattle.object_fields.specs.Names.{is_dns_label, is_dns_name, is_pool_name, pool_most}
+use Rattle.object_fields.specs.Qualified.{domain_most, id_most, is_c_identifier}
+use Rattle.object_fields.specs.declared.qualified.QualName.{QualName}
+use Rattle.api_slice.specs.Attributes.{chars_most}
+use Rattle.api_slice.specs.Capacity.{together_most}
+use Rattle.api_slice.specs.Consumption.{amounts_most, find_set, has_counter}
+use Rattle.api_slice.specs.Counters.{counters_most}
+use Rattle.api_slice.specs.Devices.{devices_most}
+use Rattle.api_slice.specs.Slices.{driver_most, signed_most}
+use Rattle.api_slice.specs.declared.types.Attribute.{Attribute}
+use Rattle.api_slice.specs.declared.types.Attribute.TheVariants.{Int, Bool, Text, Version}
+use Rattle.api_slice.specs.declared.types.CounterConsumption.{CounterConsumption}
+use Rattle.api_slice.specs.declared.types.CounterSet.{CounterSet}
+use Rattle.api_slice.specs.declared.types.Device.{Device}
+use Rattle.api_slice.specs.declared.types.Pool.{Pool}
+use Rattle.api_slice.specs.declared.types.ResourceSlice.{ResourceSlice}
+
+-- no name comes twice
+abbrev pub AreDifferent : List (List ℕ) → Type 0
+AreDifferent [] = Unit {0}
+AreDifferent (name ∷ names) = All (λ other. other ≢ name) names × AreDifferent names
+
+abbrev pub IsLabel : List ℕ → Type 0
+IsLabel name = is_dns_label name ≡ true
+
+-- a number that isn't negative
+pub record IsAmount (n : ℤ) : Type 0 where
+  pub size : ℕ
+  pub is : n ≡ pos size
+
+-- ---- attributes and capacities
+
+-- a full name: a DNS subdomain of at most 63 bytes and a C identifier of at most 32
+pub record IsFullName (q : QualName) : Type 0 where
+  pub domain : length q.domain ≤ domain_most
+  pub domain_form : is_dns_name q.domain ≡ true
+  pub id : length q.id ≤ id_most
+  pub id_form : is_c_identifier q.id ≡ true
+
+-- how many characters the text of a string or of a version has
+abbrev pub char_count : Attribute → ℕ
+char_count (Int n) = 0
+char_count (Bool b) = 0
+char_count (Text text) = length (chars text)
+char_count (Version text) = length (chars text)
+
+pub record IsShort (a : Attribute) : Type 0 where
+  pub size : char_count a ≤ chars_most
+
+-- ---- counters
+
+pub record IsCounterSet (c : CounterSet) : Type 0 where
+  pub name : IsLabel c.name
+  pub counters : All IsLabel (keys_of c.counters)
+  pub amounts : All IsAmount (values_of c.counters)
+
+-- what is drawn from a set of the slice, by counters of that set
+pub record DrawsOn (sets : List CounterSet) (c : CounterConsumption) : Type 0 where
+  pub set : CounterSet
+  pub is_set : find_set c.set sets ≡ Some set
+  pub counters : All (λ name. has_counter name set.counters ≡ true) (keys_of c.amounts)
+  pub amounts : All IsAmount (values_of c.amounts)
+
+-- ---- devices
+
+-- of a slice with these counter sets
+pub record KeepsLimits (sets : List CounterSet) (d : Device) : Type 0 where
+  pub attribute_names : All IsFullName (keys_of d.attributes)
+  pub attribute_texts : All IsShort (values_of d.attributes)
+  pub capacity_names : All IsFullName (keys_of d.capacity)
+  pub together : length d.attributes + length d.capacity ≤ together_most
+  pub draws : All (DrawsOn sets) d.consumes
+  pub drawn : sum_by (λ c. length c.amounts) d.consumes ≤ amounts_most
+
+-- ---- the slice
+
+pub record IsPool (p : Pool) : Type 0 where
+  pub name : length p.name ≤ pool_most
+  pub name_form : is_pool_name p.name ≡ true
+  pub generation : p.generation ≤ signed_most
+  pub slices_least : 1 ≤ p.slices
+  pub slices_most : p.slices ≤ signed_most
+
+pub record IsWithinLimits (s : ResourceSlice) : Type 0 where
+  pub name : length s.name ≤ name_most
+  pub name_form : is_dns_name s.name ≡ true
+  pub driver : length s.driver ≤ driver_most
+  pub driver_form : is_dns_name s.driver ≡ true
+  pub pool : IsPool s.pool
+  pub sets : All IsCounterSet s.counters
+  pub set_names : AreDifferent (map (λ c. c.name) s.counters)
+  pub counters : sum_by (λ c. length c.counters) s.counters ≤ counters_most
+  pub device_count : length s.devices ≤ devices_most
+  pub device_names : All IsLabel (map (λ d. d.name) s.devices)
+  pub device_names_differ : AreDifferent (map (λ d. d.name) s.devices)
+  pub devices : All (KeepsLimits s.counters) s.devices

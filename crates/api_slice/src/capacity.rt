@@ -1,0 +1,79 @@
+ghost use Rattle.std.specs.Prelude.{◌≡◌, []};
+ghost use Rattle.serde_json.specs.View.{members_view, view};
+ghost use Rattle.object_fields.specs.Fields.{Reads};
+ghost use Rattle.api_slice.specs.Capacity as fields;
+
+use crate::amount::read_quantity;
+use crate::lists::{count_in, exceed};
+use crate::qualified::new_name;
+use dra_values::Table;
+use object_fields::{
+    FieldError, Kind, Path, QualName, optional_table, or_memory, unset, value_object,
+};
+use quantity::Quantity;
+use serde_json::{Map, Value};
+use std::alloc::Global;
+
+/// The most attributes and capacities of a device together (API reference of `resource.k8s.io/v1`).
+const TOGETHER_MOST: usize = 32;
+
+/// The capacities of a device by their full names; none where they are missing. It is TooMany at
+/// `capacity` where these and the attributes are too many together.
+pub(crate) fn read_capacity(
+    alloc: Global,
+    device: &Value,
+    path: &Path,
+    driver: &str,
+) -> Result<Table<QualName, Quantity>, FieldError>
+    ensures { Reads result (fields.capacity_of driver.now path.now (view device.now)) }
+{
+    let members = optional_table(alloc, device, path, "capacity")?;
+    check_together(alloc, device, path)?;
+    match members {
+        Some(members) => {
+            let path = path.member(alloc, "capacity")?;
+            capacity_with(alloc, members, &path, driver)
+        }
+        None => Ok(Table::new(alloc)),
+    }
+}
+
+fn check_together(alloc: Global, device: &Value, path: &Path) -> Result<(), FieldError>
+    ensures { Reads result (fields.together_at path.now (view device.now)) }
+{
+    let attributes = count_in(device, "attributes");
+    if exceed(TOGETHER_MOST, attributes, count_in(device, "capacity")) {
+        Err(FieldError::of_field(alloc, path, "capacity", Kind::TooMany))
+    } else {
+        Ok(())
+    }
+}
+
+fn capacity_with(
+    alloc: Global,
+    members: &Map<String, Value>,
+    path: &Path,
+    driver: &str,
+) -> Result<Table<QualName, Quantity>, FieldError>
+    ensures { Reads result
+        (fields.capacity_with driver.now path.now [] (members_view members.now.entries)) }
+{
+    let mut capacity = Table::new(alloc);
+    for (key, value) in members {
+        let at = path.key(alloc, key.as_str())?;
+        let name = new_name(alloc, key.as_str(), &at, driver, &capacity)?;
+        let amount = read_one(alloc, value, &at)?;
+        or_memory(alloc, capacity.insert(name, amount))?;
+    }
+    Ok(capacity)
+}
+
+/// A capacity's value, at its own path.
+fn read_one(alloc: Global, value: &Value, path: &Path) -> Result<Quantity, FieldError>
+    ensures { Reads result (fields.amount_of path.now (view value.now)) }
+{
+    let object = value_object(alloc, value, path)?;
+    let amount = read_quantity(alloc, object, path, "value")?;
+    unset(alloc, object, path, "requestPolicy")?;
+    Ok(amount)
+}

@@ -1,0 +1,118 @@
+ghost use Rattle.std.specs.Prelude.{◌≡◌, []};
+ghost use Rattle.serde_json.specs.View.{items_view, members_view, view};
+ghost use Rattle.object_fields.specs.Fields.{Reads};
+ghost use Rattle.api_slice.specs.Counters as fields;
+
+use crate::amount::read_amount;
+use crate::lists::{count_on, items_or_none};
+use crate::types::CounterSet;
+use dra_values::{Seq, Table, Text};
+use object_fields::{
+    FieldError, Kind, Path, label_of, optional_list, or_memory, read_dns_label, table, value_object,
+};
+use quantity::Quantity;
+use serde_json::{Map, Value};
+use std::alloc::Global;
+
+/// The most counters of a slice (API reference of `resource.k8s.io/v1`).
+const COUNTERS_MOST: usize = 32;
+
+/// The counter sets of a spec; none where they are missing.
+pub(crate) fn read_counter_sets(
+    alloc: Global,
+    spec: &Value,
+    path: &Path,
+) -> Result<Seq<CounterSet>, FieldError>
+    ensures { Reads result (fields.counter_sets_at path.now (view spec.now)) }
+{
+    let values = optional_list(alloc, spec, path, "sharedCounters")?;
+    let path = path.member(alloc, "sharedCounters")?;
+    each_set(alloc, items_or_none(values), &path)
+}
+
+fn each_set(alloc: Global, values: &[Value], path: &Path) -> Result<Seq<CounterSet>, FieldError>
+    ensures { Reads result (fields.sets_from path.now 0 0 [] (items_view values.now)) }
+{
+    let mut sets = Seq::empty(alloc);
+    let mut met = 0;
+    for place in 0..values.len() {
+        let at = path.place(alloc, place)?;
+        let name = new_set_name(alloc, &values[place], &at, sets.as_slice())?;
+        let (counters, more) = read_counters(alloc, &values[place], path, &at, met)?;
+        or_memory(alloc, sets.push(CounterSet { name, counters }))?;
+        met = more;
+    }
+    Ok(sets)
+}
+
+/// The name of a set that none of these has.
+fn new_set_name(
+    alloc: Global,
+    value: &Value,
+    path: &Path,
+    sets: &[CounterSet],
+) -> Result<Text, FieldError>
+    ensures { Reads result (fields.new_set_name path.now sets.now (view value.now)) }
+{
+    let object = value_object(alloc, value, path)?;
+    let name = read_dns_label(alloc, object, path, "name")?;
+    if has_set(sets, name.as_str()) {
+        Err(FieldError::of_field(alloc, path, "name", Kind::Doubled))
+    } else {
+        Ok(name)
+    }
+}
+
+fn has_set(sets: &[CounterSet], name: &str) -> bool
+    ensures { result ≡ fields.has_set name.now sets.now }
+{
+    for set in sets {
+        if set.name.as_str() == name {
+            return true;
+        }
+    }
+    false
+}
+
+/// The counters of a set, and how many are met with them. It is TooMany at the list's path where
+/// these are too many.
+fn read_counters(
+    alloc: Global,
+    object: &Value,
+    list: &Path,
+    path: &Path,
+    met: usize,
+) -> Result<(Table<Text, Quantity>, usize), FieldError>
+    ensures { Reads result (fields.counters_at list.now path.now met (view object.now)) }
+{
+    let members = table(alloc, object, path, "counters")?;
+    let met = count_on(alloc, list, COUNTERS_MOST, met, members)?;
+    let path = path.member(alloc, "counters")?;
+    let counters = counters_of(alloc, members, &path)?;
+    Ok((counters, met))
+}
+
+fn counters_of(
+    alloc: Global,
+    members: &Map<String, Value>,
+    path: &Path,
+) -> Result<Table<Text, Quantity>, FieldError>
+    ensures { Reads result (fields.counters_with path.now [] (members_view members.now.entries)) }
+{
+    let mut counters = Table::new(alloc);
+    for (key, value) in members {
+        let at = path.key(alloc, key.as_str())?;
+        let name = counter_name(alloc, key.as_str(), &at)?;
+        let amount = read_amount(alloc, value, &at)?;
+        or_memory(alloc, counters.insert(name, amount))?;
+    }
+    Ok(counters)
+}
+
+/// A counter's name, a DNS label. TooLong, then BadName.
+#[tactic(auto, unfolding(crate::specs::Counters::counter_name))]
+fn counter_name(alloc: Global, key: &str, path: &Path) -> Result<Text, FieldError>
+    ensures { Reads result (fields.counter_name path.now key.now) }
+{
+    label_of(alloc, path, key)
+}

@@ -1,0 +1,268 @@
+ghost use Rattle.std.specs.Prelude.{◌≡◌, [], IfOk};
+ghost use Rattle.serde_json.specs.View.{items_view, view};
+ghost use Rattle.object_fields.specs.Fields.{Reads};
+ghost use Rattle.api_slice.specs.Devices as fields;
+ghost use Rattle.api_slice.specs.Attributes.{attributes_of};
+ghost use Rattle.api_slice.specs.Capacity.{capacity_of};
+ghost use Rattle.api_slice.specs.Consumption.{consumes_of};
+ghost use Rattle.api_slice.specs.Lists.{each};
+ghost use Rattle.api_slice.specs.Nodes.{device_nodes_of};
+
+use crate::attribute::read_attributes;
+use crate::capacity::read_capacity;
+use crate::consumption::read_consumption;
+use crate::lists::items_or_none;
+use crate::nodes::read_device_nodes;
+use crate::types::{Attribute, CounterConsumption, CounterSet, Device, Nodes};
+use dra_values::{Seq, Table, Text};
+use object_fields::{
+    FieldError, Kind, Path, QualName, optional_short_list, or_memory, read_dns_label, unset,
+    value_object,
+};
+use quantity::Quantity;
+use serde_json::Value;
+use std::alloc::{AllocError, Global};
+
+/// The most devices of a slice (API reference of `resource.k8s.io/v1`).
+const DEVICES_MOST: usize = 128;
+
+/// The devices of a spec; none where they are missing. Each row of fields is read of all devices
+/// before the next row of any. The driver, the counter sets and `per_device`, whether each device
+/// has its own nodes, are the slice's.
+pub(crate) fn read_devices(
+    alloc: Global,
+    spec: &Value,
+    path: &Path,
+    driver: &str,
+    sets: &[CounterSet],
+    per_device: bool,
+) -> Result<Seq<Device>, FieldError>
+    ensures { Reads result
+        (fields.devices_at driver.now sets.now per_device path.now (view spec.now)) }
+{
+    let values = optional_short_list(alloc, spec, path, "devices", DEVICES_MOST)?;
+    let path = path.member(alloc, "devices")?;
+    read_rows(
+        alloc,
+        items_or_none(values),
+        &path,
+        driver,
+        sets,
+        per_device,
+    )
+}
+
+fn read_rows(
+    alloc: Global,
+    values: &[Value],
+    path: &Path,
+    driver: &str,
+    sets: &[CounterSet],
+    per_device: bool,
+) -> Result<Seq<Device>, FieldError>
+    ensures { Reads result
+        (fields.rows_of driver.now sets.now per_device path.now (items_view values.now)) }
+{
+    let columns = read_columns(alloc, values, path, driver, sets, per_device)?;
+    each_nothing_more(alloc, values, path)?;
+    or_memory(alloc, devices_of(alloc, columns))
+}
+
+/// The fields of devices, each list in the order of the devices.
+#[derive(Drop)]
+pub(crate) struct Columns {
+    names: Seq<Text>,
+    attributes: Seq<Table<QualName, Attribute>>,
+    capacity: Seq<Table<QualName, Quantity>>,
+    consumes: Seq<Seq<CounterConsumption>>,
+    nodes: Seq<Option<Nodes>>,
+}
+
+fn read_columns(
+    alloc: Global,
+    values: &[Value],
+    path: &Path,
+    driver: &str,
+    sets: &[CounterSet],
+    per_device: bool,
+) -> Result<Columns, FieldError>
+    ensures { Reads result
+        (fields.columns_of driver.now sets.now per_device path.now (items_view values.now)) }
+{
+    let names = each_name(alloc, values, path)?;
+    let attributes = each_attributes(alloc, values, path, driver)?;
+    let capacity = each_capacity(alloc, values, path, driver)?;
+    let consumes = each_consumption(alloc, values, path, sets)?;
+    let nodes = each_nodes(alloc, values, path, per_device)?;
+    Ok(Columns {
+        names,
+        attributes,
+        capacity,
+        consumes,
+        nodes,
+    })
+}
+
+/// The names of devices, each a DNS label that no device before has.
+fn each_name(alloc: Global, values: &[Value], path: &Path) -> Result<Seq<Text>, FieldError>
+    ensures { Reads result (fields.names_from path.now 0 [] (items_view values.now)) }
+{
+    let mut names = Seq::empty(alloc);
+    for place in 0..values.len() {
+        let at = path.place(alloc, place)?;
+        let name = new_device_name(alloc, &values[place], &at, names.as_slice())?;
+        or_memory(alloc, names.push(name))?;
+    }
+    Ok(names)
+}
+
+fn new_device_name(
+    alloc: Global,
+    value: &Value,
+    path: &Path,
+    names: &[Text],
+) -> Result<Text, FieldError>
+    ensures { Reads result (fields.new_device_name path.now names.now (view value.now)) }
+{
+    let object = value_object(alloc, value, path)?;
+    let name = read_dns_label(alloc, object, path, "name")?;
+    if has_device(names, name.as_str()) {
+        Err(FieldError::of_field(alloc, path, "name", Kind::Doubled))
+    } else {
+        Ok(name)
+    }
+}
+
+fn has_device(names: &[Text], name: &str) -> bool
+    ensures { result ≡ fields.has_device name.now names.now }
+{
+    for other in names {
+        if other.as_str() == name {
+            return true;
+        }
+    }
+    false
+}
+
+fn each_attributes(
+    alloc: Global,
+    values: &[Value],
+    path: &Path,
+    driver: &str,
+) -> Result<Seq<Table<QualName, Attribute>>, FieldError>
+    ensures { Reads result (each (attributes_of driver.now) path.now (items_view values.now)) }
+{
+    let mut column = Seq::empty(alloc);
+    for place in 0..values.len() {
+        let at = path.place(alloc, place)?;
+        let attributes = read_attributes(alloc, &values[place], &at, driver)?;
+        or_memory(alloc, column.push(attributes))?;
+    }
+    Ok(column)
+}
+
+fn each_capacity(
+    alloc: Global,
+    values: &[Value],
+    path: &Path,
+    driver: &str,
+) -> Result<Seq<Table<QualName, Quantity>>, FieldError>
+    ensures { Reads result (each (capacity_of driver.now) path.now (items_view values.now)) }
+{
+    let mut column = Seq::empty(alloc);
+    for place in 0..values.len() {
+        let at = path.place(alloc, place)?;
+        let capacity = read_capacity(alloc, &values[place], &at, driver)?;
+        or_memory(alloc, column.push(capacity))?;
+    }
+    Ok(column)
+}
+
+fn each_consumption(
+    alloc: Global,
+    values: &[Value],
+    path: &Path,
+    sets: &[CounterSet],
+) -> Result<Seq<Seq<CounterConsumption>>, FieldError>
+    ensures { Reads result (each (consumes_of sets.now) path.now (items_view values.now)) }
+{
+    let mut column = Seq::empty(alloc);
+    for place in 0..values.len() {
+        let at = path.place(alloc, place)?;
+        let consumes = read_consumption(alloc, &values[place], &at, sets)?;
+        or_memory(alloc, column.push(consumes))?;
+    }
+    Ok(column)
+}
+
+fn each_nodes(
+    alloc: Global,
+    values: &[Value],
+    path: &Path,
+    per_device: bool,
+) -> Result<Seq<Option<Nodes>>, FieldError>
+    ensures { Reads result (each (device_nodes_of per_device) path.now (items_view values.now)) }
+{
+    let mut column = Seq::empty(alloc);
+    for place in 0..values.len() {
+        let at = path.place(alloc, place)?;
+        let nodes = read_device_nodes(alloc, &values[place], &at, per_device)?;
+        or_memory(alloc, column.push(nodes))?;
+    }
+    Ok(column)
+}
+
+/// Nothing where no device sets a member that this project leaves out, else NotSupported at the
+/// first.
+fn each_nothing_more(alloc: Global, values: &[Value], path: &Path) -> Result<(), FieldError>
+    ensures { Reads result (fields.nothing_more_from path.now 0 (items_view values.now)) }
+{
+    for place in 0..values.len() {
+        let at = path.place(alloc, place)?;
+        nothing_more(alloc, &values[place], &at)?;
+    }
+    Ok(())
+}
+
+fn nothing_more(alloc: Global, device: &Value, path: &Path) -> Result<(), FieldError>
+    ensures { Reads result (fields.nothing_more path.now (view device.now)) }
+{
+    unset(alloc, device, path, "taints")?;
+    unset(alloc, device, path, "allowMultipleAllocations")?;
+    unset(alloc, device, path, "bindingConditions")?;
+    unset(alloc, device, path, "bindingFailureConditions")?;
+    unset(alloc, device, path, "bindsToNode")
+}
+
+/// The devices of which these are the fields.
+fn devices_of(alloc: Global, columns: Columns) -> Result<Seq<Device>, AllocError>
+    ensures { IfOk result (λ devices. devices ≡ fields.devices_of columns) }
+{
+    let mut attributes = columns.attributes.into_vec().into_iter();
+    let mut capacity = columns.capacity.into_vec().into_iter();
+    let mut consumes = columns.consumes.into_vec().into_iter();
+    let mut nodes = columns.nodes.into_vec().into_iter();
+    let mut devices = Seq::empty(alloc);
+    for name in columns.names.into_vec() {
+        let Some(attributes) = attributes.next() else {
+            return Ok(devices);
+        };
+        let Some(capacity) = capacity.next() else {
+            return Ok(devices);
+        };
+        let Some(consumes) = consumes.next() else {
+            return Ok(devices);
+        };
+        let Some(nodes) = nodes.next() else {
+            return Ok(devices);
+        };
+        devices.push(Device {
+            name,
+            attributes,
+            capacity,
+            consumes,
+            nodes,
+        })?;
+    }
+    Ok(devices)
+}

@@ -1,0 +1,146 @@
+ghost use Rattle.std.specs.Prelude.{◌≡◌};
+ghost use Rattle.serde_json.specs.View.{view};
+ghost use Rattle.object_fields.specs.Fields.{Reads};
+ghost use Rattle.api_slice.specs.Slices as fields;
+ghost use Rattle.api_slice.specs.Nodes.{is_per_device};
+
+use crate::counters::read_counter_sets;
+use crate::device::read_devices;
+use crate::nodes::read_slice_nodes;
+use crate::types::{Pool, ResourceSlice, SliceNodes};
+use dra_values::Text;
+use object_fields::{
+    FieldError, ObjectMeta, Path, Scope, natural, object, read_dns_subdomain, read_pool_name,
+};
+use serde_json::Value;
+use std::alloc::Global;
+
+/// The most bytes of a driver's name (API reference of `resource.k8s.io/v1`).
+const DRIVER_MOST: usize = 63;
+
+/// The greatest number that a signed number of 64 bits holds.
+const SIGNED_MOST: u64 = 0x7fff_ffff_ffff_ffff;
+
+impl ResourceSlice {
+    /// Reads a ResourceSlice of the API reference of `resource.k8s.io/v1`. The first error counts.
+    /// The fields are looked at in this order; a row is read of all devices before the next row of
+    /// any, lists in their order, and the members of a map in the byte order of their keys.
+    ///
+    /// - `metadata.name`, a DNS subdomain of at most 253 bytes; `metadata.labels`, which are read
+    ///   and not kept; `metadata.resourceVersion`
+    /// - `spec.driver`, a DNS subdomain of at most 63 bytes
+    /// - `spec.pool`, with `name` (DNS subdomains joined by `/`, at most 253 bytes in all),
+    ///   `generation` (0 to 2^63-1) and `resourceSliceCount` (1 to 2^63-1); another number is
+    ///   OutOfRange
+    /// - `spec.nodeName`, `nodeSelector`, `allNodes` and `perDeviceNodeSelection`, of which just one
+    ///   is set, else NotOne at `spec`; false and the empty text are unset
+    /// - `spec.sharedCounters`, which may be missing: sets with a `name` (a DNS label, Doubled where
+    ///   a set before has it) and `counters`, each a DNS label with a `value` that isn't negative;
+    ///   with more than 32 counters in all it is TooMany
+    /// - `spec.devices`, which may be missing: at most 128 (TooMany), each with a `name` (a DNS
+    ///   label, Doubled where a device before has it)
+    /// - `attributes` of a device, which may be missing: each a qualified name (Doubled where a key
+    ///   before means the same) with just one of `int`, `bool`, `string` and `version`, else NotOne;
+    ///   a string or a version of more than 64 characters is TooLong, and a version is one of
+    ///   Semantic Versioning 2.0.0, else BadVersion
+    /// - `capacity` of a device, which may be missing: each a qualified name (Doubled) with a
+    ///   quantity as its `value`, and without a `requestPolicy` (NotSupported); with the attributes
+    ///   at most 32, else TooMany
+    /// - `consumesCounters` of a device, which may be missing: each with a `counterSet` of the slice
+    ///   (Unknown), which stands once (Doubled), and `counters` of that set (Unknown) with a `value`
+    ///   that isn't negative; with more than 32 of these in all it is TooMany
+    /// - `nodeName`, `nodeSelector` and `allNodes` of a device: just one where the slice has
+    ///   `perDeviceNodeSelection`, else none, NotOne at the device
+    /// - `taints`, `allowMultipleAllocations`, `bindingConditions`, `bindingFailureConditions` and
+    ///   `bindsToNode` of a device: NotSupported unless missing, null, false or empty
+    ///
+    /// What must be there is Missing where it isn't there or is null; then it is WrongType where it
+    /// is of another JSON type, TooLong, and BadName, BadQuantity or BadVersion, and a number or an
+    /// amount out of its range is OutOfRange. Fields that this project doesn't know are not looked
+    /// at. Memory may come at any time, with the path of the top.
+    pub fn read(alloc: Global, value: &Value) -> Result<ResourceSlice, FieldError>
+        ensures { Reads result (fields.slice_of (view value.now)) }
+    {
+        let ObjectMeta { key, version, .. } = ObjectMeta::read(alloc, value, Scope::Cluster)?;
+        read_named(alloc, value, key.name, version)
+    }
+}
+
+/// The slice of that name and version with the document's spec.
+fn read_named(
+    alloc: Global,
+    document: &Value,
+    name: Text,
+    version: Option<u64>,
+) -> Result<ResourceSlice, FieldError>
+    ensures { Reads result (fields.spec_at name version (view document.now)) }
+{
+    let top = Path::top(alloc);
+    let spec = object(alloc, document, &top, "spec")?;
+    let path = top.member(alloc, "spec")?;
+    read_spec(alloc, spec, &path, name, version)
+}
+
+fn read_spec(
+    alloc: Global,
+    spec: &Value,
+    path: &Path,
+    name: Text,
+    version: Option<u64>,
+) -> Result<ResourceSlice, FieldError>
+    ensures { Reads result (fields.spec_in name version path.now (view spec.now)) }
+{
+    let driver = read_dns_subdomain(alloc, spec, path, "driver", DRIVER_MOST)?;
+    let pool = read_pool(alloc, spec, path)?;
+    let nodes = read_slice_nodes(alloc, spec, path)?;
+    let counters = read_counter_sets(alloc, spec, path)?;
+    let devices = read_devices(
+        alloc,
+        spec,
+        path,
+        driver.as_str(),
+        counters.as_slice(),
+        is_per_device(&nodes),
+    )?;
+    Ok(ResourceSlice {
+        name,
+        version,
+        driver,
+        pool,
+        nodes,
+        counters,
+        devices,
+    })
+}
+
+/// Whether each device says where it is.
+fn is_per_device(nodes: &SliceNodes) -> bool
+    ensures { result ≡ is_per_device nodes.now }
+{
+    match nodes {
+        SliceNodes::Nodes(_) => false,
+        SliceNodes::PerDevice => true,
+    }
+}
+
+/// The pool of a slice's spec.
+fn read_pool(alloc: Global, spec: &Value, path: &Path) -> Result<Pool, FieldError>
+    ensures { Reads result (fields.pool_at path.now (view spec.now)) }
+{
+    let pool = object(alloc, spec, path, "pool")?;
+    let path = path.member(alloc, "pool")?;
+    read_pool_members(alloc, pool, &path)
+}
+
+fn read_pool_members(alloc: Global, pool: &Value, path: &Path) -> Result<Pool, FieldError>
+    ensures { Reads result (fields.pool_in path.now (view pool.now)) }
+{
+    let name = read_pool_name(alloc, pool, path, "name")?;
+    let generation = natural(alloc, pool, path, "generation", 0, SIGNED_MOST)?;
+    let slices = natural(alloc, pool, path, "resourceSliceCount", 1, SIGNED_MOST)?;
+    Ok(Pool {
+        name,
+        generation,
+        slices,
+    })
+}
