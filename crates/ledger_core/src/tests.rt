@@ -4,37 +4,70 @@ use crate::{
 };
 use alloc_rules::Object;
 use api_cluster::Node;
-use dra_values::Text;
+use api_slice::{Device, Pool, ResourceSlice};
+use dra_values::{Seq, Text};
 use object_fields::{FieldError, Kind, Path};
-use std::alloc::Global;
+use std::alloc::{AllocError, Global};
 use std::test::Fail;
 
-/// Applies a node as a job that has no entry, where the node isn't there.
-fn apply_node(
+/// Applies an object as a job that has no entry, where the object isn't there.
+fn apply(
     alloc: Global,
     ledger: &mut Ledger,
     job: u64,
-    name: Text,
+    object: Object,
 ) -> Result<Option<Done>, LedgerError> {
-    let node = Object::Node(Node { name });
     match ledger.stand(job) {
-        Stand::Fresh if ledger.state().is_absent(&node) => {
-            Ok(Some(ledger.apply(alloc, job, node)?))
+        Stand::Fresh if ledger.state().is_absent(&object) => {
+            Ok(Some(ledger.apply(alloc, job, object)?))
         }
         _ => Ok(None),
     }
 }
 
+/// A slice with so many devices.
+fn slice(alloc: Global, name: &str, devices: usize) -> Result<Object, AllocError> {
+    let mut list = Seq::empty(alloc);
+    for _ in 0..devices {
+        list.push(Device {
+            name: Text::from_str(alloc, "d")?,
+        })?;
+    }
+    Ok(Object::Slice(ResourceSlice {
+        name: Text::from_str(alloc, name)?,
+        driver: Text::from_str(alloc, "gpu.example.com")?,
+        pool: Pool {
+            name: Text::from_str(alloc, name)?,
+            generation: 1,
+            slices: 1,
+        },
+        node: Text::from_str(alloc, "n1")?,
+        devices: list,
+    }))
+}
+
 /// Refuses a document as a job that has no entry.
 fn deny(
+    alloc: Global,
     ledger: &mut Ledger,
     job: u64,
-    path: Path,
     kind: Kind,
 ) -> Result<Option<Done>, LedgerError> {
+    let path = Path::top(alloc);
     match ledger.stand(job) {
         Stand::Fresh => Ok(Some(ledger.deny(job, FieldError { path, kind })?)),
         _ => Ok(None),
+    }
+}
+
+/// Whether the entry at a place refuses a document for that reason.
+fn is_refused(ledger: &Ledger, place: u64, kind: Kind) -> bool {
+    match ledger.entry(place) {
+        Some(entry) => match &entry.event {
+            Event::Denied(Denial::Invalid(error)) => error.kind == kind,
+            _ => false,
+        },
+        None => false,
     }
 }
 
@@ -67,11 +100,8 @@ fn a_ledger_has_entries_to_its_limit(rt: HostRuntime) -> Result<(), Fail> {
     ];
     for (job, name, want) in steps {
         let name = Text::from_str(alloc, name)?;
-        assert_eq!(rt;
-            apply_node(alloc, &mut ledger, job, name),
-            want,
-            "job {job}"
-        );
+        let node = Object::Node(Node { name });
+        assert_eq!(rt; apply(alloc, &mut ledger, job, node), want, "job {job}");
     }
     assert_eq!(rt; ledger.len(), 2);
     assert_eq!(rt; ledger.entries().len(), 2);
@@ -96,15 +126,27 @@ fn a_refused_document_is_an_entry(rt: HostRuntime) -> Result<(), Fail> {
         (3, Kind::Missing, Err(LedgerError::Full(2))),
     ];
     for (job, kind, want) in steps {
-        let path = Path::top(alloc).member(alloc, "spec")?;
-        assert_eq!(rt; deny(&mut ledger, job, path, kind), want, "job {job}");
+        assert_eq!(rt; deny(alloc, &mut ledger, job, kind), want, "job {job}");
     }
-    match &ledger.entry(2).ok_or("no entry")?.event {
-        Event::Denied(Denial::Invalid(error)) => {
-            assert!(rt; error.kind == Kind::TooMany && error.path.steps().len() == 1);
-        }
-        _ => return Err(Fail::from("another event")),
-    }
+    assert!(rt; is_refused(&ledger, 1, Kind::Doubled) && is_refused(&ledger, 2, Kind::TooMany));
     assert_eq!(rt; ledger.stand(1), Stand::Ended(1));
+    Ok(())
+}
+
+#[test]
+fn all_slices_have_at_most_65536_devices(rt: HostRuntime) -> Result<(), Fail> {
+    let alloc = rt.alloc();
+    let mut ledger = Ledger::new(alloc, 9)?;
+    let steps = [
+        (1, "s1", 65_535, made(1)),
+        (2, "s2", 2, denied(2)),
+        (3, "s2", 1, made(3)),
+        (4, "s4", 1, denied(4)),
+        (5, "s4", 0, made(5)),
+    ];
+    for (job, name, devices, want) in steps {
+        let slice = slice(alloc, name, devices)?;
+        assert_eq!(rt; apply(alloc, &mut ledger, job, slice), want, "job {job}");
+    }
     Ok(())
 }
