@@ -1,6 +1,6 @@
 -- How a job goes on once it has reserved.
 use Rattle.std.proofs.Common.{ℕ, ◌≡◌, ◌∙◌, List, [], ◌∷◌, Bool, true, false, cond, not, ◌&&◌, Option, None, Some, refl, sym, ap, subst, map, find}
-use Rattle.std.specs.Prelude.{is_none, length, nat_lt, ◌==◌}
+use Rattle.std.specs.Prelude.{is_none}
 use Rattle.std.specs.List.{list_all}
 use Rattle.std.specs.Option.{option_map_or}
 use Rattle.std.specs.Ordering.{is_eq, ordering_reverse}
@@ -26,7 +26,7 @@ use Rattle.alloc_rules.specs.declared.plan.Plan.{Plan}
 use Rattle.alloc_rules.specs.Names.{text_cmp, key_cmp, at_key}
 use Rattle.alloc_rules.specs.State.{changed_at, with_grants, with_phase, with_reserved, with_written, written_by}
 use Rattle.alloc_rules.specs.Pools.{devices_on}
-use Rattle.alloc_rules.specs.Claims.{claim_keys, first_places, is_idle, claim_built, claims_built, most_users, pod_built, schedule_built, wanted, wanted_of, add_wanted, add_ungranted}
+use Rattle.alloc_rules.specs.Claims.{claim_keys, first_places, is_idle, claim_built, claims_built, pod_built, schedule_built, wanted, wanted_of, add_wanted, add_ungranted}
 use Rattle.alloc_rules.specs.Rules.{devices_picked, grants_for, results_for}
 use Rattle.alloc_rules.specs.Plans.{PlanTrue}
 use Rattle.ledger_core.specs.Entry.{GoesOn, MayBind, MayWrite, IsTaken, claims_of, has_written, is_written, use_in, version_by, version_of}
@@ -123,7 +123,7 @@ one_goes_on s pod plan job p k c results there keys claim grants =
 -- a claim of the form that is built is there, and has no grant
 built_claim : (o : Option ClaimState) → claim_built o ≡ true → (c : ClaimState) × (o ≡ Some c) × (c.grant ≡ None)
 built_claim None e = absurd (cc)
-built_claim (Some c) e = (c, refl, none_by c.grant (and_parts (is_none c.grant) (nat_lt (length c.users) most_users && (length c.claim.object.requests == 1)) e).0)
+built_claim (Some c) e = (c, refl, none_by c.grant (and_parts (is_none c.grant) _ e).0)
 
 goes_on_by : (s : State) (pod : Key) (plan : Plan) (job : ℕ) (p : PodState) (ds : List DeviceId) (keys : List Key) → at_key s.pods pod ≡ Some p → claim_keys p.pod.object ≡ keys
     → claims_built s keys ≡ true → plan.grants ≡ grants_for (wanted_of s (first_places [] keys)) ds → GoesOn (with_reserved job pod plan s) pod job plan.node (first_places [] keys)

@@ -4,8 +4,8 @@ use crate::{
 };
 use alloc_rules::Object;
 use api_cluster::Node;
-use api_slice::{Device, Pool, ResourceSlice};
-use dra_values::{Seq, Text};
+use api_slice::{Device, Nodes, Pool, ResourceSlice, SliceNodes};
+use dra_values::{Seq, Table, Text};
 use object_fields::{FieldError, Kind, Path};
 use std::alloc::{AllocError, Global};
 use std::test::Fail;
@@ -32,7 +32,12 @@ fn apply_node(
     job: u64,
     name: Text,
 ) -> Result<Option<Done>, LedgerError> {
-    apply(alloc, ledger, job, Object::Node(Node { name }))
+    let node = Node {
+        name,
+        version: None,
+        labels: Table::new(alloc),
+    };
+    apply(alloc, ledger, job, Object::Node(node))
 }
 
 /// A slice with so many devices.
@@ -41,17 +46,23 @@ fn slice(alloc: Global, name: &str, devices: usize) -> Result<Object, AllocError
     for _ in 0..devices {
         list.push(Device {
             name: Text::from_str(alloc, "d")?,
+            attributes: Table::new(alloc),
+            capacity: Table::new(alloc),
+            consumes: Seq::empty(alloc),
+            nodes: None,
         })?;
     }
     Ok(Object::Slice(ResourceSlice {
         name: Text::from_str(alloc, name)?,
+        version: None,
         driver: Text::from_str(alloc, "gpu.example.com")?,
         pool: Pool {
             name: Text::from_str(alloc, name)?,
             generation: 1,
             slices: 1,
         },
-        node: Text::from_str(alloc, "n1")?,
+        nodes: SliceNodes::Nodes(Nodes::Named(Text::from_str(alloc, "n1")?)),
+        counters: Seq::empty(alloc),
         devices: list,
     }))
 }
