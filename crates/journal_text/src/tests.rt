@@ -2,8 +2,8 @@ use crate::{line, line_is_one_line, lines, lines_of_more, summary};
 use alloc_rules::{Cause, DeviceResult, Grant, Known, Object, Passed, Plan, Verdict};
 use api_claim::ResourceClaim;
 use api_cluster::{DeviceClass, Node, Pod};
-use api_slice::{Pool, ResourceSlice};
-use dra_values::{Seq, Text};
+use api_slice::{Nodes, Pool, ResourceSlice, SliceNodes};
+use dra_values::{Seq, Table, Text};
 use ledger_core::{Denial, Entry, Event, Ledger};
 use object_fields::{DeviceId, FieldError, Key, Kind, Path, Stage};
 use std::alloc::{AllocError, Global};
@@ -85,13 +85,15 @@ fn judged(alloc: Global, nodes: Vec<Passed>) -> Result<Event, AllocError> {
 fn slice(alloc: Global) -> Result<ResourceSlice, AllocError> {
     Ok(ResourceSlice {
         name: text(alloc, "s1")?,
+        version: None,
         driver: text(alloc, "gpu.example.com")?,
         pool: Pool {
             name: text(alloc, "n1")?,
             generation: 1,
             slices: 1,
         },
-        node: text(alloc, "n1")?,
+        nodes: SliceNodes::Nodes(Nodes::Named(text(alloc, "n1")?)),
+        counters: Seq::empty(alloc),
         devices: Seq::empty(alloc),
     })
 }
@@ -99,6 +101,8 @@ fn slice(alloc: Global) -> Result<ResourceSlice, AllocError> {
 fn node(alloc: Global, name: &str) -> Result<Object, AllocError> {
     Ok(Object::Node(Node {
         name: text(alloc, name)?,
+        version: None,
+        labels: Table::new(alloc),
     }))
 }
 
@@ -111,16 +115,21 @@ fn objects_have_lines(rt: HostRuntime) -> Result<(), Fail> {
     let alloc = rt.alloc();
     let class = Object::Class(DeviceClass {
         name: text(alloc, "gpu")?,
+        version: None,
+        selectors: Seq::empty(alloc),
     });
     let claim = Object::Claim(ResourceClaim {
         key: key(alloc, "c")?,
+        version: None,
         requests: Seq::empty(alloc),
+        constraints: Seq::empty(alloc),
     });
     let pod = Object::Pod(Pod {
         key: Key {
             namespace: text(alloc, "")?,
             name: text(alloc, "p")?,
         },
+        version: None,
         claims: Seq::empty(alloc),
     });
     let odd = node(alloc, "a\u{1}\nb\u{1f}\u{7f} c")?;
