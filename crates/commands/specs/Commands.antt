@@ -116,9 +116,8 @@ reads is.Together d = is_together d
 -- ---- the commands
 
 -- An object that reads is applied; one that doesn't is a command too, with the first error.
-abbrev pub applied : Result (Option Object) FieldError → Command
-applied (Ok (Some object)) = Apply object
-applied (Ok None) = NotBuilt
+abbrev pub applied : Result Object FieldError → Command
+applied (Ok object) = Apply object
 applied (Err e) = Invalid e
 
 abbrev pub apply_of : ObjectKind → Data → Command

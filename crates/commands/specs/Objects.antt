@@ -1,5 +1,5 @@
 -- The object that a document of an object kind is.
-use Rattle.std.specs.Prelude.{Option, option_map, Result, Ok}
+use Rattle.std.specs.Prelude.{Result, Ok}
 use Rattle.serde_json.specs.Data.{Data}
 use Rattle.object_fields.specs.Fields.{◌>>=◌}
 use Rattle.object_fields.specs.declared.error.FieldError.{FieldError}
@@ -13,10 +13,10 @@ use Rattle.alloc_rules.specs.declared.object.Object.TheVariants as object
 use Rattle.commands.specs.declared.document.ObjectKind.{ObjectKind}
 use Rattle.commands.specs.declared.document.ObjectKind.TheVariants.{ResourceSlice, DeviceClass, ResourceClaim, Node, Pod}
 
--- None where its form isn't built
-abbrev pub object_of : ObjectKind → Data → Result (Option Object) FieldError
-object_of ResourceSlice d = slice_of d >>= λ x. Ok (option_map object.Slice x)
-object_of DeviceClass d = class_of d >>= λ x. Ok (option_map object.Class x)
-object_of ResourceClaim d = claim_of d >>= λ x. Ok (option_map object.Claim x)
-object_of Node d = node_of d >>= λ x. Ok (option_map object.Node x)
-object_of Pod d = pod_of d >>= λ x. Ok (option_map object.Pod x)
+-- the object, or the first error of its fields
+abbrev pub object_of : ObjectKind → Data → Result Object FieldError
+object_of ResourceSlice d = slice_of d >>= λ x. Ok (object.Slice x)
+object_of DeviceClass d = class_of d >>= λ x. Ok (object.Class x)
+object_of ResourceClaim d = claim_of d >>= λ x. Ok (object.Claim x)
+object_of Node d = node_of d >>= λ x. Ok (object.Node x)
+object_of Pod d = pod_of d >>= λ x. Ok (object.Pod x)

@@ -44,7 +44,7 @@ pub enum Command {
 /// text, and `default` where it is missing or null. A document whose fields don't read so is no
 /// command, nor is a List or a Together with a member that isn't allowed there. An object is always
 /// a command, whatever its fields: it is Invalid, with the first error in their order, where they
-/// don't read, and NotBuilt where they set what isn't built.
+/// don't read.
 pub fn read_command(alloc: Global, document: &[u8]) -> Result<Option<Command>, AllocError>
     ensures { IfOk result (λ c. c ≡ spec.command_of document.now) }
 {
@@ -74,14 +74,12 @@ fn command_in(alloc: Global, value: &Value) -> Result<Option<Command>, AllocErro
     }
 }
 
-/// The command that applies the object, Invalid where it doesn't read, and NotBuilt where its form
-/// isn't built.
+/// The command that applies the object, or Invalid where it doesn't read.
 fn apply(alloc: Global, kind: ObjectKind, value: &Value) -> Result<Command, AllocError>
     ensures { IfOk result (λ c. c ≡ spec.apply_of kind (view value.now)) }
 {
     match read_object(alloc, kind, value) {
-        Ok(Some(object)) => Ok(Command::Apply(object)),
-        Ok(None) => Ok(Command::NotBuilt),
+        Ok(object) => Ok(Command::Apply(object)),
         Err(error) => {
             if error.kind == Kind::Memory {
                 Err(AllocError)

@@ -13,10 +13,10 @@ apply Pod default/p|{"apiVersion":"v1","kind":"Pod","metadata":{"namespace":"def
 schedule default/p|{"apiVersion":"dra.replay/v1","kind":"Schedule","namespace":"default","name":"p"}
 invalid Missing metadata|{"apiVersion":"v1","kind":"Node"}
 invalid BadName metadata.name|{"apiVersion":"v1","kind":"Node","metadata":{"name":"N1"}}
-not built|{"apiVersion":"v1","kind":"Node","metadata":{"name":"n1","labels":{"zone":"a"}}}
+apply Node n1|{"apiVersion":"v1","kind":"Node","metadata":{"name":"n1","labels":{"zone":"a"},"resourceVersion":"7"}}
 invalid WrongType metadata|{"apiVersion":"v1","kind":"Pod","metadata":7}
 invalid Missing metadata|{"apiVersion":"resource.k8s.io/v1","kind":"ResourceSlice","spec":[]}
-not built|{"apiVersion":"resource.k8s.io/v1","kind":"DeviceClass","metadata":{"name":"gpu"},"spec":{"selectors":[{}]}}
+invalid Missing spec.selectors[0].cel|{"apiVersion":"resource.k8s.io/v1","kind":"DeviceClass","metadata":{"name":"gpu"},"spec":{"selectors":[{}]}}
 invalid Missing spec|{"apiVersion":"resource.k8s.io/v1","kind":"ResourceClaim","metadata":{"name":"c"}}
 no command|{"apiVersion":"v1","kind":"ResourceSlice","metadata":{"name":"s"}}
 no command|{"apiVersion":"resource.k8s.io/v1","kind":"Node","metadata":{"name":"n1"}}
