@@ -1,9 +1,10 @@
 ghost use Rattle.std.specs.Prelude.{◌≡◌, ◌==◌, IfOk, length};
+ghost use Rattle.std.specs.List.{list_all};
 ghost use Rattle.alloc_rules.specs.Pools.{slices_of};
-ghost use Rattle.replay_core.specs.Built.{is_built, is_new, object_built, slice_built};
+ghost use Rattle.replay_core.specs.Built.{draws_nothing, is_built, is_new, is_plain_slice, object_built, slice_built};
 
-use alloc_rules::{Object, State};
-use api_slice::ResourceSlice;
+use alloc_rules::{Object, State, is_plain_claim, is_plain_class, named_node};
+use api_slice::{Device, ResourceSlice};
 use commands::Command;
 use std::alloc::{AllocError, Global};
 
@@ -37,15 +38,35 @@ fn object_built(state: &State, object: &Object) -> bool
 {
     match object {
         Object::Slice(slice) => slice_built(state, slice),
-        Object::Node(_) | Object::Class(_) | Object::Claim(_) | Object::Pod(_) => true,
+        Object::Class(class) => is_plain_class(class),
+        Object::Claim(claim) => is_plain_claim(claim),
+        Object::Node(_) | Object::Pod(_) => true,
     }
 }
 
-/// Whether the slice is the only one of its pool.
+/// Whether none of the devices draws on a counter.
+fn draw_nothing(devices: &[Device]) -> bool
+    ensures { result ≡ list_all draws_nothing devices.now }
+{
+    devices
+        .iter()
+        .all(|device| device.consumes.as_slice().is_empty())
+}
+
+/// Whether the slice names the node of its devices, and has no counters.
+fn is_plain_slice(slice: &ResourceSlice) -> bool
+    ensures { result ≡ is_plain_slice slice.now }
+{
+    named_node(&slice.nodes).is_some()
+        && slice.counters.as_slice().is_empty()
+        && draw_nothing(slice.devices.as_slice())
+}
+
+/// Whether the slice is plain and the only one of its pool.
 fn slice_built(state: &State, slice: &ResourceSlice) -> bool
     ensures { result ≡ slice_built state.now slice.now }
 {
-    slice.pool.slices == 1 && is_first(state, slice)
+    is_plain_slice(slice) && slice.pool.slices == 1 && is_first(state, slice)
 }
 
 /// Whether no slice is of the same pool.
