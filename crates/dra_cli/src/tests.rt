@@ -34,6 +34,46 @@ const SPREAD_LINES: &str = "1 1 applied Node n1\n\
              2 2 applied Node n2\n\
              summary entries=2 commands=2 granted=0 bound=0\n";
 
+const CLASS_WITH_SELECTOR: &str = r#"{"apiVersion":"resource.k8s.io/v1","kind":"DeviceClass","metadata":{"name":"gpu"},"spec":{"selectors":[{"cel":{"expression":"true"}}]}}
+"#;
+
+const SLICE_FOR_ALL_NODES: &str = r#"{"apiVersion":"resource.k8s.io/v1","kind":"ResourceSlice","metadata":{"name":"s"},"spec":{"driver":"gpu.example.com","allNodes":true,"pool":{"name":"n1","generation":1,"resourceSliceCount":1}}}
+"#;
+
+const SLICE_WITH_COUNTERS: &str = r#"{"apiVersion":"resource.k8s.io/v1","kind":"ResourceSlice","metadata":{"name":"s"},"spec":{"driver":"gpu.example.com","nodeName":"n1","pool":{"name":"n1","generation":1,"resourceSliceCount":1},"sharedCounters":[{"name":"a","counters":{}}]}}
+"#;
+
+const CLAIM_FOR_TWO: &str = r#"{"apiVersion":"resource.k8s.io/v1","kind":"ResourceClaim","metadata":{"name":"c"},"spec":{"devices":{"requests":[{"name":"gpu","exactly":{"deviceClassName":"gpu","count":2}}]}}}
+"#;
+
+const CLAIM_FOR_ADMIN: &str = r#"{"apiVersion":"resource.k8s.io/v1","kind":"ResourceClaim","metadata":{"name":"c"},"spec":{"devices":{"requests":[{"name":"gpu","exactly":{"deviceClassName":"gpu","adminAccess":true}}]}}}
+"#;
+
+const CLAIM_WITH_CONSTRAINT: &str = r#"{"apiVersion":"resource.k8s.io/v1","kind":"ResourceClaim","metadata":{"name":"c"},"spec":{"devices":{"requests":[{"name":"gpu","exactly":{"deviceClassName":"gpu"}}],"constraints":[{"matchAttribute":"gpu.example.com/model"}]}}}
+"#;
+
+const OBJECTS_WITH_MORE: &str = r#"{"apiVersion":"v1","kind":"Node","metadata":{"name":"n1","labels":{"zone":"a"},"resourceVersion":"7"}}
+{"apiVersion":"resource.k8s.io/v1","kind":"ResourceSlice","metadata":{"name":"s","labels":{}},"spec":{"driver":"gpu.example.com","nodeName":"n1","allNodes":false,"pool":{"name":"n1","generation":1,"resourceSliceCount":1},"sharedCounters":[],"devices":[{"name":"gpu-0","attributes":{"model":{"string":"a"}},"capacity":{"memory":{"value":"8Gi"}}}]}}
+"#;
+
+const LINES_OF_MORE: &str = "1 1 applied Node n1\n\
+             2 2 applied ResourceSlice s\n\
+             summary entries=2 commands=2 granted=0 bound=0\n";
+
+const REFUSED: &str = r#"{"apiVersion":"resource.k8s.io/v1","kind":"ResourceSlice","metadata":{"name":"s"},"spec":{"driver":"gpu.example.com","nodeName":"n1","pool":{"name":"n1","generation":1,"resourceSliceCount":1},"devices":[{"name":"d0","attributes":{"model":{"string":"a"},"gpu.example.com/model":{"string":"b"}}}]}}
+{"apiVersion":"resource.k8s.io/v1","kind":"ResourceSlice","metadata":{"name":"s"},"spec":{"driver":"gpu.example.com","nodeName":"n1","pool":{"name":"n1","generation":1,"resourceSliceCount":1},"devices":[{"name":"d0","taints":[{"key":"maintenance","effect":"NoSchedule"}]}]}}
+{"apiVersion":"resource.k8s.io/v1","kind":"ResourceClaim","metadata":{"name":"c"},"spec":{"devices":{"requests":[{"name":"gpu","exactly":{"deviceClassName":"gpu","count":-1}}]}}}
+{"apiVersion":"v1","kind":"Node","metadata":{"name":"n1","labels":{"a\nb":7}}}
+{"apiVersion":"v1","kind":"Node","metadata":{"name":"n1"}}
+"#;
+
+const REFUSED_LINES: &str = "1 1 denied Invalid Doubled spec.devices[0].attributes[model]\n\
+             2 2 denied Invalid NotSupported spec.devices[0].taints\n\
+             3 3 denied Invalid OutOfRange spec.devices.requests[0].exactly.count\n\
+             4 4 denied Invalid WrongType metadata.labels[a?b]\n\
+             5 5 applied Node n1\n\
+             summary entries=5 commands=5 granted=0 bound=0\n";
+
 const NODE_WITH_MEMBER: &str = r#"{"apiVersion":"v1","kind":"Node","metadata":{"name":"n1","x":"#;
 
 const FIRST_LINE: &str = "1 1 applied Node n1\n";
@@ -115,8 +155,6 @@ fn a_whole_replay_prints_its_journal(rt: HostRuntime) -> Result<(), Fail> {
 fn a_replay_stops_at_its_first_fault(rt: HostRuntime) -> Result<(), Fail> {
     let alloc = rt.alloc();
     let line = known(FIRST_LINE);
-    let reopen = joined(alloc, &[known(FIRST), known(REOPEN)])?;
-    assert!(rt; ends(&rt, &reopen, 4096, (0, 0), Status::NotYet(59), line)?);
     let bad = joined(alloc, &[known(FIRST), known("{}\n"), known(SECOND)])?;
     assert!(rt; ends(&rt, &bad, 4096, (0, 0), Status::Document(59), line)?);
     let stray = joined(alloc, &[known(FIRST), known("x")])?;
@@ -127,6 +165,33 @@ fn a_replay_stops_at_its_first_fault(rt: HostRuntime) -> Result<(), Fail> {
     let two = joined(alloc, &[known(FIRST), known(SECOND)])?;
     assert!(rt; ends(&rt, &two, 1, (60, 0), Status::Read, line)?);
     assert!(rt; ends(&rt, &two, 4096, (0, 1), Status::Write, "")?);
+    Ok(())
+}
+
+#[test]
+fn a_replay_stops_at_a_form_that_is_not_done(rt: HostRuntime) -> Result<(), Fail> {
+    let alloc = rt.alloc();
+    for document in [
+        REOPEN,
+        CLASS_WITH_SELECTOR,
+        SLICE_FOR_ALL_NODES,
+        SLICE_WITH_COUNTERS,
+        CLAIM_FOR_TWO,
+        CLAIM_FOR_ADMIN,
+        CLAIM_WITH_CONSTRAINT,
+    ] {
+        let script = joined(alloc, &[known(FIRST), known(document)])?;
+        assert!(rt; ends(&rt, &script, 4096, (0, 0), Status::NotYet(59), known(FIRST_LINE))?, "{document}");
+    }
+    let more = known(OBJECTS_WITH_MORE).as_bytes();
+    assert!(rt; ends(&rt, more, 4096, (0, 0), Status::Done, known(LINES_OF_MORE))?);
+    Ok(())
+}
+
+#[test]
+fn an_object_that_does_not_read_is_denied(rt: HostRuntime) -> Result<(), Fail> {
+    let refused = known(REFUSED).as_bytes();
+    assert!(rt; ends(&rt, refused, 4096, (0, 0), Status::Done, known(REFUSED_LINES))?);
     Ok(())
 }
 
