@@ -34,25 +34,32 @@ const SPREAD_LINES: &str = "1 1 applied Node n1\n\
              2 2 applied Node n2\n\
              summary entries=2 commands=2 granted=0 bound=0\n";
 
-const CLASS_WITH_SELECTOR: &str = r#"{"apiVersion":"resource.k8s.io/v1","kind":"DeviceClass","metadata":{"name":"gpu"},"spec":{"selectors":[{"cel":{"expression":"true"}}]}}
+const CLASS_WITH_SELECTOR: &str =
+    r#"{"apiVersion":"resource.k8s.io/v1","kind":"DeviceClass","metadata":{"name":"gpu"},"spec":{"selectors":[{"cel":{"expression":"true"}}]}}
 "#;
 
-const SLICE_FOR_ALL_NODES: &str = r#"{"apiVersion":"resource.k8s.io/v1","kind":"ResourceSlice","metadata":{"name":"s"},"spec":{"driver":"gpu.example.com","allNodes":true,"pool":{"name":"n1","generation":1,"resourceSliceCount":1}}}
+const SLICE_FOR_ALL_NODES: &str =
+    r#"{"apiVersion":"resource.k8s.io/v1","kind":"ResourceSlice","metadata":{"name":"s"},"spec":{"driver":"gpu.example.com","allNodes":true,"pool":{"name":"n1","generation":1,"resourceSliceCount":1}}}
 "#;
 
-const SLICE_WITH_COUNTERS: &str = r#"{"apiVersion":"resource.k8s.io/v1","kind":"ResourceSlice","metadata":{"name":"s"},"spec":{"driver":"gpu.example.com","nodeName":"n1","pool":{"name":"n1","generation":1,"resourceSliceCount":1},"sharedCounters":[{"name":"a","counters":{}}]}}
+const SLICE_WITH_COUNTERS: &str =
+    r#"{"apiVersion":"resource.k8s.io/v1","kind":"ResourceSlice","metadata":{"name":"s"},"spec":{"driver":"gpu.example.com","nodeName":"n1","pool":{"name":"n1","generation":1,"resourceSliceCount":1},"sharedCounters":[{"name":"a","counters":{}}]}}
 "#;
 
-const CLAIM_FOR_TWO: &str = r#"{"apiVersion":"resource.k8s.io/v1","kind":"ResourceClaim","metadata":{"name":"c"},"spec":{"devices":{"requests":[{"name":"gpu","exactly":{"deviceClassName":"gpu","count":2}}]}}}
+const CLAIM_FOR_TWO: &str =
+    r#"{"apiVersion":"resource.k8s.io/v1","kind":"ResourceClaim","metadata":{"name":"c"},"spec":{"devices":{"requests":[{"name":"gpu","exactly":{"deviceClassName":"gpu","count":2}}]}}}
 "#;
 
-const CLAIM_FOR_ADMIN: &str = r#"{"apiVersion":"resource.k8s.io/v1","kind":"ResourceClaim","metadata":{"name":"c"},"spec":{"devices":{"requests":[{"name":"gpu","exactly":{"deviceClassName":"gpu","adminAccess":true}}]}}}
+const CLAIM_FOR_ADMIN: &str =
+    r#"{"apiVersion":"resource.k8s.io/v1","kind":"ResourceClaim","metadata":{"name":"c"},"spec":{"devices":{"requests":[{"name":"gpu","exactly":{"deviceClassName":"gpu","adminAccess":true}}]}}}
 "#;
 
-const CLAIM_WITH_CONSTRAINT: &str = r#"{"apiVersion":"resource.k8s.io/v1","kind":"ResourceClaim","metadata":{"name":"c"},"spec":{"devices":{"requests":[{"name":"gpu","exactly":{"deviceClassName":"gpu"}}],"constraints":[{"matchAttribute":"gpu.example.com/model"}]}}}
+const CLAIM_WITH_CONSTRAINT: &str =
+    r#"{"apiVersion":"resource.k8s.io/v1","kind":"ResourceClaim","metadata":{"name":"c"},"spec":{"devices":{"requests":[{"name":"gpu","exactly":{"deviceClassName":"gpu"}}],"constraints":[{"matchAttribute":"gpu.example.com/model"}]}}}
 "#;
 
-const OBJECTS_WITH_MORE: &str = r#"{"apiVersion":"v1","kind":"Node","metadata":{"name":"n1","labels":{"zone":"a"},"resourceVersion":"7"}}
+const OBJECTS_WITH_MORE: &str =
+    r#"{"apiVersion":"v1","kind":"Node","metadata":{"name":"n1","labels":{"zone":"a"},"resourceVersion":"7"}}
 {"apiVersion":"resource.k8s.io/v1","kind":"ResourceSlice","metadata":{"name":"s","labels":{}},"spec":{"driver":"gpu.example.com","nodeName":"n1","allNodes":false,"pool":{"name":"n1","generation":1,"resourceSliceCount":1},"sharedCounters":[],"devices":[{"name":"gpu-0","attributes":{"model":{"string":"a"}},"capacity":{"memory":{"value":"8Gi"}}}]}}
 "#;
 
@@ -60,7 +67,8 @@ const LINES_OF_MORE: &str = "1 1 applied Node n1\n\
              2 2 applied ResourceSlice s\n\
              summary entries=2 commands=2 granted=0 bound=0\n";
 
-const REFUSED: &str = r#"{"apiVersion":"resource.k8s.io/v1","kind":"ResourceSlice","metadata":{"name":"s"},"spec":{"driver":"gpu.example.com","nodeName":"n1","pool":{"name":"n1","generation":1,"resourceSliceCount":1},"devices":[{"name":"d0","attributes":{"model":{"string":"a"},"gpu.example.com/model":{"string":"b"}}}]}}
+const REFUSED: &str =
+    r#"{"apiVersion":"resource.k8s.io/v1","kind":"ResourceSlice","metadata":{"name":"s"},"spec":{"driver":"gpu.example.com","nodeName":"n1","pool":{"name":"n1","generation":1,"resourceSliceCount":1},"devices":[{"name":"d0","attributes":{"model":{"string":"a"},"gpu.example.com/model":{"string":"b"}}}]}}
 {"apiVersion":"resource.k8s.io/v1","kind":"ResourceSlice","metadata":{"name":"s"},"spec":{"driver":"gpu.example.com","nodeName":"n1","pool":{"name":"n1","generation":1,"resourceSliceCount":1},"devices":[{"name":"d0","taints":[{"key":"maintenance","effect":"NoSchedule"}]}]}}
 {"apiVersion":"resource.k8s.io/v1","kind":"ResourceClaim","metadata":{"name":"c"},"spec":{"devices":{"requests":[{"name":"gpu","exactly":{"deviceClassName":"gpu","count":-1}}]}}}
 {"apiVersion":"v1","kind":"Node","metadata":{"name":"n1","labels":{"a\nb":7}}}
@@ -181,7 +189,17 @@ fn a_replay_stops_at_a_form_that_is_not_done(rt: HostRuntime) -> Result<(), Fail
         CLAIM_WITH_CONSTRAINT,
     ] {
         let script = joined(alloc, &[known(FIRST), known(document)])?;
-        assert!(rt; ends(&rt, &script, 4096, (0, 0), Status::NotYet(59), known(FIRST_LINE))?, "{document}");
+        assert!(rt;
+            ends(
+                &rt,
+                &script,
+                4096,
+                (0, 0),
+                Status::NotYet(59),
+                known(FIRST_LINE)
+            )?,
+            "{document}"
+        );
     }
     let more = known(OBJECTS_WITH_MORE).as_bytes();
     assert!(rt; ends(&rt, more, 4096, (0, 0), Status::Done, known(LINES_OF_MORE))?);
@@ -191,7 +209,16 @@ fn a_replay_stops_at_a_form_that_is_not_done(rt: HostRuntime) -> Result<(), Fail
 #[test]
 fn an_object_that_does_not_read_is_denied(rt: HostRuntime) -> Result<(), Fail> {
     let refused = known(REFUSED).as_bytes();
-    assert!(rt; ends(&rt, refused, 4096, (0, 0), Status::Done, known(REFUSED_LINES))?);
+    assert!(rt;
+        ends(
+            &rt,
+            refused,
+            4096,
+            (0, 0),
+            Status::Done,
+            known(REFUSED_LINES)
+        )?
+    );
     Ok(())
 }
 
