@@ -1,2 +1,4 @@
 pub mod Ast
+pub mod Calls
 pub mod Code
+pub mod Types

@@ -1,11 +1,19 @@
-//! The trees of the selector language, a profile of the CEL language definition, and what
-//! contracts see of them.
+//! The trees of the selector language, a profile of the CEL language definition, with the types and
+//! the tables of its operators and functions, and what contracts see of them.
 #![tactic(auto)]
 
+mod calls;
 mod make;
+mod tables;
 mod tree;
+mod types;
 
+pub use calls::{Arguments, Called, Function, Macro, call_type, called_of, method_type};
+pub use tables::{
+    binary_type, conditional_type, element_type, index_type, member_type, unary_type,
+};
 pub use tree::{BinaryOp, Entry, Kind, Literal, Span, Tree, UnaryOp};
+pub use types::{CelType, Facet, KeyType, Scalar};
 
 #[cfg(test)]
 mod tests;
