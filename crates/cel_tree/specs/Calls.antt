@@ -7,8 +7,8 @@ use Rattle.cel_tree.specs.declared.types.CelType.{CelType}
 use Rattle.cel_tree.specs.declared.types.CelType.TheVariants as kind
 use Rattle.cel_tree.specs.declared.calls.Function.{Function}
 use Rattle.cel_tree.specs.declared.calls.Function.TheVariants.{Size, StartsWith, EndsWith, Contains, Quantity, IsQuantity, Semver, IsSemver, CompareTo, IsLessThan, IsGreaterThan, Add, Sub, Sign, IsInteger, AsInteger, Major, Minor, Patch}
-use Rattle.cel_tree.specs.declared.calls.Macro.{Macro}
-use Rattle.cel_tree.specs.declared.calls.Macro.TheVariants as macro
+use Rattle.cel_tree.specs.declared.calls.Comprehension.{Comprehension}
+use Rattle.cel_tree.specs.declared.calls.Comprehension.TheVariants.{All, Exists, ExistsOne, Filter, Map}
 use Rattle.cel_tree.specs.declared.calls.Called.{Called}
 use Rattle.cel_tree.specs.declared.calls.Called.TheVariants as called
 use Rattle.cel_tree.specs.declared.calls.Arguments.{Arguments}
@@ -67,15 +67,14 @@ abbrev pub function_of : List ℕ → Option Function
 function_of name =
     or_else (text_function name) (or_else (reading_function name) (or_else (order_function name) (or_else (quantity_function name) (version_function name))))
 
-abbrev pub macro_of : List ℕ → Option Macro
-macro_of name =
-    if bytes_eq name (codes "has") then Some macro.Has
-    else (if bytes_eq name (codes "all") then Some macro.All
-    else (if bytes_eq name (codes "exists") then Some macro.Exists
-    else (if bytes_eq name (codes "exists_one") then Some macro.ExistsOne
-    else (if bytes_eq name (codes "filter") then Some macro.Filter
-    else (if bytes_eq name (codes "map") then Some macro.Map
-    else None)))))
+abbrev pub comprehension_of : List ℕ → Option Comprehension
+comprehension_of name =
+    if bytes_eq name (codes "all") then Some All
+    else (if bytes_eq name (codes "exists") then Some Exists
+    else (if bytes_eq name (codes "exists_one") then Some ExistsOne
+    else (if bytes_eq name (codes "filter") then Some Filter
+    else (if bytes_eq name (codes "map") then Some Map
+    else None))))
 
 -- the functions of the CEL language definition that the profile leaves out
 abbrev pub is_left_out : List ℕ → Bool
@@ -83,9 +82,9 @@ is_left_out name =
     bytes_eq name (codes "matches") || (bytes_eq name (codes "type") || (bytes_eq name (codes "timestamp") || (bytes_eq name (codes "duration")
     || (bytes_eq name (codes "double") || (bytes_eq name (codes "uint") || bytes_eq name (codes "bytes"))))))
 
-abbrev pub by_macro : Option Macro → Option Called → Option Called
-by_macro (Some m) other = Some (called.Macro m)
-by_macro None other = other
+abbrev pub by_comprehension : Option Comprehension → Option Called → Option Called
+by_comprehension (Some m) other = Some (called.Comprehension m)
+by_comprehension None other = other
 
 abbrev pub by_function : Option Function → Option Called → Option Called
 by_function (Some f) other = Some (called.Function f)
@@ -93,7 +92,9 @@ by_function None other = other
 
 -- what a name stands for in a call; None where there is no such function
 abbrev pub called_of : List ℕ → Option Called
-called_of name = by_macro (macro_of name) (by_function (function_of name) (if is_left_out name then Some called.LeftOut else None))
+called_of name =
+    if bytes_eq name (codes "has") then Some called.Has
+    else by_comprehension (comprehension_of name) (by_function (function_of name) (if is_left_out name then Some called.LeftOut else None))
 
 -- `size`
 abbrev pub size_type : CelType → Option CelType
@@ -143,4 +144,5 @@ method_with function object k = None
 abbrev pub method_type : Function → CelType → Arguments → Option CelType
 method_type function object arguments.None = method_alone function object
 method_type function object (arguments.One k) = method_with function object k
+method_type function object (arguments.Two k l) = None
 method_type function object arguments.Many = None

@@ -1,5 +1,5 @@
 ghost use Rattle.std.specs.Prelude.{◌≡◌};
-ghost use Rattle.cel_tree.specs.Calls.{text_function, reading_function, order_function, quantity_function, version_function, function_of, macro_of, is_left_out, called_of, size_type, call_type, both_ordered, are_summed, method_alone, method_with, method_type};
+ghost use Rattle.cel_tree.specs.Calls.{text_function, reading_function, order_function, quantity_function, version_function, function_of, comprehension_of, is_left_out, called_of, size_type, call_type, both_ordered, are_summed, method_alone, method_with, method_type};
 
 use crate::tables::{both_accept, element_type, when};
 use crate::{CelType, Scalar};
@@ -29,11 +29,9 @@ pub enum Function {
     Patch,
 }
 
-/// The macros of the CEL language definition. `Has` is written `has(object.name)`, the others
-/// `range.all(x, body)`.
+/// The macros of the CEL language definition that go over a range, as `range.all(x, body)`.
 #[derive(Clone, Copy, Debug, PartialEq, Eq)]
-pub enum Macro {
-    Has,
+pub enum Comprehension {
     All,
     Exists,
     ExistsOne,
@@ -44,17 +42,20 @@ pub enum Macro {
 /// What the name of a call stands for.
 #[derive(Clone, Copy, Debug, PartialEq, Eq)]
 pub enum Called {
-    Macro(Macro),
+    /// The macro `has(object.name)`.
+    Has,
+    Comprehension(Comprehension),
     Function(Function),
     /// A function of the CEL language definition that the profile leaves out.
     LeftOut,
 }
 
-/// The types of a call's arguments. No function takes more than one.
+/// The types of arguments, one after another. No row of the tables has more than two.
 #[derive(Clone, Copy, Debug, PartialEq, Eq)]
 pub enum Arguments {
     None,
     One(CelType),
+    Two(CelType, CelType),
     Many,
 }
 
@@ -63,8 +64,11 @@ pub enum Arguments {
 pub fn called_of(name: &str) -> Option<Called>
     ensures { result ≡ called_of name.now }
 {
-    if let Some(found) = macro_of(name) {
-        return Some(Called::Macro(found));
+    if name == "has" {
+        return Some(Called::Has);
+    }
+    if let Some(found) = comprehension_of(name) {
+        return Some(Called::Comprehension(found));
     }
     if let Some(found) = function_of(name) {
         return Some(Called::Function(found));
@@ -76,21 +80,19 @@ pub fn called_of(name: &str) -> Option<Called>
     }
 }
 
-fn macro_of(name: &str) -> Option<Macro>
-    ensures { result ≡ macro_of name.now }
+fn comprehension_of(name: &str) -> Option<Comprehension>
+    ensures { result ≡ comprehension_of name.now }
 {
-    if name == "has" {
-        Some(Macro::Has)
-    } else if name == "all" {
-        Some(Macro::All)
+    if name == "all" {
+        Some(Comprehension::All)
     } else if name == "exists" {
-        Some(Macro::Exists)
+        Some(Comprehension::Exists)
     } else if name == "exists_one" {
-        Some(Macro::ExistsOne)
+        Some(Comprehension::ExistsOne)
     } else if name == "filter" {
-        Some(Macro::Filter)
+        Some(Comprehension::Filter)
     } else if name == "map" {
-        Some(Macro::Map)
+        Some(Comprehension::Map)
     } else {
         None
     }
@@ -240,7 +242,7 @@ pub fn method_type(function: Function, object: CelType, arguments: Arguments) ->
     match arguments {
         Arguments::None => method_alone(function, object),
         Arguments::One(argument) => method_with(function, object, argument),
-        Arguments::Many => None,
+        Arguments::Two(..) | Arguments::Many => None,
     }
 }
 

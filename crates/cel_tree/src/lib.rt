@@ -8,7 +8,7 @@ mod tables;
 mod tree;
 mod types;
 
-pub use calls::{Arguments, Called, Function, Macro, call_type, called_of, method_type};
+pub use calls::{Arguments, Called, Comprehension, Function, call_type, called_of, method_type};
 pub use tables::{
     binary_type, conditional_type, element_type, index_type, member_type, unary_type,
 };
