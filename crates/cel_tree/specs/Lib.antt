@@ -1,4 +1,6 @@
 pub mod Ast
 pub mod Calls
 pub mod Code
+pub mod Faults
 pub mod Types
+pub mod Typing

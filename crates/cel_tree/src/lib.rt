@@ -3,12 +3,16 @@
 #![tactic(auto)]
 
 mod calls;
+mod fault;
 mod make;
 mod tables;
 mod tree;
 mod types;
 
 pub use calls::{Arguments, Called, Comprehension, Function, call_type, called_of, method_type};
+pub use fault::{
+    Fault, called_type, comprehension_type, item_type, joined, method_called_type, row,
+};
 pub use tables::{
     binary_type, conditional_type, element_type, index_type, member_type, unary_type,
 };
