@@ -2,5 +2,6 @@ pub mod Ast
 pub mod Calls
 pub mod Code
 pub mod Faults
+pub mod HasType
 pub mod Types
 pub mod Typing
