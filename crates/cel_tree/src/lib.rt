@@ -3,6 +3,7 @@
 #![tactic(auto)]
 
 mod calls;
+mod checked;
 mod fault;
 mod make;
 mod tables;
@@ -10,6 +11,7 @@ mod tree;
 mod types;
 
 pub use calls::{Arguments, Called, Comprehension, Function, call_type, called_of, method_type};
+pub use checked::Checked;
 pub use fault::{
     Fault, called_type, comprehension_type, item_type, joined, method_called_type, row,
 };
