@@ -16,7 +16,7 @@ pub use checked::Checked;
 pub use fault::{
     Fault, called_type, comprehension_type, item_type, joined, method_called_type, row,
 };
-pub use laws::{has_one_type, types_are_found};
+pub use laws::{has_one_type, nodes_have_their_lists, types_are_found};
 pub use tables::{
     binary_type, conditional_type, element_type, index_type, member_type, unary_type,
 };
