@@ -1,0 +1,11 @@
+//! The check of expressions of the selector language, this project's profile of the CEL language
+//! definition: a tree with its type, or its first fault.
+#![tactic(auto)]
+
+mod checks;
+mod keys;
+mod leaf;
+mod scope;
+mod typing;
+
+pub use checks::{CheckError, check};
