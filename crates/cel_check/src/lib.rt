@@ -9,3 +9,6 @@ mod scope;
 mod typing;
 
 pub use checks::{CheckError, check};
+
+#[cfg(test)]
+mod tests;
