@@ -1,4 +1,8 @@
-use crate::{BinaryOp, Entry, Kind, Literal, Span, Tree, UnaryOp};
+use crate::{
+    Arguments, BinaryOp, Called, CelType, Comprehension, Entry, Facet, Function, KeyType, Kind,
+    Literal, Scalar, Span, Tree, UnaryOp, binary_type, call_type, called_of, conditional_type,
+    index_type, method_type, unary_type,
+};
 use dra_values::Text;
 use std::alloc::{AllocError, Global};
 use std::test::Fail;
@@ -51,5 +55,82 @@ fn nodes_have_their_lists(rt: HostRuntime) -> Result<(), Fail> {
     })?;
     let tree = Tree::map(span, entries);
     assert!(rt; matches!(&tree.kind, Kind::Map(entries) if entries.len() == 1));
+    Ok(())
+}
+
+#[test]
+fn operations_have_their_types(rt: HostRuntime) {
+    let (int, text, quantity) = (CelType::INT, CelType::TEXT, CelType::QUANTITY);
+    let (domains, entries) = (
+        CelType::Domains(Facet::Capacities),
+        CelType::Entries(Facet::Capacities),
+    );
+    let integers = Arguments::One(CelType::List(Scalar::Int));
+    let table = [
+        (unary_type(UnaryOp::Not, CelType::BOOL), Some(CelType::BOOL)),
+        (unary_type(UnaryOp::Negate, CelType::DYN), Some(int)),
+        (unary_type(UnaryOp::Negate, text), None),
+        (binary_type(BinaryOp::Add, text, CelType::DYN), Some(text)),
+        (binary_type(BinaryOp::Less, int, text), None),
+        (
+            conditional_type(CelType::BOOL, int, CelType::DYN),
+            Some(CelType::DYN),
+        ),
+        (conditional_type(CelType::BOOL, int, text), None),
+        (index_type(domains, text), Some(entries)),
+        (index_type(entries, text), Some(quantity)),
+        (index_type(text, int), None),
+        (call_type(Function::Size, integers), Some(int)),
+        (call_type(Function::Semver, Arguments::None), None),
+        (
+            method_type(Function::Add, quantity, Arguments::One(int)),
+            Some(quantity),
+        ),
+        (
+            method_type(
+                Function::IsLessThan,
+                quantity,
+                Arguments::One(CelType::SEMVER),
+            ),
+            None,
+        ),
+    ];
+    for (found, expected) in table {
+        assert_eq!(rt; found, expected);
+    }
+}
+
+#[test]
+fn names_are_read_and_printed(rt: HostRuntime) -> Result<(), Fail> {
+    let calls = [
+        ("has", Some(Called::Has)),
+        (
+            "exists_one",
+            Some(Called::Comprehension(Comprehension::ExistsOne)),
+        ),
+        (
+            "isGreaterThan",
+            Some(Called::Function(Function::IsGreaterThan)),
+        ),
+        ("matches", Some(Called::LeftOut)),
+        ("Size", None),
+    ];
+    for (word, expected) in calls {
+        assert_eq!(rt; called_of(word), expected);
+    }
+    let types = [
+        (CelType::TEXT, "string"),
+        (CelType::List(Scalar::Dyn), "list(dyn)"),
+        (
+            CelType::Map(KeyType::Bool, Scalar::Semver),
+            "map(bool, semver)",
+        ),
+        (CelType::Domains(Facet::Attributes), "Domains"),
+        (CelType::Entries(Facet::Attributes), "Attributes"),
+    ];
+    for (kind, expected) in types {
+        let printed = format!(in rt.alloc(); "{kind}")?;
+        assert_eq!(rt; printed.as_str(), expected);
+    }
     Ok(())
 }
