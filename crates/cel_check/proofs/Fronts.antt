@@ -1,5 +1,5 @@
 -- What was found of the front of a list, with what is found of the rest.
-use Rattle.std.proofs.Common.{◌≡◌, ℕ, ◌+◌, ◌<◌, ◌≤◌, List, [], ◌∷◌, ◌++◌, Bool, true, false, ◌&&◌, if◌then◌else◌, length, drop, take, get_or, map, arith, Box, Global, refl, ap, sym, ◌∙◌, subst}
+use Rattle.std.proofs.Common.{◌≡◌, ℕ, ◌+◌, ◌<◌, ◌≤◌, List, [], ◌∷◌, ◌++◌, Bool, true, false, ◌&&◌, if◌then◌else◌, length, drop, take, get_or, map, arith, Box, Global, refl, ap, sym, ◌∙◌}
 use Rattle.std.proofs.lemmas.List.{drop_more, take_more, drop_all, map-append}
 use Rattle.std.specs.Prelude.{Option, Some, None, Result, Ok, Err, is_some}
 use Rattle.std.specs.Result.{is_ok}
@@ -15,7 +15,7 @@ use Rattle.cel_tree.specs.declared.calls.Arguments.{Arguments}
 use Rattle.cel_tree.specs.declared.calls.Arguments.TheVariants as arguments
 use Rattle.cel_tree.specs.declared.fault.Fault.{Fault}
 use Rattle.cel_tree.specs.declared.fault.Fault.TheVariants.{NoOverload}
-use Rattle.cel_tree.specs.Ast.{Constant, Ast, Form, Method, Asts, End, More, Entries, NoEntry, Pair, tree_view, kind_view, entry_view, asts_of, entries_of, span_of}
+use Rattle.cel_tree.specs.Ast.{Constant, Ast, Form, Method, Asts, End, More, Entries, NoEntry, Pair, tree_view, kind_view, entry_view, asts_of, entries_of}
 use Rattle.cel_tree.specs.Faults.{◌>>=◌, item_type, joined}
 use Rattle.cel_tree.specs.Typing.{Names, variable_of, with_variable, is_bind, map_type, keys_type, form_type, has_of, has_form, bind_of, with_first, key_type, key_of, beside, literal_of, type_of, types_of, items_of, values_of}
 use Rattle.cel_check.specs.Fronts.{with_last, also}

@@ -1,7 +1,7 @@
 -- The type of items doesn't depend on where their list is cut.
-use Rattle.std.proofs.Common.{◌≡◌, ℕ, zero, suc, Bool, true, false, ◌==◌, if◌then◌else◌, refl, ap, sym, ◌∙◌, subst}
+use Rattle.std.proofs.Common.{◌≡◌, ℕ, zero, suc, Bool, true, false, if◌then◌else◌, refl, ap, sym, ◌∙◌, subst}
 use Rattle.std.proofs.lemmas.Bool.{eqb-true}
-use Rattle.std.specs.Prelude.{Option, Some, None, Result, Ok, Err}
+use Rattle.std.specs.Prelude.{Option, Some, None}
 use Rattle.cel_tree.specs.declared.types.Scalar.{Scalar}
 use Rattle.cel_tree.specs.declared.types.Scalar.TheVariants.{Int, Bool as Truth, Text, Null, Quantity, Semver, Dyn}
 use Rattle.cel_tree.specs.Types.{scalar_rank, same_scalar}

@@ -1,5 +1,5 @@
 -- The keys of entries.
-use Rattle.std.specs.Prelude.{ℕ, List, [], ◌∷◌, ◌++◌, Option, Some, None, Result, Ok, Err}
+use Rattle.std.specs.Prelude.{List, [], ◌∷◌, Option, Some, None}
 use Rattle.cel_tree.specs.Ast.{Constant, Ast}
 use Rattle.cel_tree.specs.Typing.{literal_of}
 

@@ -1,12 +1,12 @@
-use Rattle.std.proofs.Common.{◌≡◌, ◌+◌, List, [], ◌∷◌, ℕ, rules, arith, ap, sym, ◌∙◌, drop, map}
+use Rattle.std.proofs.Common.{◌+◌, List, ℕ, ap, sym, ◌∙◌, drop, map}
 use Rattle.std.proofs.lemmas.Result.{err_from_is_err_and}
-use Rattle.std.specs.Prelude.{Option, Some, Result}
+use Rattle.std.specs.Prelude.{Some}
 use Rattle.cel_tree.specs.declared.tree.Tree.{Tree}
 use Rattle.cel_tree.specs.declared.types.Scalar.{Scalar}
 use Rattle.cel_tree.specs.declared.calls.Arguments.{Arguments}
 use Rattle.cel_tree.specs.declared.fault.Fault.TheVariants.{NoOverload}
 use Rattle.cel_tree.specs.Ast.{tree_view, kind_view, entry_view, asts_of, entries_of}
-use Rattle.cel_tree.specs.Typing.{is_bind, type_of, types_of, items_of, values_of}
+use Rattle.cel_tree.specs.Typing.{is_bind, type_of, types_of, items_of}
 use Rattle.cel_check.specs.Scopes.{names_of}
 use Rattle.cel_check.specs.Parts.{method_of}
 use Rattle.cel_check.proofs.Fronts.{all_given, all_found, values_from, types-step, items-step, values-init, values-step, values-err, values-not, values-key, map-err, bind_short, has_not_one, has_no_member, method-gives}
