@@ -8,6 +8,8 @@ mod joins;
 mod lists;
 mod requests;
 mod status;
+#[cfg(test)]
+mod tests;
 mod types;
 
 pub use types::{
