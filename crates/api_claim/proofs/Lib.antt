@@ -1,2 +1,5 @@
+pub mod Inverse
+pub mod Kept
+pub mod Limits
 pub mod Readings
 pub mod Zips

@@ -4,3 +4,4 @@ pub mod Requests
 pub mod Constraints
 pub mod Claims
 pub mod Status
+pub mod Limits

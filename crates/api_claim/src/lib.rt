@@ -5,6 +5,7 @@ mod asks;
 mod claim;
 mod constraints;
 mod joins;
+mod laws;
 mod lists;
 mod requests;
 mod status;
@@ -12,6 +13,7 @@ mod status;
 mod tests;
 mod types;
 
+pub use laws::limits_are_kept;
 pub use types::{
     AllocationMode, ClaimStatus, DeviceAsk, DeviceConstraint, DeviceRequest, DeviceSubRequest,
     ExactDeviceRequest, RequestKind, ResourceClaim, StatusResult,

@@ -1,0 +1,84 @@
+-- The limits and name rules that each claim and each status keeps which is read (API reference of
+-- resource.k8s.io/v1).
+use Rattle.std.specs.Prelude.{◌≡◌, ℕ, ◌≤◌, ◌^◌, ◌-◌, true, false, List, [], ◌∷◌, length, map}
+use Rattle.std.specs.Str.{bytes_eq}
+use Rattle.object_fields.specs.Names.{is_dns_label, is_dns_name}
+use Rattle.object_fields.specs.Qualified.{domain_most, id_most, is_c_identifier}
+use Rattle.object_fields.specs.declared.qualified.QualName.{QualName}
+use Rattle.api_claim.specs.Asks.{selectors_most}
+use Rattle.api_claim.specs.Constraints.{constraints_most}
+use Rattle.api_claim.specs.Lists.{has_text}
+use Rattle.api_claim.specs.Requests.{all_names, requests_most, subrequests_most}
+use Rattle.api_claim.specs.Status.{results_most}
+use Rattle.api_claim.specs.declared.types.AllocationMode.{AllocationMode}
+use Rattle.api_claim.specs.declared.types.AllocationMode.TheVariants.{ExactCount, All}
+use Rattle.api_claim.specs.declared.types.ClaimStatus.{ClaimStatus}
+use Rattle.api_claim.specs.declared.types.DeviceAsk.{DeviceAsk}
+use Rattle.api_claim.specs.declared.types.DeviceConstraint.{DeviceConstraint}
+use Rattle.api_claim.specs.declared.types.DeviceRequest.{DeviceRequest}
+use Rattle.api_claim.specs.declared.types.DeviceSubRequest.{DeviceSubRequest}
+use Rattle.api_claim.specs.declared.types.RequestKind.{RequestKind}
+use Rattle.api_claim.specs.declared.types.RequestKind.TheVariants as kind
+use Rattle.api_claim.specs.declared.types.ResourceClaim.{ResourceClaim}
+
+-- each of them
+abbrev pub EachOf : {A : Type 0} → (A → Type 0) → List A → Type 0
+EachOf P [] = Unit {0}
+EachOf P (x ∷ xs) = P x × EachOf P xs
+
+-- no text is one of those behind it
+abbrev pub AreDistinct : List (List ℕ) → Type 0
+AreDistinct [] = Unit {0}
+AreDistinct (t ∷ ts) = EachOf (λ u. bytes_eq t u ≡ false) ts × AreDistinct ts
+
+pub record AreNames (names : List (List ℕ)) : Type 0 where
+  pub labels : EachOf (λ name. is_dns_label name ≡ true) names
+  pub distinct : AreDistinct names
+
+abbrev pub CountKept : AllocationMode → Type 0
+CountKept (ExactCount n) = (1 ≤ n) × (n ≤ 2 ^ 31 - 1)
+CountKept All = Unit {0}
+
+pub record AskKept (ask : DeviceAsk) : Type 0 where
+  pub selectors : length ask.selectors ≤ selectors_most
+  pub count : CountKept ask.mode
+
+pub record SubrequestsKept (subrequests : List DeviceSubRequest) : Type 0 where
+  pub some : 1 ≤ length subrequests
+  pub few : length subrequests ≤ subrequests_most
+  pub names : AreNames (map (λ s. s.name) subrequests)
+  pub asks : EachOf (λ s. AskKept s.ask) subrequests
+
+abbrev pub KindKept : RequestKind → Type 0
+KindKept (kind.Exactly exactly) = AskKept exactly.ask
+KindKept (kind.FirstAvailable subrequests) = SubrequestsKept subrequests
+
+pub record RequestsKept (requests : List DeviceRequest) : Type 0 where
+  pub some : 1 ≤ length requests
+  pub few : length requests ≤ requests_most
+  pub names : AreNames (map (λ r. r.name) requests)
+  pub kinds : EachOf (λ r. KindKept r.kind) requests
+
+-- a full name of an attribute
+pub record IsFullName (name : QualName) : Type 0 where
+  pub domain_length : length name.domain ≤ domain_most
+  pub id_length : length name.id ≤ id_most
+  pub domain : is_dns_name name.domain ≡ true
+  pub id : is_c_identifier name.id ≡ true
+
+pub record ConstraintKept (names : List (List ℕ)) (constraint : DeviceConstraint) : Type 0 where
+  pub requests : EachOf (λ t. has_text t names ≡ true) constraint.requests
+  pub attribute : IsFullName constraint.attribute
+
+-- of a claim whose requests have these names
+pub record ConstraintsKept (names : List (List ℕ)) (constraints : List DeviceConstraint) : Type 0 where
+  pub few : length constraints ≤ constraints_most
+  pub each_known : EachOf (ConstraintKept names) constraints
+
+pub record ClaimKept (claim : ResourceClaim) : Type 0 where
+  pub requests : RequestsKept claim.requests
+  pub constraints : ConstraintsKept (all_names claim.requests) claim.constraints
+
+pub record StatusKept (status : ClaimStatus) : Type 0 where
+  pub some : 1 ≤ length status.results
+  pub few : length status.results ≤ results_most
