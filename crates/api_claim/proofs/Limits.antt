@@ -1,8 +1,8 @@
 -- Each claim and each status that is read keeps its limits.
-use Rattle.std.proofs.Common.{◌≡◌, ◌∙◌, ℕ, ◌≤◌, ◌&&◌, ◌||◌, Bool, true, false, List, [], ◌∷◌, ◌++◌, length, Option, Some, None, Result, Ok, Err, ap, arith, codes, if◌then◌else◌, nat_lt, not, refl, subst, sym}
+use Rattle.std.proofs.Common.{◌≡◌, ◌∙◌, ℕ, ◌≤◌, ◌&&◌, ◌||◌, Bool, true, false, List, [], ◌∷◌, ◌++◌, length, Option, Some, None, Ok, Err, ap, arith, codes, if◌then◌else◌, nat_lt, not, refl, subst, sym}
 use Rattle.std.proofs.lemmas.Bool.{ltb-false}
-use Rattle.serde_json.specs.Data.{Data, Items}
-use Rattle.object_fields.specs.Fields.{error_at, field_error, items_length, list_at, object_at, object_value, optional_at, text_at, text_value, unless, unset_at, ◌>>=◌}
+use Rattle.serde_json.specs.Data.{Data}
+use Rattle.object_fields.specs.Fields.{error_at, items_length, list_at, object_at, object_value, optional_at, text_at, text_value, unless, unset_at, ◌>>=◌}
 use Rattle.object_fields.specs.Meta.{meta_at}
 use Rattle.object_fields.specs.Names.{is_dns_name}
 use Rattle.object_fields.specs.Qualified.{cut_at, domain_and_id, domain_most, id_most, is_c_identifier}
@@ -14,8 +14,8 @@ use Rattle.object_fields.specs.declared.path.Step.TheVariants.{Member}
 use Rattle.object_fields.specs.declared.qualified.QualName.{QualName}
 use Rattle.api_claim.specs.Claims.{claim_of, constraints_over, devices_at, devices_in, devices_with}
 use Rattle.api_claim.specs.Constraints.{attribute_at, constraint_at, constraints_at, constraints_most, full_name_from, full_name_in, known_at, known_requests_at}
-use Rattle.api_claim.specs.Limits.{ClaimKept, ConstraintKept, ConstraintsKept, EachOf, IsFullName, RequestsKept, StatusKept}
-use Rattle.api_claim.specs.Lists.{each, each_at, each_in, has_text, some_items_at}
+use Rattle.api_claim.specs.Limits.{ClaimKept, ConstraintKept, ConstraintsKept, IsFullName, RequestsKept, StatusKept}
+use Rattle.api_claim.specs.Lists.{each, each_in, has_text, some_items_at}
 use Rattle.api_claim.specs.Requests.{all_names, requests_at, requests_in, requests_most}
 use Rattle.api_claim.specs.Status.{allocation_at, allocation_in, members_at, node_at, result_at, results_at, results_most, status_at, status_of}
 use Rattle.api_claim.specs.declared.claim.Devices.{Devices}

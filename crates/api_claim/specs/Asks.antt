@@ -3,7 +3,7 @@
 use Rattle.std.specs.Prelude.{ℕ, zero, suc, ◌^◌, ◌-◌, Bool, true, false, List, [], ◌∷◌, ◌++◌, Option, Some, None, Result, Ok, Err, codes, unwrap_or, ⊤, if◌then◌else◌}
 use Rattle.std.specs.Str.{bytes_eq}
 use Rattle.serde_json.specs.Data.{Data}
-use Rattle.object_fields.specs.Fields.{field_error, list_at, member_of, natural_at, object_at, object_value, optional_at, text_at, truth_at, unset_at, ◌>>=◌}
+use Rattle.object_fields.specs.Fields.{field_error, list_at, natural_at, object_at, object_value, optional_at, text_at, truth_at, unset_at, ◌>>=◌}
 use Rattle.object_fields.specs.declared.error.FieldError.{FieldError}
 use Rattle.object_fields.specs.declared.kind.Kind.TheVariants.{NotSupported}
 use Rattle.object_fields.specs.declared.path.Step.{Step}

@@ -1,5 +1,5 @@
 -- What is read of the requests of a ResourceClaim (API reference of resource.k8s.io/v1), row by row.
-use Rattle.std.specs.Prelude.{ℕ, Bool, true, false, not, List, [], ◌∷◌, ◌++◌, map, is_some, Result, Ok, Err, codes, ⊤, if◌then◌else◌}
+use Rattle.std.specs.Prelude.{ℕ, Bool, true, false, not, List, [], ◌∷◌, ◌++◌, map, is_some, Result, Ok, codes, if◌then◌else◌}
 use Rattle.std.specs.List.{zip, flat_map}
 use Rattle.serde_json.specs.Data.{Data, Items}
 use Rattle.object_fields.specs.Fields.{error_at, member_of, object_value, short_list_at, unless, ◌>>=◌}

@@ -1,9 +1,9 @@
 -- What is read of the status of a ResourceClaim (API reference of resource.k8s.io/v1).
-use Rattle.std.specs.Prelude.{ℕ, ◌&&◌, Bool, true, false, List, [], ◌∷◌, ◌++◌, Option, Some, None, Result, Ok, Err, codes, option_and_then, ⊤, if◌then◌else◌}
+use Rattle.std.specs.Prelude.{ℕ, ◌&&◌, Bool, false, List, [], ◌∷◌, ◌++◌, Option, Some, None, Result, Ok, codes, option_and_then, if◌then◌else◌}
 use Rattle.std.specs.Str.{bytes_eq}
 use Rattle.serde_json.specs.Data.{Data, Items, no_items, item}
 use Rattle.serde_json.specs.Find.{as_array, as_str}
-use Rattle.object_fields.specs.Fields.{field_error, member_of, object_at, object_value, short_list_at, some_or, text_at, unset_at, ◌>>=◌}
+use Rattle.object_fields.specs.Fields.{field_error, member_of, object_at, object_value, some_or, text_at, unset_at, ◌>>=◌}
 use Rattle.object_fields.specs.Meta.{meta_at}
 use Rattle.object_fields.specs.declared.error.FieldError.{FieldError}
 use Rattle.object_fields.specs.declared.key.DeviceId.{DeviceId}

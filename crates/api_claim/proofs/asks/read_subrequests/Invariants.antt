@@ -1,4 +1,4 @@
-use Rattle.std.proofs.Common.{◌≡◌, drop, []}
+use Rattle.std.proofs.Common.{◌≡◌, drop}
 use Rattle.serde_json.specs.View.{items_view}
 use Rattle.api_claim.specs.Asks.{subrequest_in}
 use Rattle.api_claim.specs.Lists.{alone, each, each_from}

@@ -1,4 +1,4 @@
-use Rattle.std.proofs.Common.{◌≡◌, ◌∙◌, sym}
+use Rattle.std.proofs.Common.{◌∙◌, sym}
 use Rattle.std.proofs.Math.Logic.{⊎_elim}
 use Rattle.api_claim.specs.Requests.{subrequest_of}
 use Rattle.api_claim.proofs.Zips.{first_ended, second_ended}

@@ -1,4 +1,4 @@
-use Rattle.std.proofs.Common.{◌≡◌, drop, []}
+use Rattle.std.proofs.Common.{◌≡◌, drop}
 use Rattle.serde_json.specs.View.{items_view}
 use Rattle.api_claim.specs.Lists.{each_beside, each_from}
 use Rattle.api_claim.specs.Requests.{request_name_at}
