@@ -90,7 +90,7 @@ abbrev pub OfSome : {A : Type 0} → (A → Type 0) → Option A → Type 0
 OfSome P None = Unit {0}
 OfSome P (Some x) = P x
 
-if_there_some : {A : Type 0} (P : A → Type 0) (v : Option Data) (r : Result A FieldError) (gives : (x : A) → r ≡ Ok x → P x) (o : Option A) → if_there v r ≡ Ok o → OfSome P o
+pub if_there_some : {A : Type 0} (P : A → Type 0) (v : Option Data) (r : Result A FieldError) (gives : (x : A) → r ≡ Ok x → P x) (o : Option A) → if_there v r ≡ Ok o → OfSome P o
 if_there_some P None r gives o h =
     let e : None ≡ o = cc in subst (OfSome P) e tt
 if_there_some {A = A} P (Some v) r gives o h =

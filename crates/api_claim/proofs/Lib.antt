@@ -1,4 +1,5 @@
 pub mod Inverse
+pub mod Keys
 pub mod Kept
 pub mod Limits
 pub mod Readings

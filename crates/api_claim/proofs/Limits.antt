@@ -26,6 +26,7 @@ use Rattle.api_claim.specs.declared.types.DeviceRequest.{DeviceRequest}
 use Rattle.api_claim.specs.declared.types.ResourceClaim.{ResourceClaim}
 use Rattle.api_claim.specs.declared.types.StatusResult.{StatusResult}
 use Rattle.api_claim.proofs.Inverse.{given, rows, rows_length, then_ok, unless_ok}
+use Rattle.api_claim.proofs.Keys.{meta_kept}
 use Rattle.api_claim.proofs.Kept.{each_at_each, each_at_few, each_in_each, requests_kept, some_few}
 
 -- ---- constraints
@@ -121,7 +122,7 @@ claim_kept d claim h =
     let u = then_ok (object_at [] (codes "spec") d) (λ spec. object_at (Member (codes "spec") ∷ []) (codes "devices") spec >>= λ devices. devices_in (Member (codes "spec") ∷ Member (codes "devices") ∷ []) devices) t.0 t.1.0 in
     let v = then_ok (object_at (Member (codes "spec") ∷ []) (codes "devices") u.0) (λ devices. devices_in (Member (codes "spec") ∷ Member (codes "devices") ∷ []) devices) t.0 u.1.1 in
     let k = devices_kept (Member (codes "spec") ∷ Member (codes "devices") ∷ []) v.0 t.0 v.1.1 in
-    let kept : ClaimKept made = record { requests = k.requests; constraints = k.constraints } in
+    let kept : ClaimKept made = record { key = meta_kept d s.0 s.1.0; requests = k.requests; constraints = k.constraints } in
     subst ClaimKept is kept
 
 -- ---- a status
