@@ -1,6 +1,6 @@
 use crate::{
     Attribute, CounterConsumption, CounterSet, Device, Nodes, ResourceSlice, SliceNodes,
-    read_selector,
+    read_selector, slices_keep_limits,
 };
 use dra_values::{Table, Text};
 use node_select::{Requirement, Selector, Test};
@@ -752,6 +752,7 @@ fn outcome(alloc: Global, document: &str) -> Result<String, Fail> {
 #[test]
 fn limits_are_met_and_not_passed(rt: HostRuntime) -> Result<(), Fail> {
     let alloc = rt.alloc();
+    slices_keep_limits();
     for (what, most, error) in [
         (Limited::Devices, 128, "TooMany spec.devices"),
         (Limited::Counters, 31, "TooMany spec.sharedCounters"),
