@@ -1,6 +1,7 @@
 pub mod Ast
 pub mod Calls
 pub mod Code
+pub mod Estimate
 pub mod Faults
 pub mod HasType
 pub mod Typed
