@@ -1,0 +1,14 @@
+use Rattle.std.proofs.Common.{refl, ap, ◌∙◌, arith, max, ◌+◌}
+use Rattle.cel_cost.specs.Capped.{capped, seen}
+use Rattle.cel_cost.proofs.Capping.{made, weighing-cap, part-cap, element-cap}
+use Rattle.cel_tree.specs.Faults.{row}
+use Rattle.cel_tree.specs.Estimate.{bounds, constant_bounds, constant_weight}
+use Rattle.cel_tree.specs.Typing.{constant_type}
+use Rattle.cel_tree.specs.Ast.{constant_view}
+use Rattle.cel_cost.proofs.bounds.literal_bounds.Goals as goal
+
+pub returns : goal.returns
+unfolding constant_bounds
+returns c =
+    let l = constant_view c.args.literal.now in
+    made _ c.literal_type.result (constant_type l) c.literal_weight.result 0 1 (constant_weight l) 0 1 c.new.ensures c.literal_type.ensures c.literal_weight.ensures refl refl

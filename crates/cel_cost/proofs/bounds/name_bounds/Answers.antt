@@ -1,0 +1,18 @@
+use Rattle.std.proofs.Common.{◌≡◌, min, refl, ap, sym, ◌∙◌, arith, max, ◌+◌}
+use Rattle.cel_cost.specs.Capped.{cap, capped, seen}
+use Rattle.cel_cost.proofs.Capping.{made, one_more, sum_more, weighing-cap, part-cap, element-cap, kind_of, weight_of, number_of, steps_of}
+use Rattle.cel_tree.specs.Faults.{row}
+use Rattle.std.proofs.Common.{Option, Some, None}
+use Rattle.std.specs.Prelude.{option_map}
+use Rattle.cel_cost.specs.declared.bounds.Bounds.{Bounds}
+use Rattle.cel_tree.specs.Estimate.{name_bounds, Bounds as Estimated}
+use Rattle.cel_cost.proofs.Capping.{named, unnamed}
+use Rattle.cel_cost.proofs.bounds.name_bounds.Goals as goal
+
+pub returns-in-Some : goal.returns-in-Some
+returns-in-Some c = λ x e.
+    named (seen c.in-Some.value) x (sym (ap (λ (o : Option Bounds). option_map seen o) c.in-Some.is) ∙ e)
+
+pub returns-in-None : goal.returns-in-None
+returns-in-None c = λ x e.
+    c.new.ensures ∙ unnamed x (sym (ap (λ (o : Option Bounds). option_map seen o) c.in-None.is) ∙ e)

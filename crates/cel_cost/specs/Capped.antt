@@ -1,0 +1,47 @@
+-- Bounds as far as 64 bits count.
+use Rattle.std.specs.Prelude.{◌≡◌, ℕ, min, map, length, List, [], ◌∷◌, Option, Some, None, option_map, unwrap_or}
+use Rattle.cel_tree.specs.declared.tree.Tree.{Tree}
+use Rattle.cel_tree.specs.declared.tree.Entry.{Entry}
+use Rattle.cel_tree.specs.Ast.{tree_view, entry_view, asts_of, entries_of}
+use Rattle.cel_tree.specs.Estimate.{Bounds, Names, most, each, keys_of, values_of, arguments_of, elements_type, weights_of, steps_of, last_weight}
+use Rattle.cel_cost.specs.declared.bounds.Bounds as code
+use Rattle.cel_cost.specs.declared.parts.Parts as parts
+use Rattle.cel_cost.specs.declared.scope.Scope.{Scope, Top, Bound'}
+
+abbrev pub cap : ℕ → ℕ
+cap n = min n most
+
+unfoldable pub capped : Bounds → Bounds
+capped b = record { kind = b.kind; weight = cap b.weight; number = cap b.number; steps = cap b.steps }
+
+abbrev pub seen : code.Bounds → Bounds
+seen b = record { kind = b.kind; weight = b.weight; number = b.number; steps = b.steps }
+
+abbrev pub names : Scope → Names
+names Top = []
+names (Bound' name b p outer) = (name.now, seen b) ∷ names outer
+
+-- the bounds of names as far as they count
+abbrev pub capped_names : Names → Names
+capped_names [] = []
+capped_names (b ∷ bs) = (b.0, capped b.1) ∷ capped_names bs
+
+-- what is kept of expressions one after another
+unfoldable pub parts_of : List Bounds → parts.Parts
+parts_of xs = record {
+  arguments = arguments_of xs;
+  elements = elements_type xs;
+  number = cap (length xs);
+  weight = cap (weights_of xs);
+  steps = cap (steps_of xs);
+  last = option_map cap (last_weight xs);
+}
+
+abbrev pub listed : Names → List Tree → List Bounds
+listed env ts = each env (asts_of (map tree_view ts))
+
+abbrev pub keys : Names → List Entry → List Bounds
+keys env es = keys_of env (entries_of (map entry_view es))
+
+abbrev pub values : Names → List Entry → List Bounds
+values env es = values_of env (entries_of (map entry_view es))

@@ -1,0 +1,13 @@
+//! How many steps the evaluation of a selector takes at most, before there is a device to evaluate it
+//! on. The tables of this bound are this project's own.
+#![tactic(auto)]
+
+mod bounds;
+mod parts;
+mod scope;
+mod trees;
+
+pub use trees::estimate;
+
+#[cfg(test)]
+mod tests;
