@@ -1,5 +1,5 @@
 -- Sums and products that stop at the greatest number on the way.
-use Rattle.std.proofs.Common.{◌≡◌, ℕ, ◌+◌, ◌*◌, ◌≤◌, ◌⊎◌, min, max, refl, arith, ap, sym, ◌∙◌, inl, inr, suc, zero, List, Option, Some, None}
+use Rattle.std.proofs.Common.{◌≡◌, ℕ, ◌+◌, ◌*◌, min, refl, arith, ap, ◌∙◌, suc, zero, Option, Some, None}
 use Rattle.std.specs.Prelude.{unwrap_or, option_map}
 use Rattle.std.proofs.Math.Nat.{mul-zero, mul-suc, mul_comm}
 use Rattle.cel_tree.specs.declared.types.CelType.{CelType}

@@ -1,3 +1,4 @@
 pub mod Capping
 pub mod Gathered
+pub mod TypesOfBounds
 pub mod Scopes

@@ -1,5 +1,5 @@
 -- Bounds as far as 64 bits count.
-use Rattle.std.specs.Prelude.{◌≡◌, ℕ, min, map, length, List, [], ◌∷◌, Option, Some, None, option_map, unwrap_or}
+use Rattle.std.specs.Prelude.{ℕ, min, map, length, List, [], ◌∷◌, option_map}
 use Rattle.cel_tree.specs.declared.tree.Tree.{Tree}
 use Rattle.cel_tree.specs.declared.tree.Entry.{Entry}
 use Rattle.cel_tree.specs.Ast.{tree_view, entry_view, asts_of, entries_of}

@@ -3,10 +3,12 @@
 #![tactic(auto)]
 
 mod bounds;
+mod laws;
 mod parts;
 mod scope;
 mod trees;
 
+pub use laws::bounds_have_the_type;
 pub use trees::estimate;
 
 #[cfg(test)]

@@ -1,6 +1,6 @@
 ghost use Rattle.std.specs.Prelude.{◌≡◌, ℕ, ◌+◌, ◌*◌, List, [], ◌∷◌, unwrap_or};
 ghost use Rattle.cel_tree.specs.Typing.{with_first, is_has};
-ghost use Rattle.cel_tree.specs.Estimate.{Bounds as Estimated, scalar_in, key_in, gathered_weight, comprehension_bounds, bind_bounds, list_bounds, map_bounds, call_bounds, method_bounds};
+ghost use Rattle.cel_tree.specs.Estimate.{Bounds as Estimated, scalar_in, gathered_weight, comprehension_bounds, bind_bounds, list_bounds, map_bounds, call_bounds, method_bounds};
 ghost use Rattle.cel_cost.specs.Capped.{cap, capped, seen, parts_of};
 
 use crate::bounds::{Bounds, element_of, typed};
@@ -80,16 +80,6 @@ fn scalar_in(kind: CelType) -> Scalar
     }
 }
 
-fn key_in(scalar: Scalar) -> KeyType
-    ensures { result ≡ key_in scalar }
-{
-    match scalar {
-        Scalar::Int => KeyType::Int,
-        Scalar::Bool => KeyType::Bool,
-        _ => KeyType::Text,
-    }
-}
-
 fn scalar_or(scalar: Option<Scalar>, other: Scalar) -> Scalar
     ensures { result ≡ unwrap_or scalar other }
 {
@@ -110,11 +100,10 @@ pub fn list_bounds(items: Parts) -> Bounds
 }
 
 /// A map takes one step and those of its keys and values, and weighs one and what these weigh.
-pub fn map_bounds(keys: Parts, values: Parts) -> Bounds
+pub fn map_bounds(key: KeyType, keys: Parts, values: Parts) -> Bounds
     ensures { (ks vs : List Estimated) → keys ≡ parts_of ks → values ≡ parts_of vs
-        → seen result ≡ capped (map_bounds ks vs) }
+        → seen result ≡ capped (map_bounds key ks vs) }
 {
-    let key = key_in(scalar_or(keys.elements, Scalar::Text));
     let kind = CelType::Map(key, scalar_or(values.elements, Scalar::Dyn));
     let weight = keys.weight.saturating_add(values.weight).saturating_add(1);
     let steps = keys.steps.saturating_add(values.steps).saturating_add(1);

@@ -1,5 +1,7 @@
-ghost use Rattle.std.specs.Prelude.{◌≡◌, drop, map};
-ghost use Rattle.cel_tree.specs.Ast.{tree_view, asts_of};
+ghost use Rattle.std.specs.Prelude.{◌≡◌, drop, map, unwrap_or, option_and_then};
+ghost use Rattle.cel_tree.specs.Ast.{tree_view, entry_view, asts_of, entries_of};
+ghost use Rattle.cel_tree.specs.Typing.{keys_type, key_type, literal_of};
+ghost use Rattle.cel_tree.specs.declared.types.KeyType.TheVariants as key_kind;
 ghost use Rattle.cel_tree.specs.Estimate.{Names, bounds_of, bind_of, Estimate, variable_in};
 ghost use Rattle.cel_cost.specs.Capped.{capped, capped_names, seen, names, parts_of, listed, keys, values};
 
@@ -11,7 +13,9 @@ use crate::parts::{
     Parts, bind_bounds, call_bounds, comprehension_bounds, list_bounds, map_bounds, method_bounds,
 };
 use crate::scope::{Scope, is_bind};
-use cel_tree::{Called, Checked, Entry, Kind, Tree, called_of, nodes_have_their_lists};
+use cel_tree::{
+    Called, Checked, Entry, KeyType, Kind, Literal, Tree, called_of, nodes_have_their_lists,
+};
 
 /// The most steps that the evaluation of the tree takes, or the greatest number of 64 bits where they
 /// are more. Takes no memory.
@@ -31,6 +35,26 @@ fn variable_in<'x>(arguments: &'x Vec<Tree>) -> &'x str
             _ => "",
         },
         None => "",
+    }
+}
+
+/// The type of a map literal's keys, by the first of them.
+fn keys_type(entries: &Vec<Entry>) -> KeyType
+    ensures { result ≡ keys_type (entries_of (map entry_view entries.now.items)) }
+{
+    match entries.first() {
+        Some(entry) => key_type(&entry.key),
+        None => KeyType::Text,
+    }
+}
+
+fn key_type(key: &Tree) -> KeyType
+    ensures { result ≡ unwrap_or (option_and_then key_type (literal_of (tree_view key.now))) key_kind.Text }
+{
+    match &key.kind {
+        Kind::Literal(Literal::Int(_)) => KeyType::Int,
+        Kind::Literal(Literal::Bool(_)) => KeyType::Bool,
+        _ => KeyType::Text,
     }
 }
 
@@ -89,7 +113,11 @@ pub fn bounds_of<'x>(tree: &'x Tree, scope: &'x Scope<'x>) -> Bounds
             }
         }
         Kind::List(items) => list_bounds(parts_of(items, 0, scope)),
-        Kind::Map(entries) => map_bounds(keys_of(entries, scope), values_of(entries, scope)),
+        Kind::Map(entries) => map_bounds(
+            keys_type(entries),
+            keys_of(entries, scope),
+            values_of(entries, scope),
+        ),
     }
 }
 

@@ -9,7 +9,6 @@ use Rattle.cel_tree.specs.declared.tree.BinaryOp.TheVariants as op
 use Rattle.cel_tree.specs.declared.types.Scalar.{Scalar}
 use Rattle.cel_tree.specs.declared.types.Scalar.TheVariants as scalar
 use Rattle.cel_tree.specs.declared.types.KeyType.{KeyType}
-use Rattle.cel_tree.specs.declared.types.KeyType.TheVariants as key
 use Rattle.cel_tree.specs.declared.types.Facet.TheVariants.{Attributes, Capacities}
 use Rattle.cel_tree.specs.declared.types.CelType.{CelType}
 use Rattle.cel_tree.specs.declared.types.CelType.TheVariants as kind
@@ -23,7 +22,8 @@ use Rattle.cel_tree.specs.Ast.{Constant, Null, Truth, Whole, Bytes, Ast, Node, F
 use Rattle.cel_tree.specs.Types.{bool, any, unary_type, binary_type, conditional_type, member_type, index_type, element_type}
 use Rattle.cel_tree.specs.Calls.{called_of}
 use Rattle.cel_tree.specs.Faults.{row, joined, comprehension_type, called_type, method_called_type}
-use Rattle.cel_tree.specs.Typing.{is_none, is_ident, is_bind, is_has, constant_type, device_type, variable_of, comprehension_in, with_first}
+use Rattle.cel_tree.specs.Typing.{is_none, is_ident, is_bind, is_has, constant_type, device_type, variable_of, comprehension_in, with_first, keys_type, list_type, map_type}
+use Rattle.cel_tree.specs.Typing as typing
 
 -- The bounds of an expression: its type, the greatest weight and the greatest number of elements of
 -- its value, and the most steps of its evaluation.
@@ -40,6 +40,11 @@ Names = List (List ℕ × Bounds)
 abbrev pub look_up : List ℕ → Names → Option Bounds
 look_up name [] = None
 look_up name (b ∷ bs) = if bytes_eq b.0 name then Some b.1 else look_up name bs
+
+-- the names in scope with the types of their values
+abbrev pub kinds : Names → typing.Names
+kinds [] = []
+kinds (b ∷ bs) = (b.0, b.1.kind) ∷ kinds bs
 
 -- `device`, where no inner name hides it
 abbrev pub is_device : Names → Ast → Bool
@@ -244,18 +249,13 @@ elements_type (x ∷ xs) = Some (joined (scalar_in x.kind) (elements_type xs))
 -- A list takes one step and its elements', and weighs one and what they weigh.
 unfoldable pub list_bounds : List Bounds → Bounds
 list_bounds xs =
-    bounds (kind.List (unwrap_or (elements_type xs) scalar.Dyn)) (1 + weights_of xs) (length xs) (1 + steps_of xs)
-
-abbrev pub key_in : Scalar → KeyType
-key_in scalar.Int = key.Int
-key_in scalar.Bool = key.Bool
-key_in s = key.Text
+    bounds (list_type (elements_type xs)) (1 + weights_of xs) (length xs) (1 + steps_of xs)
 
 -- A map takes one step and those of its keys and values, and weighs one and what these weigh.
-unfoldable pub map_bounds : List Bounds → List Bounds → Bounds
-map_bounds keys values =
+unfoldable pub map_bounds : KeyType → List Bounds → List Bounds → Bounds
+map_bounds k keys values =
     bounds
-      (kind.Map (key_in (unwrap_or (elements_type keys) scalar.Text)) (unwrap_or (elements_type values) scalar.Dyn))
+      (map_type k (elements_type values))
       (1 + (weights_of keys + weights_of values))
       (length keys)
       (1 + (steps_of keys + steps_of values))
@@ -285,7 +285,7 @@ abbrev mutual
         (λ c. comprehension_bounds span c (bounds_of names t) (bodies_of ((variable_in ts, element_bounds (bounds_of names t)) ∷ names) ts))
         (method_bounds span (called_of name) (bounds_of names t) (each names ts))
   form_bounds names span (ListOf ts) = list_bounds (each names ts)
-  form_bounds names span (MapOf es) = map_bounds (keys_of names es) (values_of names es)
+  form_bounds names span (MapOf es) = map_bounds (keys_type es) (keys_of names es) (values_of names es)
 
   -- trees one after another
   pub each : Names → Asts → List Bounds

@@ -1,6 +1,6 @@
-use Rattle.std.proofs.Common.{◌≡◌, min, refl, ap, sym, ◌∙◌, arith, max, ◌+◌}
-use Rattle.cel_cost.specs.Capped.{cap, capped, seen}
-use Rattle.cel_cost.proofs.Capping.{made, one_more, sum_more, weighing-cap, part-cap, element-cap, kind_of, weight_of, number_of, steps_of}
+use Rattle.std.proofs.Common.{◌≡◌, ap, ◌∙◌, arith, ◌+◌}
+use Rattle.cel_cost.specs.Capped.{cap, seen}
+use Rattle.cel_cost.proofs.Capping.{made, sum_more, weighing-cap, kind_of, weight_of, number_of, steps_of}
 use Rattle.cel_tree.specs.Faults.{row}
 use Rattle.cel_tree.specs.Estimate.{typed, binary_bounds, weighing}
 use Rattle.cel_tree.specs.Types.{binary_type}

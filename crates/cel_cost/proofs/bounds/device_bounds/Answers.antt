@@ -1,7 +1,5 @@
-use Rattle.std.proofs.Common.{refl, ap, ◌∙◌, arith, max, ◌+◌}
-use Rattle.cel_cost.specs.Capped.{capped, seen}
-use Rattle.cel_cost.proofs.Capping.{made, weighing-cap, part-cap, element-cap}
-use Rattle.cel_tree.specs.Faults.{row}
+use Rattle.std.proofs.Common.{refl, ap, ◌∙◌}
+use Rattle.cel_cost.proofs.Capping.{made}
 use Rattle.cel_tree.specs.Estimate.{typed, device_bounds}
 use Rattle.cel_tree.specs.Typing.{device_type}
 use Rattle.cel_cost.proofs.bounds.device_bounds.Goals as goal

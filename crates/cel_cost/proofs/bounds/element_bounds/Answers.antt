@@ -1,7 +1,6 @@
-use Rattle.std.proofs.Common.{◌≡◌, min, refl, ap, sym, ◌∙◌, arith, max, ◌+◌}
-use Rattle.cel_cost.specs.Capped.{cap, capped, seen}
-use Rattle.cel_cost.proofs.Capping.{made, one_more, sum_more, weighing-cap, part-cap, element-cap, kind_of, weight_of, number_of, steps_of}
-use Rattle.cel_tree.specs.Faults.{row}
+use Rattle.std.proofs.Common.{refl, ap, ◌∙◌}
+use Rattle.cel_cost.specs.Capped.{seen}
+use Rattle.cel_cost.proofs.Capping.{made, element-cap, kind_of, weight_of}
 use Rattle.cel_tree.specs.declared.types.CelType.TheVariants as kind
 use Rattle.cel_tree.specs.Estimate.{element_bounds, element_of, element_weight}
 use Rattle.cel_cost.proofs.bounds.element_bounds.Goals as goal

@@ -1,8 +1,6 @@
-use Rattle.std.proofs.Common.{refl, ap, ◌∙◌, arith, max, ◌+◌}
-use Rattle.cel_cost.specs.Capped.{capped, seen}
-use Rattle.cel_cost.proofs.Capping.{made, weighing-cap, part-cap, element-cap}
-use Rattle.cel_tree.specs.Faults.{row}
-use Rattle.cel_tree.specs.Estimate.{bounds, constant_bounds, constant_weight}
+use Rattle.std.proofs.Common.{refl}
+use Rattle.cel_cost.proofs.Capping.{made}
+use Rattle.cel_tree.specs.Estimate.{constant_bounds, constant_weight}
 use Rattle.cel_tree.specs.Typing.{constant_type}
 use Rattle.cel_tree.specs.Ast.{constant_view}
 use Rattle.cel_cost.proofs.bounds.literal_bounds.Goals as goal

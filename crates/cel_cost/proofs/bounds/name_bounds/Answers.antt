@@ -1,11 +1,8 @@
-use Rattle.std.proofs.Common.{◌≡◌, min, refl, ap, sym, ◌∙◌, arith, max, ◌+◌}
-use Rattle.cel_cost.specs.Capped.{cap, capped, seen}
-use Rattle.cel_cost.proofs.Capping.{made, one_more, sum_more, weighing-cap, part-cap, element-cap, kind_of, weight_of, number_of, steps_of}
-use Rattle.cel_tree.specs.Faults.{row}
-use Rattle.std.proofs.Common.{Option, Some, None}
+use Rattle.std.proofs.Common.{ap, sym, ◌∙◌}
+use Rattle.cel_cost.specs.Capped.{seen}
+use Rattle.std.proofs.Common.{Option}
 use Rattle.std.specs.Prelude.{option_map}
 use Rattle.cel_cost.specs.declared.bounds.Bounds.{Bounds}
-use Rattle.cel_tree.specs.Estimate.{name_bounds, Bounds as Estimated}
 use Rattle.cel_cost.proofs.Capping.{named, unnamed}
 use Rattle.cel_cost.proofs.bounds.name_bounds.Goals as goal
 

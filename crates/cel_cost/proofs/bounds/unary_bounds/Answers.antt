@@ -1,6 +1,6 @@
-use Rattle.std.proofs.Common.{◌≡◌, min, refl, ap, sym, ◌∙◌, arith, max, ◌+◌}
-use Rattle.cel_cost.specs.Capped.{cap, capped, seen}
-use Rattle.cel_cost.proofs.Capping.{made, one_more, sum_more, weighing-cap, part-cap, element-cap, kind_of, weight_of, number_of, steps_of}
+use Rattle.std.proofs.Common.{refl, ap, ◌∙◌, ◌+◌}
+use Rattle.cel_cost.specs.Capped.{seen}
+use Rattle.cel_cost.proofs.Capping.{made, one_more, kind_of, steps_of}
 use Rattle.cel_tree.specs.Faults.{row}
 use Rattle.cel_tree.specs.Estimate.{typed, unary_bounds}
 use Rattle.cel_tree.specs.Types.{unary_type}

@@ -1,4 +1,4 @@
-use Rattle.std.proofs.Common.{◌≡◌, ℕ, List, Some, true, false, ◌∷◌, ◌≤◌, ◌<◌, min, length, drop, map, refl, ap, sym, ◌∙◌, arith}
+use Rattle.std.proofs.Common.{◌≡◌, ℕ, List, Some, true, false, ◌∷◌, drop, map, ap, sym, ◌∙◌, arith}
 use Rattle.cel_tree.specs.Ast.{Form, Method, tree_view, kind_view, asts_of}
 use Rattle.cel_tree.specs.Estimate.{Names, form_bounds, variable_in, bounds_of, is_device, device_bounds, element_bounds}
 use Rattle.cel_cost.specs.Capped.{capped, capped_names, seen, names, parts_of, listed}

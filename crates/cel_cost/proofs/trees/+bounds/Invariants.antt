@@ -1,4 +1,4 @@
-use Rattle.std.proofs.Common.{◌≡◌, ◌-◌, ◌≤◌, min, drop, length}
+use Rattle.std.proofs.Common.{◌≡◌, ◌≤◌, min, drop, length}
 use Rattle.cel_cost.specs.Capped.{names, capped_names, parts_of, listed, keys, values}
 use Rattle.cel_tree.specs.Estimate.{Names}
 use Rattle.cel_cost.proofs.trees.+bounds.Given as goal

@@ -1,7 +1,7 @@
-use Rattle.std.proofs.Common.{◌≡◌, [], refl, ap, ◌∙◌, min}
+use Rattle.std.proofs.Common.{[], refl, ap, ◌∙◌}
 use Rattle.cel_tree.specs.Ast.{Ast}
-use Rattle.cel_tree.specs.Estimate.{Bounds, Estimate, bounds_of}
-use Rattle.cel_cost.specs.Capped.{capped, seen}
+use Rattle.cel_tree.specs.Estimate.{Estimate}
+use Rattle.cel_cost.specs.Capped.{seen}
 use Rattle.cel_cost.proofs.Capping.{steps_of}
 use Rattle.cel_cost.proofs.trees.estimate.Goals as goal
 

@@ -1,12 +1,9 @@
-use Rattle.std.proofs.Common.{sym, ◌≡◌, ℕ, List, ◌∷◌, Some, refl, ap, ◌∙◌, arith, ◌+◌, ◌*◌, length}
-use Rattle.std.specs.Prelude.{unwrap_or, option_map}
-use Rattle.cel_tree.specs.declared.types.Scalar.TheVariants as scalar
-use Rattle.cel_tree.specs.declared.types.CelType.TheVariants as kind
-use Rattle.cel_tree.specs.Faults.{joined, called_type, method_called_type, comprehension_type}
+use Rattle.std.proofs.Common.{◌≡◌, ◌∷◌, Some, ap, ◌∙◌, arith, length}
+use Rattle.std.specs.Prelude.{unwrap_or}
+use Rattle.cel_tree.specs.Faults.{joined}
 use Rattle.cel_tree.specs.Typing.{with_first}
-use Rattle.cel_tree.specs.Types.{bool}
-use Rattle.cel_tree.specs.Estimate.{Bounds, typed, arguments_of, elements_type, weights_of, steps_of, last_weight, scalar_in, key_in, element_of, gathered_weight, plain_bounds, has_bounds, comprehension_bounds, bind_bounds, list_bounds, map_bounds}
-use Rattle.cel_cost.specs.Capped.{cap, capped, seen, parts_of}
+use Rattle.cel_tree.specs.Estimate.{arguments_of, elements_type, weights_of, steps_of, last_weight, scalar_in}
+use Rattle.cel_cost.specs.Capped.{cap, seen, parts_of}
 use Rattle.cel_cost.proofs.Capping.{made, one_more, sum_more, product, unwrap-cap}
 use Rattle.cel_cost.proofs.Capping as bounds
 use Rattle.cel_cost.proofs.Gathered.{arguments_are, elements_are, number_is, weights_are, steps_are, last_is, weights-more, steps-more}
