@@ -126,19 +126,19 @@ weighing op.Remainder weights = 0
 unfoldable pub binary_bounds : Span → BinaryOp → Bounds → Bounds → Bounds
 binary_bounds span o x y =
     bounds
-      (typed (row span (binary_type o x.kind y.kind)))
-      (x.weight + y.weight)
-      (x.number + y.number)
-      (1 + (x.steps + y.steps) + weighing o (x.weight + y.weight))
+    (typed (row span (binary_type o x.kind y.kind)))
+    (x.weight + y.weight)
+    (x.number + y.number)
+    (1 + (x.steps + y.steps) + weighing o (x.weight + y.weight))
 
 -- `test ? then : otherwise` takes one step, the test's, and the dearer branch's.
 unfoldable pub conditional_bounds : Span → Bounds → Bounds → Bounds → Bounds
 conditional_bounds span test x y =
     bounds
-      (typed (row span (conditional_type test.kind x.kind y.kind)))
-      (max x.weight y.weight)
-      (max x.number y.number)
-      (1 + (test.steps + max x.steps y.steps))
+    (typed (row span (conditional_type test.kind x.kind y.kind)))
+    (max x.weight y.weight)
+    (max x.number y.number)
+    (1 + (test.steps + max x.steps y.steps))
 
 -- the weight of what stands in a value: 257 of an attribute, or else at most that of the value
 abbrev pub part_weight : CelType → ℕ → ℕ
@@ -222,10 +222,10 @@ gathered_weight Map range bodies = 1 + range.number * unwrap_or (last_weight bod
 unfoldable pub comprehension_bounds : Span → Comprehension → Bounds → List Bounds → Bounds
 comprehension_bounds span c range bodies =
     bounds
-      (typed (comprehension_type span c (element_of range.kind) (arguments_of bodies)))
-      (gathered_weight c range bodies)
-      range.number
-      (1 + (range.steps + range.number * (2 + steps_of bodies)))
+    (typed (comprehension_type span c (element_of range.kind) (arguments_of bodies)))
+    (gathered_weight c range bodies)
+    range.number
+    (1 + (range.steps + range.number * (2 + steps_of bodies)))
 
 -- `cel.bind(x, value, body)` takes one step, the value's and the body's, and is what the body is.
 unfoldable pub bind_bounds : Bounds → List Bounds → Bounds
@@ -255,10 +255,10 @@ list_bounds xs =
 unfoldable pub map_bounds : KeyType → List Bounds → List Bounds → Bounds
 map_bounds k keys values =
     bounds
-      (map_type k (elements_type values))
-      (1 + (weights_of keys + weights_of values))
-      (length keys)
-      (1 + (steps_of keys + steps_of values))
+    (map_type k (elements_type values))
+    (1 + (weights_of keys + weights_of values))
+    (length keys)
+    (1 + (steps_of keys + steps_of values))
 
 -- a comprehension, or else another method
 abbrev pub by_comprehension : Option Comprehension → (Comprehension → Bounds) → Bounds → Bounds
@@ -282,8 +282,8 @@ abbrev mutual
   form_bounds names span (Method t name ts) =
       if is_bind t name then bind_of names (variable_in ts) ts
       else by_comprehension (comprehension_in (called_of name))
-        (λ c. comprehension_bounds span c (bounds_of names t) (bodies_of ((variable_in ts, element_bounds (bounds_of names t)) ∷ names) ts))
-        (method_bounds span (called_of name) (bounds_of names t) (each names ts))
+      (λ c. comprehension_bounds span c (bounds_of names t) (bodies_of ((variable_in ts, element_bounds (bounds_of names t)) ∷ names) ts))
+      (method_bounds span (called_of name) (bounds_of names t) (each names ts))
   form_bounds names span (ListOf ts) = list_bounds (each names ts)
   form_bounds names span (MapOf es) = map_bounds (keys_type es) (keys_of names es) (values_of names es)
 
