@@ -1,4 +1,5 @@
 pub mod Lengths
 pub mod Readings
 pub mod Parts
+pub mod Placement
 pub mod Limits

@@ -21,7 +21,7 @@ use Rattle.object_fields.specs.Meta.{key_at, labels_at, members_at, meta_at, nam
 use Rattle.object_fields.specs.Names.{is_dns_label, is_dns_name, is_pool_name, label_most, pool_most}
 use Rattle.object_fields.specs.Qualified.{cut_at, domain_and_id, domain_most, id_alone, id_most, is_c_identifier, qual_name_in, qualified_from}
 use Rattle.object_fields.specs.declared.error.FieldError.{FieldError}
-use Rattle.object_fields.specs.declared.kind.Kind.TheVariants.{BadName, Doubled, NotOne, OutOfRange, TooLong, TooMany, Missing, Unknown, WrongType}
+use Rattle.object_fields.specs.declared.kind.Kind.TheVariants.{BadName, BadVersion, Doubled, NotOne, OutOfRange, TooLong, TooMany, Missing, Unknown, WrongType}
 use Rattle.object_fields.specs.declared.key.Key.{Key}
 use Rattle.object_fields.specs.declared.meta.ObjectMeta.{ObjectMeta}
 use Rattle.object_fields.specs.declared.meta.Scope.TheVariants.{Cluster}
@@ -29,12 +29,12 @@ use Rattle.object_fields.specs.declared.path.Step.{Step}
 use Rattle.object_fields.specs.declared.path.Step.TheVariants as step
 use Rattle.object_fields.specs.declared.qualified.QualName.{QualName}
 use Rattle.api_slice.specs.Amounts as amounts
-use Rattle.api_slice.specs.Attributes.{attribute_of, attributes_in, attributes_of, attributes_with, chars_most, is_long, new_name, one_value, qual_cmp, short_text_at, version_at, version_text, has_name}
+use Rattle.api_slice.specs.Attributes.{attribute_of, attributes_in, attributes_of, attributes_with, chars_most, is_long, is_version, new_name, one_value, qual_cmp, short_text_at, version_at, version_text, has_name}
 use Rattle.api_slice.specs.Capacity.{amount_of, capacity_in, capacity_of, capacity_with, together_at, together_most}
 use Rattle.api_slice.specs.Consumption.{amounts_at, amounts_most, amounts_with, consumes_of, draws_from, draws_on, find_set, has_counter, known_counter, new_draw_on}
 use Rattle.api_slice.specs.Counters.{counter_name, counter_sets_at, counters_at, counters_most, counters_with, has_set, new_set_name, sets_from}
 use Rattle.api_slice.specs.Devices.{columns_of, devices_at, devices_most, devices_of, devices_with, has_device, names_from, new_device_name, nothing_more_from, rows_of}
-use Rattle.api_slice.specs.Limits.{AreDifferent, DrawsOn, IsAmount, IsCounterSet, IsFullName, IsLabel, IsPool, IsShort, IsWithinLimits, KeepsLimits, char_count}
+use Rattle.api_slice.specs.Limits.{AreDifferent, DrawsOn, IsAmount, IsCounterSet, IsFullName, IsLabel, IsPool, IsValue, IsWithinLimits, KeepsLimits, char_count}
 use Rattle.api_slice.specs.Lists.{count_at, count_on, each, each_from, items_or_none, members_length, members_or_none}
 use Rattle.api_slice.specs.Nodes.{device_nodes_of, is_per_device, slice_nodes_at}
 use Rattle.api_slice.specs.Slices.{driver_at, driver_most, pool_at, pool_in, signed_most, slice_of, spec_in}
@@ -58,23 +58,28 @@ short_text path name d text h =
     let e : g.value ≡ text = kept (field_error path name TooLong) (is_long g.value) g.value text g.second in
     along (λ s. length (chars s) ≤ chars_most) g.value text e (at_most chars_most (length (chars g.value)) b)
 
-pub short_version : (path : List Step) (name : List ℕ) (d : Data) (text : List ℕ) → version_at path name d ≡ Ok text → length (chars text) ≤ chars_most
+pub record IsVersion (text : List ℕ) : Type 0 where
+  pub size : length (chars text) ≤ chars_most
+  pub form : is_version text ≡ true
+
+pub short_version : (path : List Step) (name : List ℕ) (d : Data) (text : List ℕ) → version_at path name d ≡ Ok text → IsVersion text
 short_version path name d text h =
     let g = gave (short_text_at path name d) (λ s. version_text path s >>= λ nothing. Ok s) text h in
     let k = gave (version_text path g.value) (λ nothing. Ok g.value) text g.second in
     let e : g.value ≡ text = the_same g.value text k.second in
-    along (λ s. length (chars s) ≤ chars_most) g.value text e (short_text path name d g.value g.first)
+    let bad = not_refused (field_error path (codes "version") BadVersion) (not (is_version g.value)) tt k.value k.first in
+    along IsVersion g.value text e (record { size = short_text path name d g.value g.first; form = not_false (is_version g.value) bad })
 
 pub short_one : (n : Option ℤ) (b : Option Bool) (text version : Option (List ℕ)) (a : Attribute) → one_value n b text version ≡ Some a →
-    ((t : List ℕ) → text ≡ Some t → length (chars t) ≤ chars_most) → ((t : List ℕ) → version ≡ Some t → length (chars t) ≤ chars_most) → IsShort a
+    ((t : List ℕ) → text ≡ Some t → length (chars t) ≤ chars_most) → ((t : List ℕ) → version ≡ Some t → IsVersion t) → IsValue a
 short_one (Some n) None None None a h p q =
-    let e : attribute.Int n ≡ a = cc in along IsShort (attribute.Int n) a e (record { size = omega arith })
+    let e : attribute.Int n ≡ a = cc in along IsValue (attribute.Int n) a e (record { size = omega arith; version = refl })
 short_one None (Some b) None None a h p q =
-    let e : attribute.Bool b ≡ a = cc in along IsShort (attribute.Bool b) a e (record { size = omega arith })
+    let e : attribute.Bool b ≡ a = cc in along IsValue (attribute.Bool b) a e (record { size = omega arith; version = refl })
 short_one None None (Some t) None a h p q =
-    let e : attribute.Text t ≡ a = cc in along IsShort (attribute.Text t) a e (record { size = p t refl })
+    let e : attribute.Text t ≡ a = cc in along IsValue (attribute.Text t) a e (record { size = p t refl; version = refl })
 short_one None None None (Some t) a h p q =
-    let e : attribute.Version t ≡ a = cc in along IsShort (attribute.Version t) a e (record { size = q t refl })
+    let e : attribute.Version t ≡ a = cc in let v = q t refl in along IsValue (attribute.Version t) a e (record { size = v.size; version = v.form })
 short_one None None None None a h p q = absurd (let no_value : ⊥ = cc in no_value)
 short_one (Some n) (Some b) text version a h p q = absurd (let no_value : ⊥ = cc in no_value)
 short_one (Some n) None (Some t) version a h p q = absurd (let no_value : ⊥ = cc in no_value)
@@ -83,7 +88,7 @@ short_one None (Some b) (Some t) version a h p q = absurd (let no_value : ⊥ = 
 short_one None (Some b) None (Some t) a h p q = absurd (let no_value : ⊥ = cc in no_value)
 short_one None None (Some t) (Some u) a h p q = absurd (let no_value : ⊥ = cc in no_value)
 
-pub short_value : (path : List Step) (value : Data) (a : Attribute) → attribute_of path value ≡ Ok a → IsShort a
+pub short_value : (path : List Step) (value : Data) (a : Attribute) → attribute_of path value ≡ Ok a → IsValue a
 short_value path value a h =
     let g = gave (object_value path value) (λ d.
     optional_at signed_at path (codes "int") d >>= λ n.
@@ -108,16 +113,16 @@ short_value path value a h =
     let one : one_value n.value b.value t.value v.value ≡ Some a = was_some (error_at path NotOne) (one_value n.value b.value t.value v.value) a v.second in
     short_one n.value b.value t.value v.value a one
     (given (λ s. length (chars s) ≤ chars_most) (member_of (codes "string") g.value) (short_text_at path (codes "string") g.value) t.value t.first (short_text path (codes "string") g.value))
-    (given (λ s. length (chars s) ≤ chars_most) (member_of (codes "version") g.value) (version_at path (codes "version") g.value) v.value v.first (short_version path (codes "version") g.value))
+    (given IsVersion (member_of (codes "version") g.value) (version_at path (codes "version") g.value) v.value v.first (short_version path (codes "version") g.value))
 
 -- ---- attributes and capacities of a device
 
-pub attributes_table : (driver : List ℕ) (path : List Step) (most : ℕ) (before : List (QualName × Attribute)) (ms : Members) (out : List (QualName × Attribute)) → IsDriver driver → IsTable IsFullName IsShort most before →
-    attributes_with driver path before ms ≡ Ok out → IsTable IsFullName IsShort (most + members_length ms) out
+pub attributes_table : (driver : List ℕ) (path : List Step) (most : ℕ) (before : List (QualName × Attribute)) (ms : Members) (out : List (QualName × Attribute)) → IsDriver driver → IsTable IsFullName IsValue most before →
+    attributes_with driver path before ms ≡ Ok out → IsTable IsFullName IsValue (most + members_length ms) out
 attributes_table driver path most before no_members out d t h =
     let e : before ≡ out = the_same before out h in
-    let more : IsTable IsFullName IsShort (most + 0) before = record { keys = t.keys; values = t.values; size = omega (arith, t.size) } in
-    along (IsTable IsFullName IsShort (most + 0)) before out e more
+    let more : IsTable IsFullName IsValue (most + 0) before = record { keys = t.keys; values = t.values; size = omega (arith, t.size) } in
+    along (IsTable IsFullName IsValue (most + 0)) before out e more
 attributes_table driver path most before (member key value ms) out d t h =
     let n = gave (new_name (path ++ step.Key key ∷ []) driver before key) (λ name.
     attribute_of (path ++ step.Key key ∷ []) value >>= λ x.
@@ -126,7 +131,7 @@ attributes_table driver path most before (member key value ms) out d t h =
     attributes_with driver path (insert_entry qual_cmp before n.value x) ms) out n.second in
     let full = full_name (path ++ step.Key key ∷ []) driver key before n.value d n.first in
     let short = short_value (path ++ step.Key key ∷ []) value v.value v.first in
-    let r = attributes_table driver path (most + 1) (insert_entry qual_cmp before n.value v.value) ms out d (one_more qual_cmp IsFullName IsShort most before n.value v.value t full short) v.second in
+    let r = attributes_table driver path (most + 1) (insert_entry qual_cmp before n.value v.value) ms out d (one_more qual_cmp IsFullName IsValue most before n.value v.value t full short) v.second in
     record { keys = r.keys; values = r.values; size = omega (arith, r.size) }
 
 abbrev pub IsAnyAmount : ℤ → Type 0
@@ -159,10 +164,10 @@ pub counted : (path : List Step) (name : List ℕ) (d : Data) (o : Option Member
 counted path name d o h =
     ap (λ x. members_length (members_or_none x)) (counted_in (field_error path name WrongType) (field_error path name Missing) (member_of name d) o h)
 
-pub attributes_in_table : (driver : List ℕ) (path : List Step) (o : Option Members) (out : List (QualName × Attribute)) → IsDriver driver → attributes_in driver path o ≡ Ok out → IsTable IsFullName IsShort (members_length (members_or_none o)) out
-attributes_in_table driver path None out d h = along (IsTable IsFullName IsShort 0) [] out (the_same [] out h) (no_entries IsFullName IsShort 0)
+pub attributes_in_table : (driver : List ℕ) (path : List Step) (o : Option Members) (out : List (QualName × Attribute)) → IsDriver driver → attributes_in driver path o ≡ Ok out → IsTable IsFullName IsValue (members_length (members_or_none o)) out
+attributes_in_table driver path None out d h = along (IsTable IsFullName IsValue 0) [] out (the_same [] out h) (no_entries IsFullName IsValue 0)
 attributes_in_table driver path (Some ms) out d h =
-    let t = attributes_table driver path 0 [] ms out d (no_entries IsFullName IsShort 0) h in
+    let t = attributes_table driver path 0 [] ms out d (no_entries IsFullName IsValue 0) h in
     record { keys = t.keys; values = t.values; size = omega (arith, t.size) }
 
 pub capacity_in_table : (driver : List ℕ) (path : List Step) (o : Option Members) (out : List (QualName × ℤ)) → IsDriver driver → capacity_in driver path o ≡ Ok out → IsTable IsFullName IsAnyAmount (members_length (members_or_none o)) out
@@ -333,7 +338,12 @@ found_itself name sets s h =
     let e : s.name ≡ name = (bytes_eq-Decides s.name name).0 (found name sets s h) in
     along (λ n. find_set n sets ≡ Some s) name s.name (sym e) h
 
-pub a_set : (sets : List CounterSet) (path : List Step) (before : List CounterConsumption) (value : Data) (s : CounterSet) → new_draw_on sets path before value ≡ Ok s → find_set s.name sets ≡ Some s
+-- a set of the slice, from which nothing before draws
+pub record IsNewSet (sets : List CounterSet) (before : List CounterConsumption) (s : CounterSet) : Type 0 where
+  pub is : find_set s.name sets ≡ Some s
+  pub once : All (λ other. other ≢ s.name) (map (λ (c : CounterConsumption). c.set) before)
+
+pub a_set : (sets : List CounterSet) (path : List Step) (before : List CounterConsumption) (value : Data) (s : CounterSet) → new_draw_on sets path before value ≡ Ok s → IsNewSet sets before s
 a_set sets path before value s h =
     let g = gave (object_value path value >>= text_at path (codes "counterSet")) (λ name.
     some_or (field_error path (codes "counterSet") Unknown) (find_set name sets) >>=
@@ -341,23 +351,31 @@ a_set sets path before value s h =
     let f = gave (some_or (field_error path (codes "counterSet") Unknown) (find_set g.value sets)) (unless (field_error path (codes "counterSet") Doubled) (draws_on g.value before)) s g.second in
     let is = was_some (field_error path (codes "counterSet") Unknown) (find_set g.value sets) f.value f.first in
     let e = kept (field_error path (codes "counterSet") Doubled) (draws_on g.value before) f.value s f.second in
-    along (λ (x : CounterSet). find_set x.name sets ≡ Some x) f.value s e (found_itself g.value sets f.value is)
+    let b : draws_on g.value before ≡ false = not_refused (field_error path (codes "counterSet") Doubled) (draws_on g.value before) f.value s f.second in
+    let n : f.value.name ≡ g.value = (bytes_eq-Decides f.value.name g.value).0 (found g.value sets f.value is) in
+    let others = none_named (λ (c : CounterConsumption). c.set) g.value before b in
+    along (IsNewSet sets before) f.value s e (record {
+      is = found_itself g.value sets f.value is;
+      once = along (λ x. All (λ other. other ≢ x) (map (λ (c : CounterConsumption). c.set) before)) g.value f.value.name (sym n) others;
+    })
 
 -- draws read so far, with so many amounts met
 pub record DrawsMet (sets : List CounterSet) (met : ℕ) (draws : List CounterConsumption) : Type 0 where
+  pub different : AreDifferent (map (λ (c : CounterConsumption). c.set) draws)
   pub all : All (DrawsOn sets) draws
   pub total : sum_by (λ (c : CounterConsumption). length c.amounts) draws ≤ met
   pub few : met ≤ amounts_most
 
 pub record AreDraws (sets : List CounterSet) (draws : List CounterConsumption) : Type 0 where
   pub met : ℕ
+  pub different : AreDifferent (map (λ (c : CounterConsumption). c.set) draws)
   pub all : All (DrawsOn sets) draws
   pub total : sum_by (λ (c : CounterConsumption). length c.amounts) draws ≤ met
   pub few : met ≤ amounts_most
 
 pub draws_keep : (sets : List CounterSet) (path : List Step) (place met : ℕ) (before : List CounterConsumption) (ds : Items) (out : List CounterConsumption) → DrawsMet sets met before → draws_from sets path place met before ds ≡ Ok out → AreDraws sets out
 draws_keep sets path place met before no_items out t h =
-    along (AreDraws sets) before out (the_same before out h) (record { met = met; all = t.all; total = t.total; few = t.few })
+    along (AreDraws sets) before out (the_same before out h) (record { met = met; all = t.all; different = t.different; total = t.total; few = t.few })
 draws_keep sets path place met before (item d ds) out t h =
     let n = gave (new_draw_on sets (path ++ step.Place place ∷ []) before d) (λ counters.
     amounts_at counters.counters path (path ++ step.Place place ∷ []) met d >>= λ amounts.
@@ -367,10 +385,12 @@ draws_keep sets path place met before (item d ds) out t h =
     let is = a_set sets (path ++ step.Place place ∷ []) before d n.value n.first in
     let u = amounts_in n.value.counters path (path ++ step.Place place ∷ []) met d c.value c.first in
     let draw : CounterConsumption = record { set = n.value.name; amounts = c.value.0 } in
-    let fine : DrawsOn sets draw = record { set = n.value; is_set = is; counters = u.keys; amounts = u.values } in
+    let fine : DrawsOn sets draw = record { set = n.value; is_set = is.is; counters = u.keys; amounts = u.values } in
+    let once = push_different (map (λ (x : CounterConsumption). x.set) before) n.value.name t.different is.once in
     let s = sum_by-append (λ (x : CounterConsumption). length x.amounts) before (draw ∷ []) in
     let one : DrawsMet sets c.value.1 (before ++ draw ∷ []) = record {
       all = All-append (DrawsOn sets) before (draw ∷ []) t.all (All-cons (DrawsOn sets) draw [] fine (All-nil (DrawsOn sets)));
+      different = along AreDifferent (map (λ (x : CounterConsumption). x.set) before ++ n.value.name ∷ []) (map (λ (x : CounterConsumption). x.set) (before ++ draw ∷ [])) (sym (map-append (λ (x : CounterConsumption). x.set) before (draw ∷ []))) once;
       total = omega (arith, s, u.size, t.total);
       few = u.few;
     } in
@@ -381,4 +401,4 @@ all_drawn sets path d out h =
     let g = gave (optional_at list_at path (codes "consumesCounters") d) (λ items.
     draws_from sets (path ++ step.Member (codes "consumesCounters") ∷ []) 0 0 [] (items_or_none items)) out h in
     draws_keep sets (path ++ step.Member (codes "consumesCounters") ∷ []) 0 0 [] (items_or_none g.value) out
-    (record { all = All-nil (DrawsOn sets); total = omega arith; few = omega arith }) g.second
+    (record { all = All-nil (DrawsOn sets); different = tt; total = omega arith; few = omega arith }) g.second

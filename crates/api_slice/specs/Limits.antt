@@ -1,26 +1,35 @@
 -- The limits and the name rules that each slice keeps that is read (API reference of
 -- resource.k8s.io/v1).
-use Rattle.std.specs.Prelude.{◌≡◌, ℕ, ◌+◌, ◌≤◌, ◌≢◌, ℤ, pos, true, List, [], ◌∷◌, map, length, Some}
+use Rattle.std.specs.Prelude.{◌≡◌, ℕ, ◌+◌, ◌≤◌, ◌≢◌, ℤ, pos, Bool, true, List, [], ◌∷◌, map, length, Option, Some, None, is_some, codes, false}
 use Rattle.std.specs.List.{All, sum_by}
 use Rattle.std.specs.Map.{keys_of, values_of}
 use Rattle.std.specs.Str.{chars}
+use Rattle.node_select.specs.declared.requirement.Requirement.{Requirement}
+use Rattle.node_select.specs.declared.requirement.Test.{Test}
+use Rattle.node_select.specs.declared.requirement.Test.TheVariants.{OneOf, NoneOf, Present, Absent, Above, Below}
+use Rattle.node_select.specs.declared.selector.Selector.{Selector}
 use Rattle.object_fields.specs.Meta.{name_most}
 use Rattle.object_fields.specs.Names.{is_dns_label, is_dns_name, is_pool_name, pool_most}
 use Rattle.object_fields.specs.Qualified.{domain_most, id_most, is_c_identifier}
 use Rattle.object_fields.specs.declared.qualified.QualName.{QualName}
-use Rattle.api_slice.specs.Attributes.{chars_most}
+use Rattle.api_slice.specs.Attributes.{chars_most, is_version}
 use Rattle.api_slice.specs.Capacity.{together_most}
 use Rattle.api_slice.specs.Consumption.{amounts_most, find_set, has_counter}
 use Rattle.api_slice.specs.Counters.{counters_most}
 use Rattle.api_slice.specs.Devices.{devices_most}
+use Rattle.api_slice.specs.Nodes.{is_per_device}
 use Rattle.api_slice.specs.Slices.{driver_most, signed_most}
 use Rattle.api_slice.specs.declared.types.Attribute.{Attribute}
-use Rattle.api_slice.specs.declared.types.Attribute.TheVariants.{Int, Bool, Text, Version}
+use Rattle.api_slice.specs.declared.types.Attribute.TheVariants as attribute
 use Rattle.api_slice.specs.declared.types.CounterConsumption.{CounterConsumption}
 use Rattle.api_slice.specs.declared.types.CounterSet.{CounterSet}
 use Rattle.api_slice.specs.declared.types.Device.{Device}
+use Rattle.api_slice.specs.declared.types.Nodes.{Nodes}
+use Rattle.api_slice.specs.declared.types.Nodes.TheVariants as nodes
 use Rattle.api_slice.specs.declared.types.Pool.{Pool}
 use Rattle.api_slice.specs.declared.types.ResourceSlice.{ResourceSlice}
+use Rattle.api_slice.specs.declared.types.SliceNodes.{SliceNodes}
+use Rattle.api_slice.specs.declared.types.SliceNodes.TheVariants as slice
 
 -- no name comes twice
 abbrev pub AreDifferent : List (List ℕ) → Type 0
@@ -46,13 +55,69 @@ pub record IsFullName (q : QualName) : Type 0 where
 
 -- how many characters the text of a string or of a version has
 abbrev pub char_count : Attribute → ℕ
-char_count (Int n) = 0
-char_count (Bool b) = 0
-char_count (Text text) = length (chars text)
-char_count (Version text) = length (chars text)
+char_count (attribute.Int n) = 0
+char_count (attribute.Bool b) = 0
+char_count (attribute.Text text) = length (chars text)
+char_count (attribute.Version text) = length (chars text)
 
-pub record IsShort (a : Attribute) : Type 0 where
+-- whether a version is one of Semantic Versioning 2.0.0, and nothing of the other kinds
+abbrev pub reads : Attribute → Bool
+reads (attribute.Int n) = true
+reads (attribute.Bool b) = true
+reads (attribute.Text text) = true
+reads (attribute.Version text) = is_version text
+
+pub record IsValue (a : Attribute) : Type 0 where
   pub size : char_count a ≤ chars_most
+  pub version : reads a ≡ true
+
+-- ---- nodes
+
+-- In and NotIn have one value or more
+abbrev pub HasValues : Test → Type 0
+HasValues (OneOf texts) = 1 ≤ length texts
+HasValues (NoneOf texts) = 1 ≤ length texts
+HasValues Present = Unit {0}
+HasValues Absent = Unit {0}
+HasValues (Above n) = Unit {0}
+HasValues (Below n) = Unit {0}
+
+-- a requirement on a label
+pub record IsExpression (r : Requirement) : Type 0 where
+  pub values : HasValues r.test
+
+-- whether the operator is In or NotIn
+abbrev pub is_of_values : Test → Bool
+is_of_values (OneOf texts) = true
+is_of_values (NoneOf texts) = true
+is_of_values Present = false
+is_of_values Absent = false
+is_of_values (Above n) = false
+is_of_values (Below n) = false
+
+-- a requirement on a field, of which `metadata.name` alone is known, with In and NotIn
+pub record IsField (r : Requirement) : Type 0 where
+  pub key : r.key ≡ codes "metadata.name"
+  pub operator : is_of_values r.test ≡ true
+  pub values : HasValues r.test
+
+pub record IsSelector (s : Selector) : Type 0 where
+  pub expressions : All IsExpression s.expressions
+  pub fields : All IsField s.fields
+
+abbrev pub IsNodes : Nodes → Type 0
+IsNodes (nodes.Named name) = name ≢ []
+IsNodes (nodes.Selected selector) = IsSelector selector
+IsNodes nodes.All = Unit {0}
+
+abbrev pub IsSliceNodes : SliceNodes → Type 0
+IsSliceNodes (slice.Nodes n) = IsNodes n
+IsSliceNodes slice.PerDevice = Unit {0}
+
+-- Nodes of a device, there exactly where its slice leaves it to the devices.
+pub record IsDue (per_device : Bool) (own : Option Nodes) : Type 0 where
+  pub there : is_some own ≡ per_device
+  pub nodes : (n : Nodes) → own ≡ Some n → IsNodes n
 
 -- ---- counters
 
@@ -70,14 +135,16 @@ pub record DrawsOn (sets : List CounterSet) (c : CounterConsumption) : Type 0 wh
 
 -- ---- devices
 
--- of a slice with these counter sets
-pub record KeepsLimits (sets : List CounterSet) (d : Device) : Type 0 where
+-- of a slice with these counter sets, in which each device has nodes of its own or none has
+pub record KeepsLimits (sets : List CounterSet) (per_device : Bool) (d : Device) : Type 0 where
   pub attribute_names : All IsFullName (keys_of d.attributes)
-  pub attribute_texts : All IsShort (values_of d.attributes)
+  pub attribute_values : All IsValue (values_of d.attributes)
   pub capacity_names : All IsFullName (keys_of d.capacity)
   pub together : length d.attributes + length d.capacity ≤ together_most
   pub draws : All (DrawsOn sets) d.consumes
+  pub draws_once : AreDifferent (map (λ c. c.set) d.consumes)
   pub drawn : sum_by (λ c. length c.amounts) d.consumes ≤ amounts_most
+  pub nodes : IsDue per_device d.nodes
 
 -- ---- the slice
 
@@ -94,10 +161,11 @@ pub record IsWithinLimits (s : ResourceSlice) : Type 0 where
   pub driver : length s.driver ≤ driver_most
   pub driver_form : is_dns_name s.driver ≡ true
   pub pool : IsPool s.pool
+  pub nodes : IsSliceNodes s.nodes
   pub sets : All IsCounterSet s.counters
   pub set_names : AreDifferent (map (λ c. c.name) s.counters)
   pub counters : sum_by (λ c. length c.counters) s.counters ≤ counters_most
   pub device_count : length s.devices ≤ devices_most
   pub device_names : All IsLabel (map (λ d. d.name) s.devices)
   pub device_names_differ : AreDifferent (map (λ d. d.name) s.devices)
-  pub devices : All (KeepsLimits s.counters) s.devices
+  pub devices : All (KeepsLimits s.counters (is_per_device s.nodes)) s.devices
