@@ -8,6 +8,8 @@ mod consumption;
 mod counters;
 mod device;
 mod laws;
+#[cfg(test)]
+mod limit_tests;
 mod lists;
 mod nodes;
 mod operator;
