@@ -16,7 +16,7 @@ use std::collections::BTreeSet;
 fn is_device(id: &DeviceId, slice: &ResourceSlice, device: &Device) -> bool
     ensures { result ≡ device_eq id.now (id_of slice.now device.now) }
 {
-    id.driver == slice.driver && id.pool == slice.pool.name && id.device == device.name
+    id.driver == *slice.driver.as_text() && id.pool == slice.pool.name && id.device == device.name
 }
 
 /// Whether one of the results has the device without admin access.
@@ -64,7 +64,7 @@ fn device_id(alloc: Global, slice: &ResourceSlice, device: &Device) -> Result<De
     ensures { IfOk result (λ id. id ≡ id_of slice.now device.now) }
 {
     Ok(DeviceId {
-        driver: slice.driver.copy(alloc)?,
+        driver: slice.driver.as_text().copy(alloc)?,
         pool: slice.pool.name.copy(alloc)?,
         device: device.name.copy(alloc)?,
     })

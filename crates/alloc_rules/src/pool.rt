@@ -18,7 +18,7 @@ type Slices = Table<Text, Stored<ResourceSlice>>;
 fn is_of_pool(slice: &ResourceSlice, driver: &Text, pool: &Text) -> bool
     ensures { result ≡ (text_eq slice.now.driver driver.now && text_eq slice.now.pool.name pool.now) }
 {
-    slice.driver == *driver && slice.pool.name == *pool
+    slice.driver.as_text() == driver && slice.pool.name == *pool
 }
 
 /// The highest generation among the slices of a pool.
@@ -127,7 +127,7 @@ fn is_pool_usable(
 fn is_in_use(alloc: Global, slices: &Slices, slice: &ResourceSlice) -> Result<bool, AllocError>
     ensures { IfOk result (λ used. used ≡ is_used slices.now slice.now) }
 {
-    let (driver, pool) = (&slice.driver, &slice.pool.name);
+    let (driver, pool) = (slice.driver.as_text(), &slice.pool.name);
     let highest = highest_generation(slices, driver, pool);
     if slice.pool.generation == highest {
         is_pool_usable(alloc, slices, driver, pool, highest)
@@ -140,7 +140,7 @@ fn place(alloc: Global, slice: &ResourceSlice) -> Result<SlicePlace, AllocError>
     ensures { IfOk result (λ place. place ≡ place_of slice.now) }
 {
     Ok(SlicePlace {
-        driver: slice.driver.copy(alloc)?,
+        driver: slice.driver.as_text().copy(alloc)?,
         pool: slice.pool.name.copy(alloc)?,
         slice: slice.name.copy(alloc)?,
     })

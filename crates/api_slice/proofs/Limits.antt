@@ -34,10 +34,12 @@ use Rattle.api_slice.specs.Capacity.{amount_of, capacity_in, capacity_of, capaci
 use Rattle.api_slice.specs.Consumption.{amounts_at, amounts_most, amounts_with, consumes_of, draws_from, draws_on, find_set, has_counter, known_counter, new_draw_on}
 use Rattle.api_slice.specs.Counters.{counter_name, counter_sets_at, counters_at, counters_most, counters_with, has_set, new_set_name, sets_from}
 use Rattle.api_slice.specs.Devices.{columns_of, devices_at, devices_most, devices_of, devices_with, has_device, names_from, new_device_name, nothing_more_from, rows_of}
-use Rattle.api_slice.specs.Limits.{AreDifferent, DrawsOn, IsAmount, IsCounterSet, IsFullName, IsLabel, IsPool, IsValue, IsWithinLimits, KeepsLimits, char_count}
+use Rattle.api_slice.specs.Drivers.{IsDriver, driver_most}
+use Rattle.api_slice.specs.Limits.{AreDifferent, DrawsOn, IsAmount, IsCounterSet, IsLabel, IsPool, IsWithinLimits, KeepsLimits}
+use Rattle.api_slice.specs.Properties.{ArePaired, AreProperties, IsFullName, IsValue, PropertyTables, char_count}
 use Rattle.api_slice.specs.Lists.{count_at, count_on, each, each_from, items_or_none, members_length, members_or_none}
 use Rattle.api_slice.specs.Nodes.{device_nodes_of, is_per_device, slice_nodes_at}
-use Rattle.api_slice.specs.Slices.{driver_at, driver_most, pool_at, pool_in, signed_most, slice_of, spec_in}
+use Rattle.api_slice.specs.Slices.{driver_at, pool_at, pool_in, signed_most, slice_of, spec_in}
 use Rattle.api_slice.specs.declared.device.Columns.{Columns}
 use Rattle.api_slice.specs.declared.types.Attribute.{Attribute}
 use Rattle.api_slice.specs.declared.types.Attribute.TheVariants as attribute
@@ -47,29 +49,35 @@ use Rattle.api_slice.specs.declared.types.Device.{Device}
 use Rattle.api_slice.specs.declared.types.Nodes.{Nodes}
 use Rattle.api_slice.specs.declared.types.Pool.{Pool}
 use Rattle.api_slice.specs.declared.types.ResourceSlice.{ResourceSlice}
-use Rattle.api_slice.proofs.Readings.{Gave, gave, done, the_same, not_refused, kept, was_some, at_most, along, given, Taken, choice, taken, or_left, or_right, and_left, and_right, IsDriver, alone, both, either, full_name, length-insert, IsTable, no_entries, one_more, within, if_taken, taken_is, not_false, not_below, named_by, labelled, in_range, numbered, short_items, few_of, few_items, none_named, none_is, push_different}
+use Rattle.api_slice.proofs.Readings.{Gave, gave, done, the_same, not_refused, kept, was_some, at_most, along, given, Taken, choice, taken, or_left, or_right, and_left, and_right, alone, both, either, full_name, length-insert, IsTable, no_entries, one_more, within, if_taken, taken_is, not_false, not_below, named_by, labelled, in_range, numbered, short_items, few_of, few_items, none_named, none_is, push_different}
 use Rattle.api_slice.proofs.Parts.{short_text, short_version, short_one, short_value, attributes_table, IsAnyAmount, capacity_table, counted_in, counted, attributes_in_table, capacity_in_table, an_amount, is_counter_name, counters_table, counted_on, CountersOf, counters_of, SetsMet, AreSets, new_set, sets_keep, counters_keep, is_known, amounts_table, AmountsOf, amounts_in, found, found_itself, a_set, DrawsMet, AreDraws, draws_keep, all_drawn}
 use Rattle.api_slice.proofs.Placement.{nodes_due, slice_nodes}
 
 -- ---- a device
 
-device_keeps : (driver : List ℕ) (sets : List CounterSet) (per_device : Bool) (path : List Step) (d : Data) (x : Device) → IsDriver driver → attributes_of driver path d ≡ Ok x.attributes → capacity_of driver path d ≡ Ok x.capacity → consumes_of sets path d ≡ Ok x.consumes → device_nodes_of per_device path d ≡ Ok x.nodes → KeepsLimits sets per_device x
-device_keeps driver sets per_device path d x is a c draws own =
-    let g = gave (optional_at table_at path (codes "attributes") d) (attributes_in driver (path ++ step.Member (codes "attributes") ∷ [])) x.attributes a in
-    let t = attributes_in_table driver (path ++ step.Member (codes "attributes") ∷ []) g.value x.attributes is g.second in
-    let k = gave (optional_at table_at path (codes "capacity") d) (λ ms. together_at path d >>= λ nothing. capacity_in driver (path ++ step.Member (codes "capacity") ∷ []) ms) x.capacity c in
-    let w = gave (together_at path d) (λ nothing. capacity_in driver (path ++ step.Member (codes "capacity") ∷ []) k.value) x.capacity k.second in
-    let u = capacity_in_table driver (path ++ step.Member (codes "capacity") ∷ []) k.value x.capacity is w.second in
+are_properties : (driver : List ℕ) (path : List Step) (d : Data) (attributes : List (QualName × Attribute)) (capacity : List (QualName × ℤ)) → IsDriver driver → attributes_of driver path d ≡ Ok attributes → capacity_of driver path d ≡ Ok capacity → AreProperties (record { attributes = attributes; capacity = capacity })
+are_properties driver path d attributes capacity is a c =
+    let g = gave (optional_at table_at path (codes "attributes") d) (attributes_in driver (path ++ step.Member (codes "attributes") ∷ [])) attributes a in
+    let t = attributes_in_table driver (path ++ step.Member (codes "attributes") ∷ []) g.value attributes is g.second in
+    let k = gave (optional_at table_at path (codes "capacity") d) (λ ms. together_at path d >>= λ nothing. capacity_in driver (path ++ step.Member (codes "capacity") ∷ []) ms) capacity c in
+    let w = gave (together_at path d) (λ nothing. capacity_in driver (path ++ step.Member (codes "capacity") ∷ []) k.value) capacity k.second in
+    let u = capacity_in_table driver (path ++ step.Member (codes "capacity") ∷ []) k.value capacity is w.second in
     let few = not_refused (field_error path (codes "capacity") TooMany) (nat_lt together_most (count_at (codes "attributes") d + count_at (codes "capacity") d)) tt w.value w.first in
     let most = at_most together_most (count_at (codes "attributes") d + count_at (codes "capacity") d) few in
     let these = counted path (codes "attributes") d g.value g.first in
     let those = counted path (codes "capacity") d k.value k.first in
-    let drawn = all_drawn sets path d x.consumes draws in
     record {
       attribute_names = t.keys;
       attribute_values = t.values;
       capacity_names = u.keys;
       together = omega (arith, most, these, those, t.size, u.size);
+    }
+
+device_keeps : (driver : List ℕ) (sets : List CounterSet) (per_device : Bool) (path : List Step) (d : Data) (x : Device) → IsDriver driver → attributes_of driver path d ≡ Ok x.properties.attributes → capacity_of driver path d ≡ Ok x.properties.capacity → consumes_of sets path d ≡ Ok x.consumes → device_nodes_of per_device path d ≡ Ok x.nodes → KeepsLimits sets per_device x
+device_keeps driver sets per_device path d x is a c draws own =
+    let drawn = all_drawn sets path d x.consumes draws in
+    record {
+      properties = are_properties driver path d x.properties.attributes x.properties.capacity is a c;
       draws = drawn.all;
       draws_once = drawn.different;
       drawn = omega (arith, drawn.total, drawn.few);
@@ -109,10 +117,19 @@ devices_keep driver sets per_device path place ds (n ∷ ns) (x ∷ xs) (y ∷ y
 devices_keep driver sets per_device path place ds (n ∷ ns) (x ∷ xs) (y ∷ ys) (k ∷ ks) [] is a c q w = All-nil (KeepsLimits sets per_device)
 devices_keep driver sets per_device path place no_items (n ∷ ns) (x ∷ xs) (y ∷ ys) (k ∷ ks) (o ∷ os) is a c q w = absurd a
 devices_keep driver sets per_device path place (item d ds) (n ∷ ns) (x ∷ xs) (y ∷ ys) (k ∷ ks) (o ∷ os) is a c q w =
-    let one : Device = record { name = n; attributes = x; capacity = y; consumes = k; nodes = o } in
+    let one : Device = record { name = n; properties = record { attributes = x; capacity = y }; consumes = k; nodes = o } in
     All-cons (KeepsLimits sets per_device) one (devices_with ns xs ys ks os)
     (device_keeps driver sets per_device (path ++ step.Place place ∷ []) d one is a.0 c.0 q.0 w.0)
     (devices_keep driver sets per_device path (place + 1) ds ns xs ys ks os is a.1 c.1 q.1 w.1)
+
+pairs : (driver : List ℕ) (path : List Step) (place : ℕ) (ds : Items) (attributes : List (List (QualName × Attribute))) (capacity : List (List (QualName × ℤ))) → IsDriver driver → Column (attributes_of driver) path place attributes ds → Column (capacity_of driver) path place capacity ds → ArePaired attributes capacity
+pairs driver path place ds [] capacity is a c = tt
+pairs driver path place ds (x ∷ xs) [] is a c = tt
+pairs driver path place no_items (x ∷ xs) (y ∷ ys) is a c = absurd a
+pairs driver path place (item d ds) (x ∷ xs) (y ∷ ys) is a c = (
+  are_properties driver (path ++ step.Place place ∷ []) d x y is a.0 c.0,
+  pairs driver path (place + 1) ds xs ys is a.1 c.1,
+)
 
 -- ---- names of devices
 
@@ -179,7 +196,7 @@ record AllKeep (sets : List CounterSet) (per_device : Bool) (most : ℕ) (device
   different : AreDifferent (map (λ d. d.name) devices)
   each_one : All (KeepsLimits sets per_device) devices
 
-columns_keep : (driver : List ℕ) (sets : List CounterSet) (per_device : Bool) (path : List Step) (ds : Items) (out : Columns) → IsDriver driver → columns_of driver sets per_device path ds ≡ Ok out → AllKeep sets per_device (items_length ds) (devices_of out)
+columns_keep : (driver : List ℕ) (sets : List CounterSet) (per_device : Bool) (path : List Step) (ds : Items) (out : Columns) → IsDriver driver → columns_of driver sets per_device path ds ≡ Ok out → AllKeep sets per_device (items_length ds) (devices_of out) × ArePaired out.attributes out.capacity
 columns_keep driver sets per_device path ds out is h =
     let n = gave (names_from path 0 [] ds) (λ names.
     each (attributes_of driver) path ds >>= λ attributes.
@@ -204,20 +221,28 @@ columns_keep driver sets per_device path ds out is h =
     let made : Columns = record { names = n.value; attributes = a.value; capacity = c.value; consumes = k.value; nodes = w.value } in
     let r = names_keep path 0 0 [] ds n.value (record { labels = All-nil IsLabel; different = tt; size = omega arith }) n.first in
     let s = with_length n.value a.value c.value k.value w.value in
-    along (λ x. AllKeep sets per_device (items_length ds) (devices_of x)) made out (the_same made out w.second)
-    (record {
-      count = omega (arith, s, r.size);
-      labels = with_all IsLabel n.value a.value c.value k.value w.value r.labels;
-      different = with_different n.value a.value c.value k.value w.value r.different;
-      each_one = devices_keep driver sets per_device path 0 ds n.value a.value c.value k.value w.value is (column (attributes_of driver) path ds a.value a.first) (column (capacity_of driver) path ds c.value c.first) (column (consumes_of sets) path ds k.value k.first) (column (device_nodes_of per_device) path ds w.value w.first);
-    })
+    let attributes = column (attributes_of driver) path ds a.value a.first in
+    let capacity = column (capacity_of driver) path ds c.value c.first in
+    along (λ (x : Columns). AllKeep sets per_device (items_length ds) (devices_of x) × ArePaired x.attributes x.capacity) made out (the_same made out w.second) (
+      record {
+        count = omega (arith, s, r.size);
+        labels = with_all IsLabel n.value a.value c.value k.value w.value r.labels;
+        different = with_different n.value a.value c.value k.value w.value r.different;
+        each_one = devices_keep driver sets per_device path 0 ds n.value a.value c.value k.value w.value is attributes capacity (column (consumes_of sets) path ds k.value k.first) (column (device_nodes_of per_device) path ds w.value w.first);
+      },
+      pairs driver path 0 ds a.value c.value is attributes capacity,
+    )
+
+-- the attributes and the capacities that were read are those of devices
+pub paired : (driver : List ℕ) (sets : List CounterSet) (per_device : Bool) (path : List Step) (ds : Items) (out : Columns) → IsDriver driver → columns_of driver sets per_device path ds ≡ Ok out → ArePaired out.attributes out.capacity
+paired driver sets per_device path ds out is h = (columns_keep driver sets per_device path ds out is h).1
 
 rows_keep : (driver : List ℕ) (sets : List CounterSet) (per_device : Bool) (path : List Step) (ds : Items) (out : List Device) → IsDriver driver → rows_of driver sets per_device path ds ≡ Ok out → AllKeep sets per_device (items_length ds) out
 rows_keep driver sets per_device path ds out is h =
     let c = gave (columns_of driver sets per_device path ds) (λ columns. nothing_more_from path 0 ds >>= λ nothing. Ok (devices_of columns)) out h in
     let m = gave (nothing_more_from path 0 ds) (λ nothing. Ok (devices_of c.value)) out c.second in
     along (AllKeep sets per_device (items_length ds)) (devices_of c.value) out (the_same (devices_of c.value) out m.second)
-    (columns_keep driver sets per_device path ds c.value is c.first)
+    (columns_keep driver sets per_device path ds c.value is c.first).0
 
 all_keep : (driver : List ℕ) (sets : List CounterSet) (per_device : Bool) (path : List Step) (spec : Data) (out : List Device) → IsDriver driver → devices_at driver sets per_device path spec ≡ Ok out → AllKeep sets per_device devices_most out
 all_keep driver sets per_device path spec out is h =
@@ -229,7 +254,7 @@ all_keep driver sets per_device path spec out is h =
 
 -- ---- the slice
 
-a_driver : (path : List Step) (spec : Data) (driver : List ℕ) → driver_at path spec ≡ Ok driver → IsDriver driver
+pub a_driver : (path : List Step) (spec : Data) (driver : List ℕ) → driver_at path spec ≡ Ok driver → IsDriver driver
 a_driver path spec driver h =
     let g = gave (text_at path (codes "driver") spec) (name_in (path ++ step.Member (codes "driver") ∷ []) driver_most is_dns_name) driver h in
     let t = taken (path ++ step.Member (codes "driver") ∷ []) driver_most (is_dns_name g.value) g.value driver g.second in
@@ -309,8 +334,7 @@ spec_keeps name version path spec s size form h =
     (record {
       name = size;
       name_form = form;
-      driver = is.size;
-      driver_form = is.form;
+      driver = is;
       pool = a_pool path spec p.value p.first;
       nodes = slice_nodes path spec n.value n.first;
       sets = sets.all;

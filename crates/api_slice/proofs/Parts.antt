@@ -34,10 +34,12 @@ use Rattle.api_slice.specs.Capacity.{amount_of, capacity_in, capacity_of, capaci
 use Rattle.api_slice.specs.Consumption.{amounts_at, amounts_most, amounts_with, consumes_of, draws_from, draws_on, find_set, has_counter, known_counter, new_draw_on}
 use Rattle.api_slice.specs.Counters.{counter_name, counter_sets_at, counters_at, counters_most, counters_with, has_set, new_set_name, sets_from}
 use Rattle.api_slice.specs.Devices.{columns_of, devices_at, devices_most, devices_of, devices_with, has_device, names_from, new_device_name, nothing_more_from, rows_of}
-use Rattle.api_slice.specs.Limits.{AreDifferent, DrawsOn, IsAmount, IsCounterSet, IsFullName, IsLabel, IsPool, IsValue, IsWithinLimits, KeepsLimits, char_count}
+use Rattle.api_slice.specs.Drivers.{IsDriver, driver_most}
+use Rattle.api_slice.specs.Limits.{AreDifferent, DrawsOn, IsAmount, IsCounterSet, IsLabel, IsPool, IsWithinLimits, KeepsLimits}
+use Rattle.api_slice.specs.Properties.{ArePaired, AreProperties, IsFullName, IsValue, PropertyTables, char_count}
 use Rattle.api_slice.specs.Lists.{count_at, count_on, each, each_from, items_or_none, members_length, members_or_none}
 use Rattle.api_slice.specs.Nodes.{device_nodes_of, is_per_device, slice_nodes_at}
-use Rattle.api_slice.specs.Slices.{driver_at, driver_most, pool_at, pool_in, signed_most, slice_of, spec_in}
+use Rattle.api_slice.specs.Slices.{driver_at, pool_at, pool_in, signed_most, slice_of, spec_in}
 use Rattle.api_slice.specs.declared.device.Columns.{Columns}
 use Rattle.api_slice.specs.declared.types.Attribute.{Attribute}
 use Rattle.api_slice.specs.declared.types.Attribute.TheVariants as attribute
@@ -47,7 +49,7 @@ use Rattle.api_slice.specs.declared.types.Device.{Device}
 use Rattle.api_slice.specs.declared.types.Nodes.{Nodes}
 use Rattle.api_slice.specs.declared.types.Pool.{Pool}
 use Rattle.api_slice.specs.declared.types.ResourceSlice.{ResourceSlice}
-use Rattle.api_slice.proofs.Readings.{Gave, gave, done, the_same, not_refused, kept, was_some, at_most, along, given, Taken, choice, taken, or_left, or_right, and_left, and_right, IsDriver, alone, both, either, full_name, length-insert, IsTable, no_entries, one_more, within, if_taken, taken_is, not_false, not_below, named_by, labelled, in_range, numbered, short_items, few_of, few_items, none_named, none_is, push_different}
+use Rattle.api_slice.proofs.Readings.{Gave, gave, done, the_same, not_refused, kept, was_some, at_most, along, given, Taken, choice, taken, or_left, or_right, and_left, and_right, alone, both, either, full_name, length-insert, IsTable, no_entries, one_more, within, if_taken, taken_is, not_false, not_below, named_by, labelled, in_range, numbered, short_items, few_of, few_items, none_named, none_is, push_different}
 
 -- ---- values of attributes
 

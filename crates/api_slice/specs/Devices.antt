@@ -64,7 +64,7 @@ devices_with (n ∷ ns) (a ∷ attributes) [] consumes nodes = []
 devices_with (n ∷ ns) (a ∷ attributes) (c ∷ capacity) [] nodes = []
 devices_with (n ∷ ns) (a ∷ attributes) (c ∷ capacity) (k ∷ consumes) [] = []
 devices_with (n ∷ ns) (a ∷ attributes) (c ∷ capacity) (k ∷ consumes) (w ∷ nodes) =
-    record { name = n; attributes = a; capacity = c; consumes = k; nodes = w } ∷ devices_with ns attributes capacity consumes nodes
+    record { name = n; properties = record { attributes = a; capacity = c }; consumes = k; nodes = w } ∷ devices_with ns attributes capacity consumes nodes
 
 abbrev pub devices_of : Columns → List Device
 devices_of c = devices_with c.names c.attributes c.capacity c.consumes c.nodes

@@ -1,4 +1,5 @@
 pub mod Lists
+pub mod Drivers
 pub mod Amounts
 pub mod Selectors
 pub mod Nodes
@@ -6,6 +7,7 @@ pub mod Counters
 pub mod Consumption
 pub mod Attributes
 pub mod Capacity
+pub mod Properties
 pub mod Devices
 pub mod Slices
 pub mod Limits

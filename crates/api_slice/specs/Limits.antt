@@ -3,24 +3,19 @@
 use Rattle.std.specs.Prelude.{◌≡◌, ℕ, ◌+◌, ◌≤◌, ◌≢◌, ℤ, pos, Bool, true, List, [], ◌∷◌, map, length, Option, Some, None, is_some, codes, false}
 use Rattle.std.specs.List.{All, sum_by}
 use Rattle.std.specs.Map.{keys_of, values_of}
-use Rattle.std.specs.Str.{chars}
 use Rattle.node_select.specs.declared.requirement.Requirement.{Requirement}
 use Rattle.node_select.specs.declared.requirement.Test.{Test}
 use Rattle.node_select.specs.declared.requirement.Test.TheVariants.{OneOf, NoneOf, Present, Absent, Above, Below}
 use Rattle.node_select.specs.declared.selector.Selector.{Selector}
 use Rattle.object_fields.specs.Meta.{name_most}
 use Rattle.object_fields.specs.Names.{is_dns_label, is_dns_name, is_pool_name, pool_most}
-use Rattle.object_fields.specs.Qualified.{domain_most, id_most, is_c_identifier}
-use Rattle.object_fields.specs.declared.qualified.QualName.{QualName}
-use Rattle.api_slice.specs.Attributes.{chars_most, is_version}
-use Rattle.api_slice.specs.Capacity.{together_most}
 use Rattle.api_slice.specs.Consumption.{amounts_most, find_set, has_counter}
 use Rattle.api_slice.specs.Counters.{counters_most}
 use Rattle.api_slice.specs.Devices.{devices_most}
+use Rattle.api_slice.specs.Drivers.{IsDriver}
 use Rattle.api_slice.specs.Nodes.{is_per_device}
-use Rattle.api_slice.specs.Slices.{driver_most, signed_most}
-use Rattle.api_slice.specs.declared.types.Attribute.{Attribute}
-use Rattle.api_slice.specs.declared.types.Attribute.TheVariants as attribute
+use Rattle.api_slice.specs.Properties.{AreProperties}
+use Rattle.api_slice.specs.Slices.{signed_most}
 use Rattle.api_slice.specs.declared.types.CounterConsumption.{CounterConsumption}
 use Rattle.api_slice.specs.declared.types.CounterSet.{CounterSet}
 use Rattle.api_slice.specs.declared.types.Device.{Device}
@@ -43,33 +38,6 @@ IsLabel name = is_dns_label name ≡ true
 pub record IsAmount (n : ℤ) : Type 0 where
   pub size : ℕ
   pub is : n ≡ pos size
-
--- ---- attributes and capacities
-
--- a full name: a DNS subdomain of at most 63 bytes and a C identifier of at most 32
-pub record IsFullName (q : QualName) : Type 0 where
-  pub domain : length q.domain ≤ domain_most
-  pub domain_form : is_dns_name q.domain ≡ true
-  pub id : length q.id ≤ id_most
-  pub id_form : is_c_identifier q.id ≡ true
-
--- how many characters the text of a string or of a version has
-abbrev pub char_count : Attribute → ℕ
-char_count (attribute.Int n) = 0
-char_count (attribute.Bool b) = 0
-char_count (attribute.Text text) = length (chars text)
-char_count (attribute.Version text) = length (chars text)
-
--- whether a version is one of Semantic Versioning 2.0.0, and nothing of the other kinds
-abbrev pub reads : Attribute → Bool
-reads (attribute.Int n) = true
-reads (attribute.Bool b) = true
-reads (attribute.Text text) = true
-reads (attribute.Version text) = is_version text
-
-pub record IsValue (a : Attribute) : Type 0 where
-  pub size : char_count a ≤ chars_most
-  pub version : reads a ≡ true
 
 -- ---- nodes
 
@@ -137,10 +105,7 @@ pub record DrawsOn (sets : List CounterSet) (c : CounterConsumption) : Type 0 wh
 
 -- of a slice with these counter sets, in which each device has nodes of its own or none has
 pub record KeepsLimits (sets : List CounterSet) (per_device : Bool) (d : Device) : Type 0 where
-  pub attribute_names : All IsFullName (keys_of d.attributes)
-  pub attribute_values : All IsValue (values_of d.attributes)
-  pub capacity_names : All IsFullName (keys_of d.capacity)
-  pub together : length d.attributes + length d.capacity ≤ together_most
+  pub properties : AreProperties d.properties
   pub draws : All (DrawsOn sets) d.consumes
   pub draws_once : AreDifferent (map (λ c. c.set) d.consumes)
   pub drawn : sum_by (λ c. length c.amounts) d.consumes ≤ amounts_most
@@ -158,8 +123,7 @@ pub record IsPool (p : Pool) : Type 0 where
 pub record IsWithinLimits (s : ResourceSlice) : Type 0 where
   pub name : length s.name ≤ name_most
   pub name_form : is_dns_name s.name ≡ true
-  pub driver : length s.driver ≤ driver_most
-  pub driver_form : is_dns_name s.driver ≡ true
+  pub driver : IsDriver s.driver
   pub pool : IsPool s.pool
   pub nodes : IsSliceNodes s.nodes
   pub sets : All IsCounterSet s.counters

@@ -9,13 +9,10 @@ use Rattle.object_fields.specs.declared.path.Step.{Step}
 use Rattle.object_fields.specs.declared.path.Step.TheVariants.{Member}
 use Rattle.api_slice.specs.Counters.{counter_sets_at}
 use Rattle.api_slice.specs.Devices.{devices_at}
+use Rattle.api_slice.specs.Drivers.{driver_most}
 use Rattle.api_slice.specs.Nodes.{is_per_device, slice_nodes_at}
 use Rattle.api_slice.specs.declared.types.Pool.{Pool}
 use Rattle.api_slice.specs.declared.types.ResourceSlice.{ResourceSlice}
-
--- a driver's name has at most 63 bytes
-abbrev pub driver_most : ℕ
-driver_most = 63
 
 abbrev pub driver_at : List Step → Data → Result (List ℕ) FieldError
 driver_at path spec = dns_subdomain_at driver_most path (codes "driver") spec

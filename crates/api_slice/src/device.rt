@@ -7,12 +7,15 @@ ghost use Rattle.api_slice.specs.Capacity.{capacity_of};
 ghost use Rattle.api_slice.specs.Consumption.{consumes_of};
 ghost use Rattle.api_slice.specs.Lists.{each};
 ghost use Rattle.api_slice.specs.Nodes.{device_nodes_of};
+ghost use Rattle.api_slice.specs.Properties.{ArePaired};
 
 use crate::attribute::read_attributes;
 use crate::capacity::read_capacity;
 use crate::consumption::read_consumption;
+use crate::driver::DriverName;
 use crate::lists::items_or_none;
 use crate::nodes::read_device_nodes;
+use crate::properties::Properties;
 use crate::types::{Attribute, CounterConsumption, CounterSet, Device, Nodes};
 use dra_values::{Seq, Table, Text};
 use object_fields::{
@@ -33,7 +36,7 @@ pub(crate) fn read_devices(
     alloc: Global,
     spec: &Value,
     path: &Path,
-    driver: &str,
+    driver: &DriverName,
     sets: &[CounterSet],
     per_device: bool,
 ) -> Result<Seq<Device>, FieldError>
@@ -52,18 +55,20 @@ pub(crate) fn read_devices(
     )
 }
 
+#[tactic(auto, using(crate::proofs::Limits::paired))]
 fn read_rows(
     alloc: Global,
     values: &[Value],
     path: &Path,
-    driver: &str,
+    driver: &DriverName,
     sets: &[CounterSet],
     per_device: bool,
 ) -> Result<Seq<Device>, FieldError>
     ensures { Reads result
         (fields.rows_of driver.now sets.now per_device path.now (items_view values.now)) }
 {
-    let columns = read_columns(alloc, values, path, driver, sets, per_device)?;
+    let name = driver.as_text().as_str();
+    let columns = read_columns(alloc, values, path, name, sets, per_device)?;
     each_nothing_more(alloc, values, path)?;
     or_memory(alloc, devices_of(alloc, columns))
 }
@@ -236,6 +241,7 @@ fn nothing_more(alloc: Global, device: &Value, path: &Path) -> Result<(), FieldE
 
 /// The devices of which these are the fields.
 fn devices_of(alloc: Global, columns: Columns) -> Result<Seq<Device>, AllocError>
+    requires { ArePaired columns.attributes columns.capacity }
     ensures { IfOk result (λ devices. devices ≡ fields.devices_of columns) }
 {
     let mut attributes = columns.attributes.into_vec().into_iter();
@@ -258,8 +264,7 @@ fn devices_of(alloc: Global, columns: Columns) -> Result<Seq<Device>, AllocError
         };
         devices.push(Device {
             name,
-            attributes,
-            capacity,
+            properties: Properties::new(attributes, capacity),
             consumes,
             nodes,
         })?;

@@ -7,12 +7,14 @@ mod capacity;
 mod consumption;
 mod counters;
 mod device;
+mod driver;
 mod laws;
 #[cfg(test)]
 mod limit_tests;
 mod lists;
 mod nodes;
 mod operator;
+mod properties;
 mod qualified;
 mod selector;
 mod slice;
@@ -20,7 +22,9 @@ mod slice;
 mod tests;
 mod types;
 
+pub use driver::DriverName;
 pub use laws::slices_keep_limits;
+pub use properties::Properties;
 pub use selector::read_selector;
 pub use types::{
     Attribute, CounterConsumption, CounterSet, Device, Nodes, Pool, ResourceSlice, SliceNodes,

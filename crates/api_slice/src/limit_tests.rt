@@ -1,7 +1,8 @@
 //! Limits: what meets them is read, and what passes them has its error.
 
 use crate::tests::{document, of_device};
-use crate::{ResourceSlice, slices_keep_limits};
+use crate::{DriverName, Properties, ResourceSlice, slices_keep_limits};
+use dra_values::Text;
 use serde_json::Value;
 use std::alloc::{AllocError, Global};
 use std::test::Fail;
@@ -156,5 +157,40 @@ fn limits_are_met_and_not_passed(rt: HostRuntime) -> Result<(), Fail> {
         let got = outcome(alloc, document.as_str())?;
         assert_eq!(rt; got.as_str(), want);
     }
+    Ok(())
+}
+
+#[test]
+fn drivers_are_dns_subdomains_of_at_most_63_bytes(rt: HostRuntime) -> Result<(), Fail> {
+    let alloc = rt.alloc();
+    for (name, right) in [
+        ("gpu.example.com", true),
+        ("d", true),
+        ("", false),
+        ("D", false),
+        ("d..e", false),
+        ("d-.e", false),
+        (
+            "a23456789012345678901234567890.a234567890123456789012345678901x",
+            true,
+        ),
+        (
+            "a23456789012345678901234567890.a234567890123456789012345678901xy",
+            false,
+        ),
+    ] {
+        let text = match DriverName::new(Text::from_str(alloc, name)?) {
+            Some(driver) => driver.as_text().copy(alloc)?,
+            None => Text::from_str(alloc, "none")?,
+        };
+        assert_eq!(rt; text.as_str(), if right { name } else { "none" });
+    }
+    Ok(())
+}
+
+#[test]
+fn none_has_no_attributes_and_no_capacities(rt: HostRuntime) -> Result<(), Fail> {
+    let none = Properties::none(rt.alloc());
+    assert!(rt; none.attributes().is_empty() && none.capacity().is_empty());
     Ok(())
 }

@@ -6,17 +6,13 @@ ghost use Rattle.api_slice.specs.Nodes.{is_per_device};
 
 use crate::counters::read_counter_sets;
 use crate::device::read_devices;
+use crate::driver::DriverName;
 use crate::nodes::read_slice_nodes;
 use crate::types::{Pool, ResourceSlice, SliceNodes};
 use dra_values::Text;
-use object_fields::{
-    FieldError, ObjectMeta, Path, Scope, natural, object, read_dns_subdomain, read_pool_name,
-};
+use object_fields::{FieldError, ObjectMeta, Path, Scope, natural, object, read_pool_name};
 use serde_json::Value;
 use std::alloc::Global;
-
-/// The most bytes of a driver's name (API reference of `resource.k8s.io/v1`).
-const DRIVER_MOST: usize = 63;
 
 /// The greatest number that a signed number of 64 bits holds.
 const SIGNED_MOST: u64 = 0x7fff_ffff_ffff_ffff;
@@ -90,7 +86,7 @@ fn read_spec(
 ) -> Result<ResourceSlice, FieldError>
     ensures { Reads result (fields.spec_in name version path.now (view spec.now)) }
 {
-    let driver = read_dns_subdomain(alloc, spec, path, "driver", DRIVER_MOST)?;
+    let driver = DriverName::read(alloc, spec, path)?;
     let pool = read_pool(alloc, spec, path)?;
     let nodes = read_slice_nodes(alloc, spec, path)?;
     let counters = read_counter_sets(alloc, spec, path)?;
@@ -98,7 +94,7 @@ fn read_spec(
         alloc,
         spec,
         path,
-        driver.as_str(),
+        &driver,
         counters.as_slice(),
         is_per_device(&nodes),
     )?;

@@ -25,7 +25,11 @@ fn slice_text(alloc: Global, slice: &ResourceSlice) -> Result<String, AllocError
     let pool = slice.pool.copy(alloc)?;
     let mut text = format!(in alloc;
         "{} {} {} {}/{}",
-        slice.name, slice.driver, pool.name, pool.generation, pool.slices
+        slice.name,
+        slice.driver.as_text(),
+        pool.name,
+        pool.generation,
+        pool.slices
     )?;
     if let Some(version) = slice.version {
         let version = format!(in alloc; " v{version}")?;
@@ -104,12 +108,12 @@ fn push_amounts(
 fn push_device(alloc: Global, text: &mut String, device: &Device) -> Result<(), AllocError> {
     let name = format!(in alloc; " [{}]", device.name)?;
     text.push_str(name.as_str())?;
-    for (name, attribute) in device.attributes.as_map() {
+    for (name, attribute) in device.properties.attributes().as_map() {
         let name = format!(in alloc; " {}/{}", name.domain, name.id)?;
         text.push_str(name.as_str())?;
         push_attribute(alloc, text, attribute)?;
     }
-    for (name, amount) in device.capacity.as_map() {
+    for (name, amount) in device.properties.capacity().as_map() {
         let item = format!(in alloc; " {}/{}={amount}", name.domain, name.id)?;
         text.push_str(item.as_str())?;
     }

@@ -1,8 +1,9 @@
 ghost use Rattle.std.specs.Prelude.{◌≡◌, IfOk};
 
+use crate::driver::DriverName;
+use crate::properties::Properties;
 use dra_values::{Duplicate, Seq, Table, Text};
 use node_select::Selector;
-use object_fields::QualName;
 use quantity::Quantity;
 use std::alloc::{AllocError, Global};
 
@@ -13,8 +14,8 @@ pub struct ResourceSlice {
     pub name: Text,
     /// `metadata.resourceVersion`, from 0 to 2^64-1.
     pub version: Option<u64>,
-    /// `spec.driver`, a DNS subdomain of at most 63 bytes.
-    pub driver: Text,
+    /// `spec.driver`.
+    pub driver: DriverName,
     /// `spec.pool`.
     pub pool: Pool,
     /// Where the devices are: the one of `spec.nodeName`, `nodeSelector`, `allNodes` and
@@ -66,16 +67,14 @@ pub struct CounterSet {
     pub counters: Table<Text, Quantity>,
 }
 
-/// A device of a slice. Its attributes and its capacities are at most 32 together.
+/// A device of a slice.
 #[derive(Drop)]
 pub struct Device {
     /// A DNS label, which no other device of the slice has.
     pub name: Text,
-    /// The attributes by their full names.
-    pub attributes: Table<QualName, Attribute>,
-    /// The capacities by their full names.
-    pub capacity: Table<QualName, Quantity>,
-    /// `consumesCounters`, at most 32 amounts in all.
+    /// `attributes` and `capacity`.
+    pub properties: Properties,
+    /// `consumesCounters`, each set at most once, and at most 32 amounts in all.
     pub consumes: Seq<CounterConsumption>,
     /// Where the device is; there exactly where the slice has `perDeviceNodeSelection`.
     pub nodes: Option<Nodes>,
@@ -174,8 +173,7 @@ impl Duplicate for Device {
     fn duplicate(&self, alloc: Global) -> Result<Device, AllocError> {
         Ok(Device {
             name: self.name.copy(alloc)?,
-            attributes: self.attributes.copy(alloc)?,
-            capacity: self.capacity.copy(alloc)?,
+            properties: self.properties.copy(alloc)?,
             consumes: self.consumes.copy(alloc)?,
             nodes: self.nodes.duplicate(alloc)?,
         })

@@ -2,7 +2,7 @@ use crate::{line, line_is_one_line, lines, lines_of_more, summary};
 use alloc_rules::{Cause, DeviceResult, Grant, Known, Object, Passed, Plan, Verdict};
 use api_claim::ResourceClaim;
 use api_cluster::{DeviceClass, Node, Pod};
-use api_slice::{Nodes, Pool, ResourceSlice, SliceNodes};
+use api_slice::{DriverName, Nodes, Pool, ResourceSlice, SliceNodes};
 use dra_values::{Seq, Table, Text};
 use ledger_core::{Denial, Entry, Event, Ledger};
 use object_fields::{DeviceId, FieldError, Key, Kind, Path, Stage};
@@ -82,11 +82,15 @@ fn judged(alloc: Global, nodes: Vec<Passed>) -> Result<Event, AllocError> {
     })
 }
 
+fn driver(alloc: Global) -> Result<DriverName, AllocError> {
+    DriverName::new(text(alloc, "gpu.example.com")?).ok_or(AllocError)
+}
+
 fn slice(alloc: Global) -> Result<ResourceSlice, AllocError> {
     Ok(ResourceSlice {
         name: text(alloc, "s1")?,
         version: None,
-        driver: text(alloc, "gpu.example.com")?,
+        driver: driver(alloc)?,
         pool: Pool {
             name: text(alloc, "n1")?,
             generation: 1,

@@ -4,7 +4,7 @@ use crate::{
 };
 use alloc_rules::Object;
 use api_cluster::Node;
-use api_slice::{Device, Nodes, Pool, ResourceSlice, SliceNodes};
+use api_slice::{Device, DriverName, Nodes, Pool, Properties, ResourceSlice, SliceNodes};
 use dra_values::{Seq, Table, Text};
 use object_fields::{FieldError, Kind, Path};
 use std::alloc::{AllocError, Global};
@@ -40,14 +40,18 @@ fn apply_node(
     apply(alloc, ledger, job, Object::Node(node))
 }
 
+fn driver(alloc: Global) -> Result<DriverName, AllocError> {
+    let name = Text::from_str(alloc, "gpu.example.com")?;
+    DriverName::new(name).ok_or(AllocError)
+}
+
 /// A slice with so many devices.
 fn slice(alloc: Global, name: &str, devices: usize) -> Result<Object, AllocError> {
     let mut list = Seq::empty(alloc);
     for _ in 0..devices {
         list.push(Device {
             name: Text::from_str(alloc, "d")?,
-            attributes: Table::new(alloc),
-            capacity: Table::new(alloc),
+            properties: Properties::none(alloc),
             consumes: Seq::empty(alloc),
             nodes: None,
         })?;
@@ -55,7 +59,7 @@ fn slice(alloc: Global, name: &str, devices: usize) -> Result<Object, AllocError
     Ok(Object::Slice(ResourceSlice {
         name: Text::from_str(alloc, name)?,
         version: None,
-        driver: Text::from_str(alloc, "gpu.example.com")?,
+        driver: driver(alloc)?,
         pool: Pool {
             name: Text::from_str(alloc, name)?,
             generation: 1,

@@ -75,7 +75,7 @@ fn is_first(state: &State, slice: &ResourceSlice) -> bool
 {
     for (_, stored) in state.slices.as_map() {
         let other = &stored.object;
-        if other.driver == slice.driver && other.pool.name == slice.pool.name {
+        if other.driver.as_text() == slice.driver.as_text() && other.pool.name == slice.pool.name {
             return false;
         }
     }
