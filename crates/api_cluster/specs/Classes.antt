@@ -1,28 +1,13 @@
 -- What is read of a DeviceClass (API reference of resource.k8s.io/v1).
-use Rattle.std.specs.Prelude.{ℕ, List, [], ◌∷◌, ◌++◌, Option, Some, None, Result, Ok, codes}
+use Rattle.std.specs.Prelude.{ℕ, List, [], ◌∷◌, Option, Some, None, Result, Ok, codes}
 use Rattle.serde_json.specs.Data.{Data}
-use Rattle.object_fields.specs.Fields.{object_at, object_value, optional_at, text_at, ◌>>=◌}
+use Rattle.object_fields.specs.Fields.{object_at, optional_at, ◌>>=◌}
 use Rattle.object_fields.specs.Meta.{meta_at}
+use Rattle.object_fields.specs.Selectors.{selectors_at}
 use Rattle.object_fields.specs.declared.error.FieldError.{FieldError}
 use Rattle.object_fields.specs.declared.meta.Scope.TheVariants.{Cluster}
-use Rattle.object_fields.specs.declared.path.Step.{Step}
 use Rattle.object_fields.specs.declared.path.Step.TheVariants.{Member}
-use Rattle.api_cluster.specs.Lists.{each_at}
 use Rattle.api_cluster.specs.declared.types.DeviceClass.{DeviceClass}
-
--- a class has at most 32 selectors
-abbrev pub selectors_most : ℕ
-selectors_most = 32
-
--- the text of a selector, which is any text
-abbrev pub selector_at : List Step → Data → Result (List ℕ) FieldError
-selector_at path d =
-    object_value path d >>= λ selector.
-    object_at path (codes "cel") selector >>= λ cel.
-    text_at (path ++ Member (codes "cel") ∷ []) (codes "expression") cel
-
-abbrev pub selectors_at : List Step → Data → Result (List (List ℕ)) FieldError
-selectors_at path spec = each_at selectors_most selector_at path (codes "selectors") spec
 
 -- spec may be missing
 abbrev pub selectors_in : Option Data → Result (List (List ℕ)) FieldError

@@ -1,4 +1,4 @@
-pub mod Lists
 pub mod Nodes
 pub mod Classes
 pub mod Pods
+pub mod Limits

@@ -3,13 +3,13 @@ use Rattle.std.specs.Prelude.{ℕ, ◌==◌, Bool, false, true, List, [], ◌∷
 use Rattle.serde_json.specs.Data.{Data, null, boolean, number, string, array, object}
 use Rattle.serde_json.specs.Find.{get}
 use Rattle.object_fields.specs.Fields.{field_error, object_at, object_value, optional_at, text_at, unless, unset_at, ◌>>=◌}
+use Rattle.object_fields.specs.Lists.{each_at}
 use Rattle.object_fields.specs.Meta.{meta_at}
 use Rattle.object_fields.specs.declared.error.FieldError.{FieldError}
 use Rattle.object_fields.specs.declared.kind.Kind.TheVariants.{NotSupported}
 use Rattle.object_fields.specs.declared.meta.Scope.TheVariants.{Namespaced}
 use Rattle.object_fields.specs.declared.path.Step.{Step}
 use Rattle.object_fields.specs.declared.path.Step.TheVariants.{Member}
-use Rattle.api_cluster.specs.Lists.{each_at}
 use Rattle.api_cluster.specs.declared.types.Pod.{Pod}
 use Rattle.api_cluster.specs.declared.types.PodResourceClaim.{PodResourceClaim}
 

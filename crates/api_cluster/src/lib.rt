@@ -2,10 +2,12 @@
 #![tactic(auto)]
 
 mod class;
+mod laws;
 mod node;
 mod pod;
 #[cfg(test)]
 mod tests;
 mod types;
 
+pub use laws::limits_are_kept;
 pub use types::{DeviceClass, Node, Pod, PodResourceClaim};

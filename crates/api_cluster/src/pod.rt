@@ -1,8 +1,8 @@
-ghost use Rattle.std.specs.Prelude.{◌≡◌, [], option_map};
+ghost use Rattle.std.specs.Prelude.{◌≡◌, option_map};
 ghost use Rattle.serde_json.specs.Find.{get};
 ghost use Rattle.serde_json.specs.View.{items_view, view};
 ghost use Rattle.object_fields.specs.Fields.{Reads};
-ghost use Rattle.api_cluster.specs.Lists.{each_from};
+ghost use Rattle.object_fields.specs.Lists.{each};
 ghost use Rattle.api_cluster.specs.Pods as fields;
 
 use crate::types::{Pod, PodResourceClaim};
@@ -110,7 +110,7 @@ fn read_entries(
     entries: &[Value],
     path: &Path,
 ) -> Result<Seq<PodResourceClaim>, FieldError>
-    ensures { Reads result (each_from fields.entry_at path.now 0 [] (items_view entries.now)) }
+    ensures { Reads result (each fields.entry_at path.now (items_view entries.now)) }
 {
     let mut claims = Seq::empty(alloc);
     for place in 0..entries.len() {

@@ -1,3 +1,5 @@
+pub mod Inverse
 pub mod Lengths
+pub mod MetaKept
 pub mod Scan
 pub mod Texts

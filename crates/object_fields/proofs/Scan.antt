@@ -3,7 +3,7 @@ use Rattle.std.proofs.Common.{◌≡◌, ℕ, ◌==◌, Bool, true, false, not, 
 use Rattle.std.specs.List.{list_all, flat_map}
 use Rattle.std.proofs.lemmas.Bool.Decides.{nat_tests}
 use Rattle.object_fields.specs.Names.{is_dns_byte, is_dns_name, is_dns_part, is_end, is_lower_or_digit, is_pool_name, last_of, onto_first, parts_at, parts_by}
-use Rattle.object_fields.specs.Scan.{goes_on, is_cut, may_follow}
+use Rattle.object_fields.specs.Scan.{goes_on, is_cut}
 use Rattle.object_fields.specs.declared.names.Cuts.TheVariants.{Nowhere, Points, PointsAndSlashes}
 
 -- ---- tests

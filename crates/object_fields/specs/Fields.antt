@@ -1,11 +1,11 @@
 -- What the readers of fields answer: functions from what stands in a document to the value read, or
 -- to the first error with its path.
 use Rattle.std.specs.Prelude.{◌≡◌, ℕ, ◌^◌, ◌+◌, ◌==◌, nat_lt, nat_le, ◌&&◌, ℤ, pos, negsuc, List, [], ◌∷◌, ◌++◌, length, Bool, true, false, not, ⊤, Option, Some, None, Result, Ok, Err, option_and_then, if◌then◌else◌}
-use Rattle.serde_json.specs.Data.{Data, null, boolean, number, string, array, object, Num, Members, no_members, member, Items, no_items, item}
+use Rattle.serde_json.specs.Data.{Data, null, boolean, number, string, array, object, Members, no_members, member, Items, no_items, item}
 use Rattle.serde_json.specs.Find.{get, as_bool, as_str, as_number, as_integer, as_object, as_array}
 use Rattle.object_fields.specs.Names.{is_dns_label, is_dns_name, is_pool_name, label_most, pool_most}
 use Rattle.object_fields.specs.declared.path.Step.{Step}
-use Rattle.object_fields.specs.declared.path.Step.TheVariants.{Member, Place, Key}
+use Rattle.object_fields.specs.declared.path.Step.TheVariants.{Member}
 use Rattle.object_fields.specs.declared.kind.Kind.{Kind}
 use Rattle.object_fields.specs.declared.kind.Kind.TheVariants.{Missing, WrongType, BadName, TooLong, TooMany, NotSupported, Memory, Doubled, OutOfRange, NotOne, BadQuantity, BadVersion, Unknown, Selector}
 use Rattle.object_fields.specs.declared.error.FieldError.{FieldError}

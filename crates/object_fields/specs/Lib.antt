@@ -5,3 +5,6 @@ pub mod Fields
 pub mod Keys
 pub mod Qualified
 pub mod Meta
+pub mod Lists
+pub mod Selectors
+pub mod Limits

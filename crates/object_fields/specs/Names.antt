@@ -1,6 +1,6 @@
 -- Names: DNS labels and subdomains (RFC 1123, as the API reference of resource.k8s.io/v1 takes
 -- them), pool names, C identifiers and qualified names.
-use Rattle.std.specs.Prelude.{ℕ, ◌==◌, nat_lt, nat_le, ◌&&◌, ◌||◌, not, Bool, true, false, List, [], ◌∷◌, length, Option, Some, None, if◌then◌else◌}
+use Rattle.std.specs.Prelude.{ℕ, ◌==◌, nat_le, ◌&&◌, ◌||◌, not, Bool, false, List, [], ◌∷◌, length, Option, Some, None, if◌then◌else◌}
 use Rattle.std.specs.List.{list_all}
 
 -- ---- bytes

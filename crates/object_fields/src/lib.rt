@@ -6,6 +6,7 @@ mod error;
 mod fields;
 mod key;
 mod kind;
+mod laws;
 mod limits;
 mod meta;
 mod names;
@@ -13,6 +14,7 @@ mod naming;
 mod optional;
 mod path;
 mod qualified;
+mod selectors;
 #[cfg(test)]
 mod tests;
 
@@ -20,6 +22,7 @@ pub use error::{FieldError, or_memory};
 pub use fields::{borrowed, field, list, member, object, table, text, truth, whole};
 pub use key::{DeviceId, Key};
 pub use kind::{Kind, Stage};
+pub use laws::{lists_keep_limits, metadata_keeps_limits};
 pub use limits::{natural, short_list, signed, value_object, value_table, value_text};
 pub use meta::{ObjectMeta, Scope};
 pub use names::{dns_label, dns_name, dns_subdomain, pool_name};
@@ -30,3 +33,4 @@ pub use optional::{
 };
 pub use path::{Path, Step};
 pub use qualified::QualName;
+pub use selectors::read_selectors;

@@ -1,5 +1,5 @@
 use crate::*;
-use dra_values::Text;
+use dra_values::{Seq, Text};
 use serde_json::{Map, Value};
 use std::alloc::{AllocError, Global};
 use std::fmt::Display;
@@ -45,6 +45,20 @@ fn counted_if(
         Ok(None) => String::from_str(alloc, "absent"),
         Err(error) => format!(in alloc; "{error}"),
     }
+}
+
+/// The texts, with a `;` behind each.
+fn joined(alloc: Global, answer: Result<Seq<Text>, FieldError>) -> Result<String, AllocError> {
+    let texts = match answer {
+        Ok(texts) => texts,
+        Err(error) => return format!(in alloc; "{error}"),
+    };
+    let mut all = String::new(alloc);
+    for text in texts.as_slice() {
+        all.push_str(text.as_str())?;
+        all.push(';')?;
+    }
+    Ok(all)
 }
 
 /// How many members an object has.
@@ -123,6 +137,7 @@ fn limited(alloc: Global, reader: &str, value: &Value) -> Result<String, AllocEr
         "pool" => printed(alloc, read_pool_name(alloc, value, &top, "f")),
         "value text" => printed(alloc, value_text(alloc, value, &top)),
         "value table" => sized(alloc, value_table(alloc, value, &top)),
+        "selectors" => joined(alloc, read_selectors(alloc, value, &top)),
         _ => written(alloc, value_object(alloc, value, &top)),
     }
 }
@@ -239,6 +254,14 @@ limited|value table|1|{"f":1}
 limited|value table|WrongType |[]
 limited|value object|{"f":1}|{"f":1}
 limited|value object|Missing |null
+limited|selectors||{}
+limited|selectors||{"selectors":[]}
+limited|selectors|a;;|{"selectors":[{"cel":{"expression":"a"}},{"cel":{"expression":""}}]}
+limited|selectors|WrongType selectors|{"selectors":{}}
+limited|selectors|Missing selectors[1]|{"selectors":[{"cel":{"expression":"a"}},null]}
+limited|selectors|Missing selectors[0].cel|{"selectors":[{}]}
+limited|selectors|Missing selectors[0].cel.expression|{"selectors":[{"cel":{"f":"a"}}]}
+limited|selectors|WrongType selectors[0].cel.expression|{"selectors":[{"cel":{"expression":7}}]}
 optional|text|x|{"f":"x"}
 optional|text|absent|{"f":null}
 optional|text|absent|{}
@@ -290,6 +313,8 @@ fn parts(line: &str) -> Option<(&str, &str, &str, &str)> {
 
 #[test]
 fn documents_read_or_have_their_error(rt: HostRuntime) -> Result<(), Fail> {
+    metadata_keeps_limits();
+    lists_keep_limits::<Text>();
     let mut count = 0u32;
     for line in READINGS.lines() {
         if let Some((group, reader, want, document)) = parts(line) {
@@ -298,7 +323,7 @@ fn documents_read_or_have_their_error(rt: HostRuntime) -> Result<(), Fail> {
             count = count.saturating_add(1);
         }
     }
-    assert_eq!(rt; count, 93);
+    assert_eq!(rt; count, 101);
     Ok(())
 }
 
