@@ -4,11 +4,11 @@ use Rattle.std.proofs.lemmas.List.{append-nil}
 use Rattle.std.specs.List.{zip}
 use Rattle.serde_json.specs.Data.{Data, Items, no_items, item}
 use Rattle.object_fields.specs.Fields.{items_length, unless, ◌>>=◌}
+use Rattle.object_fields.specs.Lists.{alone, each, each_from}
 use Rattle.object_fields.specs.declared.error.FieldError.{FieldError}
 use Rattle.object_fields.specs.declared.path.Step.{Step}
 use Rattle.object_fields.specs.declared.path.Step.TheVariants.{Place}
 use Rattle.api_claim.specs.Limits.{EachOf}
-use Rattle.api_claim.specs.Lists.{alone, each, each_from}
 
 -- an answer of a reading
 abbrev pub given : {A : Type 0} → A → Result A FieldError

@@ -8,14 +8,16 @@ use Rattle.std.specs.Str.{bytes_eq}
 use Rattle.serde_json.specs.Data.{Data, null, boolean, number, string, array, object, Items, no_items, item}
 use Rattle.serde_json.specs.Find.{as_array}
 use Rattle.object_fields.specs.Fields.{dns_label_at, error_at, field_at, field_error, if_there, items_length, list_at, member_of, name_in, natural_at, natural_between, object_at, object_value, optional_at, short_list_at, some_or, text_at, unless, whole_at, ◌>>=◌}
+use Rattle.object_fields.specs.Lists.{each, each_at, each_beside, each_from, each_in}
 use Rattle.object_fields.specs.Names.{is_dns_label, label_most}
+use Rattle.object_fields.specs.Selectors.{selector_at, selectors_at, selectors_most}
 use Rattle.object_fields.specs.declared.error.FieldError.{FieldError}
 use Rattle.object_fields.specs.declared.kind.Kind.TheVariants.{Doubled, Missing, NotOne, OutOfRange, TooMany, WrongType}
 use Rattle.object_fields.specs.declared.path.Step.{Step}
 use Rattle.object_fields.specs.declared.path.Step.TheVariants.{Member, Place}
-use Rattle.api_claim.specs.Asks.{admin_at, all_at, ask_at, asked_at, count_at, count_most, exactly_at, exactly_in, first_available_at, left_out_at, mode_at, mode_with, selector_at, selectors_at, selectors_most, subrequest_in}
+use Rattle.api_claim.specs.Asks.{admin_at, all_at, ask_at, asked_at, count_at, count_most, exactly_at, exactly_in, first_available_at, left_out_at, mode_at, mode_with, subrequest_in}
 use Rattle.api_claim.specs.Limits.{AreDistinct, AreNames, AskKept, CountKept, EachOf, KindKept, RequestsKept, SubrequestsKept}
-use Rattle.api_claim.specs.Lists.{each, each_at, each_beside, each_from, each_in, has_items, has_some, has_text, is_no_empty_list, new_name_at, passes, some_items, some_items_at}
+use Rattle.api_claim.specs.Lists.{has_items, has_some, has_text, is_no_empty_list, new_name_at, passes, some_items, some_items_at}
 use Rattle.api_claim.specs.Requests.{has_one_kind, kind_of, kind_with, kinds_in, request_name_at, request_of, requests_in, requests_most, subrequest_name_at, subrequest_names_at, subrequest_of, subrequests_most}
 use Rattle.api_claim.specs.declared.asks.Asked.{Asked}
 use Rattle.api_claim.specs.declared.asks.Asked.TheVariants as asked

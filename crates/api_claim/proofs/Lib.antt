@@ -1,5 +1,4 @@
 pub mod Inverse
-pub mod Keys
 pub mod Kept
 pub mod Limits
 pub mod Readings

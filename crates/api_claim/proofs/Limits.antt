@@ -3,11 +3,15 @@ use Rattle.std.proofs.Common.{◌≡◌, ◌∙◌, ℕ, ◌≤◌, ◌&&◌, �
 use Rattle.std.proofs.lemmas.Bool.{ltb-false}
 use Rattle.serde_json.specs.Data.{Data}
 use Rattle.object_fields.specs.Fields.{error_at, items_length, list_at, object_at, object_value, optional_at, text_at, text_value, unless, unset_at, ◌>>=◌}
+use Rattle.object_fields.specs.Lists.{each, each_in}
+use Rattle.object_fields.specs.Limits.{MetaKept}
 use Rattle.object_fields.specs.Meta.{meta_at}
 use Rattle.object_fields.specs.Names.{is_dns_name}
 use Rattle.object_fields.specs.Qualified.{cut_at, domain_and_id, domain_most, id_most, is_c_identifier}
 use Rattle.object_fields.specs.declared.error.FieldError.{FieldError}
 use Rattle.object_fields.specs.declared.kind.Kind.TheVariants.{BadName, TooLong, Unknown}
+use Rattle.object_fields.specs.declared.meta.ObjectMeta.{ObjectMeta}
+use Rattle.object_fields.specs.declared.meta.Scope.{Scope}
 use Rattle.object_fields.specs.declared.meta.Scope.TheVariants.{Namespaced}
 use Rattle.object_fields.specs.declared.path.Step.{Step}
 use Rattle.object_fields.specs.declared.path.Step.TheVariants.{Member}
@@ -15,7 +19,7 @@ use Rattle.object_fields.specs.declared.qualified.QualName.{QualName}
 use Rattle.api_claim.specs.Claims.{claim_of, constraints_over, devices_at, devices_in, devices_with}
 use Rattle.api_claim.specs.Constraints.{attribute_at, constraint_at, constraints_at, constraints_most, full_name_from, full_name_in, known_at, known_requests_at}
 use Rattle.api_claim.specs.Limits.{ClaimKept, ConstraintKept, ConstraintsKept, IsFullName, RequestsKept, StatusKept}
-use Rattle.api_claim.specs.Lists.{each, each_in, has_text, some_items_at}
+use Rattle.api_claim.specs.Lists.{has_text, some_items_at}
 use Rattle.api_claim.specs.Requests.{all_names, requests_at, requests_in, requests_most}
 use Rattle.api_claim.specs.Status.{allocation_at, allocation_in, members_at, node_at, result_at, results_at, results_most, status_at, status_of}
 use Rattle.api_claim.specs.declared.claim.Devices.{Devices}
@@ -26,7 +30,6 @@ use Rattle.api_claim.specs.declared.types.DeviceRequest.{DeviceRequest}
 use Rattle.api_claim.specs.declared.types.ResourceClaim.{ResourceClaim}
 use Rattle.api_claim.specs.declared.types.StatusResult.{StatusResult}
 use Rattle.api_claim.proofs.Inverse.{given, rows, rows_length, then_ok, unless_ok}
-use Rattle.api_claim.proofs.Keys.{meta_kept}
 use Rattle.api_claim.proofs.Kept.{each_at_each, each_at_few, each_in_each, requests_kept, some_few}
 
 -- ---- constraints
@@ -90,6 +93,10 @@ constraints_kept names path d cs h = record {
   each_known = each_at_each (ConstraintKept names) constraints_most (constraint_at names) (constraint_kept names) path (codes "constraints") d cs h;
 }
 
+-- metadata keeps its rules
+abbrev pub MetaLaw : Type 0
+MetaLaw = (scope : Scope) (d : Data) (meta : ObjectMeta) → meta_at scope d ≡ Ok meta → MetaKept scope meta
+
 -- ---- a claim
 
 requests_at_kept : (path : List Step) (d : Data) (requests : List DeviceRequest) → requests_at path d ≡ Ok requests → RequestsKept requests
@@ -112,8 +119,8 @@ devices_kept path d devices h =
     let kept : DevicesKept made = record { requests = requests_at_kept path d s.0 s.1.0; constraints = constraints_kept (all_names s.0) path d t.0 t.1.0 } in
     subst DevicesKept is kept
 
-pub claim_kept : (d : Data) (claim : ResourceClaim) → claim_of d ≡ Ok claim → ClaimKept claim
-claim_kept d claim h =
+pub claim_kept : MetaLaw → (d : Data) (claim : ResourceClaim) → claim_of d ≡ Ok claim → ClaimKept claim
+claim_kept law d claim h =
     let s = then_ok (meta_at Namespaced d) (λ meta. devices_at d >>= λ devices. Ok (record { key = meta.key; version = meta.version; requests = devices.requests; constraints = devices.constraints })) claim h in
     let t = then_ok (devices_at d) (λ devices. Ok (record { key = s.0.key; version = s.0.version; requests = devices.requests; constraints = devices.constraints })) claim s.1.1 in
     let made : ResourceClaim = record { key = s.0.key; version = s.0.version; requests = t.0.requests; constraints = t.0.constraints } in
@@ -122,7 +129,8 @@ claim_kept d claim h =
     let u = then_ok (object_at [] (codes "spec") d) (λ spec. object_at (Member (codes "spec") ∷ []) (codes "devices") spec >>= λ devices. devices_in (Member (codes "spec") ∷ Member (codes "devices") ∷ []) devices) t.0 t.1.0 in
     let v = then_ok (object_at (Member (codes "spec") ∷ []) (codes "devices") u.0) (λ devices. devices_in (Member (codes "spec") ∷ Member (codes "devices") ∷ []) devices) t.0 u.1.1 in
     let k = devices_kept (Member (codes "spec") ∷ Member (codes "devices") ∷ []) v.0 t.0 v.1.1 in
-    let kept : ClaimKept made = record { key = meta_kept d s.0 s.1.0; requests = k.requests; constraints = k.constraints } in
+    let m = law Namespaced d s.0 s.1.0 in
+    let kept : ClaimKept made = record { key = m.key; version = m.version; requests = k.requests; constraints = k.constraints } in
     subst ClaimKept is kept
 
 -- ---- a status
@@ -146,8 +154,8 @@ allocation_kept path d a h =
     let P : Allocation → Type 0 = λ x. (1 ≤ length x.results) × (length x.results ≤ results_most) in
     subst P is (results_kept path d s.0 s.1.0)
 
-pub status_kept : (d : Data) (status : ClaimStatus) → status_of d ≡ Ok status → StatusKept status
-status_kept d status h =
+pub status_kept : MetaLaw → (d : Data) (status : ClaimStatus) → status_of d ≡ Ok status → StatusKept status
+status_kept law d status h =
     let top : List Step = Member (codes "status") ∷ [] in
     let s = then_ok (meta_at Namespaced d) (λ meta. status_at d >>= λ a. Ok (record { version = meta.version; node = a.node; results = a.results })) status h in
     let t = then_ok (status_at d) (λ a. Ok (record { version = s.0.version; node = a.node; results = a.results })) status s.1.1 in
@@ -162,5 +170,6 @@ status_kept d status h =
     let x = then_ok (object_at top (codes "allocation") u.0) (allocation_in (top ++ Member (codes "allocation") ∷ [])) v.0 v.1.0 in
     let k = allocation_kept (top ++ Member (codes "allocation") ∷ []) x.0 v.0 x.1.1 in
     let l : length v.0.results ≡ length t.0.results = ap (λ (a : Allocation). length a.results) same in
-    let kept : StatusKept made = record { some = omega (arith, k.0, l); few = omega (arith, k.1, l) } in
+    let m = law Namespaced d s.0 s.1.0 in
+    let kept : StatusKept made = record { version = m.version; some = omega (arith, k.0, l); few = omega (arith, k.1, l) } in
     subst StatusKept is kept

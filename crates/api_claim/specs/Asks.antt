@@ -4,33 +4,19 @@ use Rattle.std.specs.Prelude.{ℕ, zero, suc, ◌^◌, ◌-◌, Bool, true, fals
 use Rattle.std.specs.Str.{bytes_eq}
 use Rattle.serde_json.specs.Data.{Data}
 use Rattle.object_fields.specs.Fields.{field_error, list_at, natural_at, object_at, object_value, optional_at, text_at, truth_at, unset_at, ◌>>=◌}
+use Rattle.object_fields.specs.Lists.{each}
+use Rattle.object_fields.specs.Selectors.{selectors_at}
 use Rattle.object_fields.specs.declared.error.FieldError.{FieldError}
 use Rattle.object_fields.specs.declared.kind.Kind.TheVariants.{NotSupported}
 use Rattle.object_fields.specs.declared.path.Step.{Step}
 use Rattle.object_fields.specs.declared.path.Step.TheVariants.{Member}
-use Rattle.api_claim.specs.Lists.{each, each_at, has_some}
+use Rattle.api_claim.specs.Lists.{has_some}
 use Rattle.api_claim.specs.declared.asks.Asked.{Asked}
 use Rattle.api_claim.specs.declared.asks.Asked.TheVariants as asked
 use Rattle.api_claim.specs.declared.types.AllocationMode.{AllocationMode}
 use Rattle.api_claim.specs.declared.types.AllocationMode.TheVariants.{ExactCount, All}
 use Rattle.api_claim.specs.declared.types.DeviceAsk.{DeviceAsk}
 use Rattle.api_claim.specs.declared.types.ExactDeviceRequest.{ExactDeviceRequest}
-
--- ---- selectors
-
--- exactly, and each subrequest, has at most 32 selectors
-abbrev pub selectors_most : ℕ
-selectors_most = 32
-
--- `{cel: {expression}}`, where the expression is any text
-abbrev pub selector_at : List Step → Data → Result (List ℕ) FieldError
-selector_at path d =
-    object_value path d >>= λ selector.
-    object_at path (codes "cel") selector >>= λ cel.
-    text_at (path ++ Member (codes "cel") ∷ []) (codes "expression") cel
-
-abbrev pub selectors_at : List Step → Data → Result (List (List ℕ)) FieldError
-selectors_at path d = each_at selectors_most selector_at path (codes "selectors") d
 
 -- ---- allocationMode with count
 

@@ -2,13 +2,14 @@
 use Rattle.std.specs.Prelude.{ℕ, not, List, [], ◌∷◌, ◌++◌, Option, Some, None, Result, Ok, Err, codes}
 use Rattle.serde_json.specs.Data.{Data}
 use Rattle.object_fields.specs.Fields.{error_at, list_at, object_value, optional_at, text_at, text_value, unless, unset_at, ◌>>=◌}
+use Rattle.object_fields.specs.Lists.{each_at, each_in}
 use Rattle.object_fields.specs.Qualified.{cut_at, domain_and_id}
 use Rattle.object_fields.specs.declared.error.FieldError.{FieldError}
 use Rattle.object_fields.specs.declared.kind.Kind.TheVariants.{BadName, Unknown}
 use Rattle.object_fields.specs.declared.path.Step.{Step}
 use Rattle.object_fields.specs.declared.path.Step.TheVariants.{Member}
 use Rattle.object_fields.specs.declared.qualified.QualName.{QualName}
-use Rattle.api_claim.specs.Lists.{each_at, each_in, has_text}
+use Rattle.api_claim.specs.Lists.{has_text}
 use Rattle.api_claim.specs.declared.types.DeviceConstraint.{DeviceConstraint}
 
 -- a claim has at most 32 constraints

@@ -2,12 +2,12 @@
 -- resource.k8s.io/v1).
 use Rattle.std.specs.Prelude.{◌≡◌, ℕ, ◌≤◌, ◌^◌, ◌-◌, true, false, List, [], ◌∷◌, length, map}
 use Rattle.std.specs.Str.{bytes_eq}
-use Rattle.object_fields.specs.Meta.{name_most}
+use Rattle.object_fields.specs.Limits.{KeyKept, VersionKept}
 use Rattle.object_fields.specs.Names.{is_dns_label, is_dns_name}
 use Rattle.object_fields.specs.Qualified.{domain_most, id_most, is_c_identifier}
-use Rattle.object_fields.specs.declared.key.Key.{Key}
+use Rattle.object_fields.specs.Selectors.{selectors_most}
+use Rattle.object_fields.specs.declared.meta.Scope.TheVariants.{Namespaced}
 use Rattle.object_fields.specs.declared.qualified.QualName.{QualName}
-use Rattle.api_claim.specs.Asks.{selectors_most}
 use Rattle.api_claim.specs.Constraints.{constraints_most}
 use Rattle.api_claim.specs.Lists.{has_text}
 use Rattle.api_claim.specs.Requests.{all_names, requests_most, subrequests_most}
@@ -77,16 +77,13 @@ pub record ConstraintsKept (names : List (List ℕ)) (constraints : List DeviceC
   pub few : length constraints ≤ constraints_most
   pub each_known : EachOf (ConstraintKept names) constraints
 
-pub record KeyKept (key : Key) : Type 0 where
-  pub name_length : length key.name ≤ name_most
-  pub name : is_dns_name key.name ≡ true
-  pub namespace : is_dns_label key.namespace ≡ true
-
 pub record ClaimKept (claim : ResourceClaim) : Type 0 where
-  pub key : KeyKept claim.key
+  pub key : KeyKept Namespaced claim.key
+  pub version : VersionKept claim.version
   pub requests : RequestsKept claim.requests
   pub constraints : ConstraintsKept (all_names claim.requests) claim.constraints
 
 pub record StatusKept (status : ClaimStatus) : Type 0 where
+  pub version : VersionKept status.version
   pub some : 1 ≤ length status.results
   pub few : length status.results ≤ results_most

@@ -1,41 +1,12 @@
--- Lists whose items are read one after another, and names that stand in them once.
-use Rattle.std.specs.Prelude.{ℕ, ◌+◌, Bool, false, true, List, [], ◌∷◌, ◌++◌, Option, Some, None, Result, Ok, Err, codes}
+-- Lists that must have an item, and names that stand once.
+use Rattle.std.specs.Prelude.{ℕ, Bool, false, true, List, Option, Some, None, Result, Ok, Err, codes}
 use Rattle.std.specs.List.{list_any}
 use Rattle.std.specs.Str.{bytes_eq}
 use Rattle.serde_json.specs.Data.{Data, null, boolean, number, string, array, object, Items, no_items, item}
-use Rattle.object_fields.specs.Fields.{dns_label_at, field_error, member_of, optional_at, short_list_at, unless, ◌>>=◌}
+use Rattle.object_fields.specs.Fields.{dns_label_at, field_error, member_of, short_list_at, unless, ◌>>=◌}
 use Rattle.object_fields.specs.declared.error.FieldError.{FieldError}
 use Rattle.object_fields.specs.declared.kind.Kind.TheVariants.{Doubled, Missing}
 use Rattle.object_fields.specs.declared.path.Step.{Step}
-use Rattle.object_fields.specs.declared.path.Step.TheVariants.{Member, Place}
-
--- the items from a place on, each read at its place beside those before, and put behind them
-abbrev pub each_from : {A : Type 0} → (List Step → List A → Data → Result A FieldError) → List Step → ℕ → List A → Items → Result (List A) FieldError
-each_from reading path place before no_items = Ok before
-each_from reading path place before (item d ds) =
-    reading (path ++ Place place ∷ []) before d >>= λ x. each_from reading path (place + 1) (before ++ x ∷ []) ds
-
--- the items, each read beside those before
-abbrev pub each_beside : {A : Type 0} → (List Step → List A → Data → Result A FieldError) → List Step → Items → Result (List A) FieldError
-each_beside reading path ds = each_from reading path 0 [] ds
-
--- a reading that doesn't look at what stands before
-abbrev pub alone : {A : Type 0} → (List Step → Data → Result A FieldError) → List Step → List A → Data → Result A FieldError
-alone reading path before d = reading path d
-
--- the items, each read by itself
-abbrev pub each : {A : Type 0} → (List Step → Data → Result A FieldError) → List Step → Items → Result (List A) FieldError
-each reading path ds = each_beside (alone reading) path ds
-
--- none where there is no list
-abbrev pub each_in : {A : Type 0} → (List Step → Data → Result A FieldError) → List Step → Option Items → Result (List A) FieldError
-each_in reading path None = Ok []
-each_in reading path (Some ds) = each reading path ds
-
--- a list of at most so many items, which may be missing
-abbrev pub each_at : {A : Type 0} → ℕ → (List Step → Data → Result A FieldError) → List Step → List ℕ → Data → Result (List A) FieldError
-each_at most reading path name d =
-    optional_at (short_list_at most) path name d >>= each_in reading (path ++ Member name ∷ [])
 
 abbrev pub has_items : Items → Bool
 has_items no_items = false

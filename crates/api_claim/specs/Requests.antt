@@ -3,12 +3,13 @@ use Rattle.std.specs.Prelude.{ℕ, Bool, true, false, not, List, [], ◌∷◌, 
 use Rattle.std.specs.List.{zip, flat_map}
 use Rattle.serde_json.specs.Data.{Data, Items}
 use Rattle.object_fields.specs.Fields.{error_at, member_of, object_value, short_list_at, unless, ◌>>=◌}
+use Rattle.object_fields.specs.Lists.{each, each_beside}
 use Rattle.object_fields.specs.declared.error.FieldError.{FieldError}
 use Rattle.object_fields.specs.declared.kind.Kind.TheVariants.{NotOne}
 use Rattle.object_fields.specs.declared.path.Step.{Step}
 use Rattle.object_fields.specs.declared.path.Step.TheVariants.{Member}
 use Rattle.api_claim.specs.Asks.{asked_at}
-use Rattle.api_claim.specs.Lists.{each, each_beside, has_some, new_name_at, some_items_at}
+use Rattle.api_claim.specs.Lists.{has_some, new_name_at, some_items_at}
 use Rattle.api_claim.specs.declared.asks.Asked.{Asked}
 use Rattle.api_claim.specs.declared.asks.Asked.TheVariants as asked
 use Rattle.api_claim.specs.declared.types.DeviceAsk.{DeviceAsk}

@@ -4,6 +4,7 @@ use Rattle.std.specs.Str.{bytes_eq}
 use Rattle.serde_json.specs.Data.{Data, Items, no_items, item}
 use Rattle.serde_json.specs.Find.{as_array, as_str}
 use Rattle.object_fields.specs.Fields.{field_error, member_of, object_at, object_value, some_or, text_at, unset_at, ◌>>=◌}
+use Rattle.object_fields.specs.Lists.{each}
 use Rattle.object_fields.specs.Meta.{meta_at}
 use Rattle.object_fields.specs.declared.error.FieldError.{FieldError}
 use Rattle.object_fields.specs.declared.key.DeviceId.{DeviceId}
@@ -12,7 +13,7 @@ use Rattle.object_fields.specs.declared.meta.Scope.TheVariants.{Namespaced}
 use Rattle.object_fields.specs.declared.path.Step.{Step}
 use Rattle.object_fields.specs.declared.path.Step.TheVariants.{Member}
 use Rattle.api_claim.specs.Asks.{admin_at}
-use Rattle.api_claim.specs.Lists.{each, has_some, some_items_at}
+use Rattle.api_claim.specs.Lists.{has_some, some_items_at}
 use Rattle.api_claim.specs.declared.status.Allocation.{Allocation}
 use Rattle.api_claim.specs.declared.types.ClaimStatus.{ClaimStatus}
 use Rattle.api_claim.specs.declared.types.StatusResult.{StatusResult}

@@ -1,21 +1,18 @@
 ghost use Rattle.std.specs.Prelude.{◌≡◌};
 ghost use Rattle.serde_json.specs.View.{items_view, view};
 ghost use Rattle.object_fields.specs.Fields.{Reads};
-ghost use Rattle.api_claim.specs.Lists.{each};
+ghost use Rattle.object_fields.specs.Lists.{each};
 ghost use Rattle.api_claim.specs.Asks as fields;
 
 use crate::lists::has_some;
 use crate::types::{AllocationMode, DeviceAsk, ExactDeviceRequest};
 use dra_values::{Seq, Text};
 use object_fields::{
-    FieldError, Kind, Path, list, object, optional_natural, optional_short_list, optional_text,
-    optional_truth, or_memory, text, unset, value_object,
+    FieldError, Kind, Path, list, object, optional_natural, optional_text, optional_truth,
+    or_memory, read_selectors, text, unset, value_object,
 };
 use serde_json::Value;
 use std::alloc::Global;
-
-/// The most selectors of `exactly` or of a subrequest (API reference of `resource.k8s.io/v1`).
-const SELECTORS_MOST: usize = 32;
 
 /// The greatest `count`, 2^31-1.
 const COUNT_MOST: u64 = 2_147_483_647;
@@ -138,43 +135,6 @@ fn read_ask(alloc: Global, ask: &Value, path: &Path) -> Result<DeviceAsk, FieldE
         selectors,
         mode,
     })
-}
-
-fn read_selectors(alloc: Global, ask: &Value, path: &Path) -> Result<Seq<Text>, FieldError>
-    ensures { Reads result (fields.selectors_at path.now (view ask.now)) }
-{
-    match optional_short_list(alloc, ask, path, "selectors", SELECTORS_MOST)? {
-        Some(selectors) => {
-            let path = path.member(alloc, "selectors")?;
-            read_each_selector(alloc, selectors, &path)
-        }
-        None => Ok(Seq::empty(alloc)),
-    }
-}
-
-fn read_each_selector(
-    alloc: Global,
-    selectors: &[Value],
-    path: &Path,
-) -> Result<Seq<Text>, FieldError>
-    ensures { Reads result (each fields.selector_at path.now (items_view selectors.now)) }
-{
-    let mut texts = Seq::empty(alloc);
-    for place in 0..selectors.len() {
-        let at = path.place(alloc, place)?;
-        let text = read_selector(alloc, &selectors[place], &at)?;
-        or_memory(alloc, texts.push(text))?;
-    }
-    Ok(texts)
-}
-
-fn read_selector(alloc: Global, value: &Value, path: &Path) -> Result<Text, FieldError>
-    ensures { Reads result (fields.selector_at path.now (view value.now)) }
-{
-    let selector = value_object(alloc, value, path)?;
-    let cel = object(alloc, selector, path, "cel")?;
-    let path = path.member(alloc, "cel")?;
-    Ok(Text::new(text(alloc, cel, &path, "expression")?))
 }
 
 /// `allocationMode`, then `count`.

@@ -1,7 +1,7 @@
 ghost use Rattle.std.specs.Prelude.{◌≡◌};
 ghost use Rattle.serde_json.specs.View.{items_view, view};
 ghost use Rattle.object_fields.specs.Fields.{Reads};
-ghost use Rattle.api_claim.specs.Lists.{each};
+ghost use Rattle.object_fields.specs.Lists.{each};
 ghost use Rattle.api_claim.specs.Constraints as fields;
 
 use crate::lists::has_text;

@@ -1,7 +1,7 @@
 ghost use Rattle.std.specs.Prelude.{◌≡◌, ◌++◌, map, IfOk, Ok, OnOk};
 ghost use Rattle.serde_json.specs.View.{items_view, view};
 ghost use Rattle.object_fields.specs.Fields.{Reads};
-ghost use Rattle.api_claim.specs.Lists.{each, each_beside};
+ghost use Rattle.object_fields.specs.Lists.{each, each_beside};
 ghost use Rattle.api_claim.specs.Requests as fields;
 
 use crate::asks::read_asks;

@@ -2,7 +2,7 @@ ghost use Rattle.std.specs.Prelude.{◌≡◌, [], option_map};
 ghost use Rattle.serde_json.specs.Find.{as_str};
 ghost use Rattle.serde_json.specs.View.{items_view, view};
 ghost use Rattle.object_fields.specs.Fields.{Reads};
-ghost use Rattle.api_claim.specs.Lists.{each};
+ghost use Rattle.object_fields.specs.Lists.{each};
 ghost use Rattle.api_claim.specs.Status as fields;
 
 use crate::asks::read_admin;

@@ -1,6 +1,6 @@
 use crate::{
     AllocationMode, ClaimStatus, DeviceAsk, DeviceConstraint, DeviceRequest, RequestKind,
-    ResourceClaim, StatusResult,
+    ResourceClaim, StatusResult, limits_are_kept,
 };
 use object_fields::FieldError;
 use serde_json::Value;
@@ -336,6 +336,7 @@ fn limit(line: &str) -> Option<(&str, usize, &str)> {
 #[test]
 fn lists_read_up_to_their_limit(rt: HostRuntime) -> Result<(), Fail> {
     let alloc = rt.alloc();
+    limits_are_kept();
     let mut count = 0u32;
     for line in LIMITS.lines() {
         if let Some((place, most, rest)) = limit(line) {

@@ -1,4 +1,4 @@
-use crate::{DeviceClass, Node, Pod};
+use crate::{DeviceClass, Node, Pod, limits_are_kept};
 use dra_values::Seq;
 use object_fields::FieldError;
 use serde_json::Value;
@@ -287,6 +287,7 @@ fn length<T>(items: &Seq<T>) -> usize {
 #[test]
 fn lists_have_at_most_32_items(rt: HostRuntime) -> Result<(), Fail> {
     let alloc = rt.alloc();
+    limits_are_kept();
     let selector = r#"{"cel":{"expression":"true"}}"#;
     let claim = r#"{"name":"g","resourceClaimName":"c"}"#;
     let document = listed(alloc, "selectors", selector, 32)?;

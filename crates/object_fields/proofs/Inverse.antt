@@ -1,10 +1,10 @@
 -- What was read, from the answer back.
-use Rattle.std.proofs.Common.{◌≡◌, ◌∙◌, ℕ, ◌+◌, ◌≤◌, Bool, true, false, List, [], ◌∷◌, ◌++◌, length, IfSome, Option, Some, None, Result, Ok, Err, ap, append_assoc, arith, nat_lt, refl, subst, sym}
+use Rattle.std.proofs.Common.{◌≡◌, ℕ, ◌+◌, ◌≤◌, Bool, true, false, List, [], ◌∷◌, ◌++◌, length, IfSome, Option, Some, None, Result, Ok, Err, ap, arith, nat_lt, refl, subst}
 use Rattle.std.proofs.lemmas.Bool.{ltb-false}
-use Rattle.std.proofs.lemmas.List.{append-nil}
+use Rattle.std.proofs.lemmas.List.{length-append}
 use Rattle.serde_json.specs.Data.{Data, Items, no_items, item}
 use Rattle.object_fields.specs.Fields.{field_error, if_there, items_length, list_at, member_of, optional_at, short_list_at, unless, ◌>>=◌}
-use Rattle.object_fields.specs.Lists.{alone, each, each_at, each_from, each_in}
+use Rattle.object_fields.specs.Lists.{alone, each_at, each_from, each_in}
 use Rattle.object_fields.specs.declared.error.FieldError.{FieldError}
 use Rattle.object_fields.specs.declared.kind.Kind.TheVariants.{TooMany}
 use Rattle.object_fields.specs.declared.path.Step.{Step}
@@ -24,33 +24,17 @@ pub unless_ok : {A : Type 0} (e : FieldError) (b : Bool) (x y : A) → unless e 
 unless_ok e true x y h = cc
 unless_ok e false x y h = (refl, cc)
 
--- ---- items, each at its place
+-- ---- items
 
-abbrev pub Rows : {A : Type 0} → (List Step → Data → Result A FieldError) → List Step → ℕ → Items → List A → Type 0
-Rows f path place no_items [] = Unit {0}
-Rows f path place no_items (x ∷ xs) = ⊥
-Rows f path place (item d ds) [] = ⊥
-Rows f path place (item d ds) (x ∷ xs) = (f (path ++ Place place ∷ []) d ≡ Ok x) × Rows f path (place + 1) ds xs
-
-rows_behind : {A : Type 0} (f : List Step → Data → Result A FieldError) (path : List Step) (place : ℕ) (before all : List A) (ds : Items) → each_from (alone f) path place before ds ≡ Ok all → (xs : List A) × ((all ≡ before ++ xs) × Rows f path place ds xs)
-rows_behind f path place before all no_items h =
-    let e : before ≡ all = cc in ([], (sym e ∙ sym (append-nil before), tt))
-rows_behind f path place before all (item d ds) h =
-    let s = then_ok (f (path ++ Place place ∷ []) d) (λ x. each_from (alone f) path (place + 1) (before ++ x ∷ []) ds) all h in
-    let r = rows_behind f path (place + 1) (before ++ s.0 ∷ []) all ds s.1.1 in
-    (s.0 ∷ r.0, (r.1.0 ∙ append_assoc before (s.0 ∷ []) r.0, (s.1.0, r.1.1)))
-
-pub rows : {A : Type 0} (f : List Step → Data → Result A FieldError) (path : List Step) (all : List A) (ds : Items) → each f path ds ≡ Ok all → Rows f path 0 ds all
-rows f path all ds h =
-    let r = rows_behind f path 0 [] all ds h in
-    subst (Rows f path 0 ds) (sym r.1.0) r.1.1
-
-pub rows_length : {A : Type 0} (f : List Step → Data → Result A FieldError) (path : List Step) (place : ℕ) (ds : Items) (xs : List A) → Rows f path place ds xs → length xs ≡ items_length ds
-rows_length f path place no_items [] h = refl
-rows_length f path place no_items (x ∷ xs) h = absurd h
-rows_length f path place (item d ds) [] h = absurd h
-rows_length f path place (item d ds) (x ∷ xs) h =
-    let k : length xs ≡ items_length ds = rows_length f path (place + 1) ds xs h.1 in omega arith
+-- as many as there are items, behind those before
+each_length : {A : Type 0} (r : List Step → List A → Data → Result A FieldError) (path : List Step) (place : ℕ) (before all : List A) (ds : Items) → each_from r path place before ds ≡ Ok all → length all ≡ length before + items_length ds
+each_length r path place before all no_items h =
+    let e : before ≡ all = cc in omega (arith, ap length e)
+each_length r path place before all (item d ds) h =
+    let s = then_ok (r (path ++ Place place ∷ []) before d) (λ x. each_from r path (place + 1) (before ++ x ∷ []) ds) all h in
+    let k = each_length r path (place + 1) (before ++ s.0 ∷ []) all ds s.1.1 in
+    let l : length (before ++ s.0 ∷ []) ≡ length before + 1 = length-append before (s.0 ∷ []) in
+    omega (arith, k, l)
 
 -- ---- values that may be missing
 
@@ -77,7 +61,7 @@ few_in {A = A} most f path None xs o h =
     let l : 0 ≡ length xs = ap length e in
     omega arith
 few_in most f path (Some ds) xs o h =
-    let l : length xs ≡ items_length ds = rows_length f path 0 ds xs (rows f path xs ds h) in
+    let l : length xs ≡ 0 + items_length ds = each_length (alone f) path 0 [] xs ds h in
     let few : items_length ds ≤ most = o in
     omega arith
 

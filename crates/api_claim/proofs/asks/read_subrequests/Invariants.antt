@@ -1,7 +1,7 @@
 use Rattle.std.proofs.Common.{◌≡◌, drop}
 use Rattle.serde_json.specs.View.{items_view}
+use Rattle.object_fields.specs.Lists.{alone, each, each_from}
 use Rattle.api_claim.specs.Asks.{subrequest_in}
-use Rattle.api_claim.specs.Lists.{alone, each, each_from}
 use Rattle.api_claim.proofs.asks.read_subrequests.Given as goal
 
 -- the items that are left, behind those read, are all items

@@ -2,11 +2,11 @@ use Rattle.std.proofs.Common.{◌≡◌, ◌∙◌, List, [], ◌∷◌, ◌++�
 use Rattle.serde_json.specs.Data.{Data, Items}
 use Rattle.serde_json.specs.View.{items_view, view}
 use Rattle.object_fields.specs.Fields.{Reads, optional_at, short_list_at, ◌>>=◌}
+use Rattle.object_fields.specs.Lists.{each, each_in}
 use Rattle.object_fields.specs.declared.error.FieldError.{FieldError}
 use Rattle.object_fields.specs.declared.path.Step.{Step}
 use Rattle.object_fields.specs.declared.path.Step.TheVariants.{Member}
 use Rattle.api_claim.specs.Constraints.{constraint_at, constraints_at, constraints_most}
-use Rattle.api_claim.specs.Lists.{each, each_in}
 use Rattle.api_claim.specs.declared.types.DeviceConstraint.{DeviceConstraint}
 use Rattle.api_claim.proofs.constraints.read_constraints.Goals as goal
 

@@ -1,6 +1,6 @@
 use Rattle.std.proofs.Common.{◌≡◌, drop}
 use Rattle.serde_json.specs.View.{items_view}
-use Rattle.api_claim.specs.Lists.{each_beside, each_from}
+use Rattle.object_fields.specs.Lists.{each_beside, each_from}
 use Rattle.api_claim.specs.Requests.{subrequest_name_at}
 use Rattle.api_claim.proofs.requests.read_each_name.Given as goal
 

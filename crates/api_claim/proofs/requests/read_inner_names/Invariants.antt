@@ -1,7 +1,7 @@
 use Rattle.std.proofs.Common.{◌≡◌, drop}
 use Rattle.serde_json.specs.View.{items_view}
+use Rattle.object_fields.specs.Lists.{alone, each, each_from}
 use Rattle.api_claim.specs.Requests.{subrequest_names_at}
-use Rattle.api_claim.specs.Lists.{alone, each, each_from}
 use Rattle.api_claim.proofs.requests.read_inner_names.Given as goal
 
 -- the items that are left, behind those read, are all items
