@@ -85,7 +85,7 @@ constraint_kept names path d c h =
       requests = each_in_each (λ t. has_text t names ≡ true) (known_at names) (known_kept names) (path ++ Member (codes "requests") ∷ []) r.0 u.0 r.1.1;
       attribute = full_name_of (path ++ Member (codes "matchAttribute") ∷ []) (cut_at 47 a.0) v.0 a.1.1;
     } in
-    subst (ConstraintKept names) is kept
+    subst (ConstraintKept names) {x = made} is kept
 
 constraints_kept : (names : List (List ℕ)) (path : List Step) (d : Data) (cs : List DeviceConstraint) → constraints_at names path d ≡ Ok cs → ConstraintsKept names cs
 constraints_kept names path d cs h = record {

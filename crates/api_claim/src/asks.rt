@@ -1,15 +1,14 @@
 ghost use Rattle.std.specs.Prelude.{◌≡◌};
-ghost use Rattle.serde_json.specs.View.{items_view, view};
+ghost use Rattle.serde_json.specs.View.{view};
 ghost use Rattle.object_fields.specs.Fields.{Reads};
-ghost use Rattle.object_fields.specs.Lists.{each};
 ghost use Rattle.api_claim.specs.Asks as fields;
 
 use crate::lists::has_some;
 use crate::types::{AllocationMode, DeviceAsk, ExactDeviceRequest};
 use dra_values::{Seq, Text};
 use object_fields::{
-    FieldError, Kind, Path, list, object, optional_natural, optional_text, optional_truth,
-    or_memory, read_selectors, text, unset, value_object,
+    FieldError, Kind, Path, ReadItem, list, object, optional_natural, optional_text,
+    optional_truth, read_items, read_selectors, text, unset, value_object,
 };
 use serde_json::Value;
 use std::alloc::Global;
@@ -24,30 +23,16 @@ pub(crate) enum Asked {
     FirstAvailable(Seq<DeviceAsk>),
 }
 
-/// What each of the requests asks for.
-pub(crate) fn read_asks(
-    alloc: Global,
-    requests: &[Value],
-    path: &Path,
-) -> Result<Seq<Asked>, FieldError>
-    ensures { Reads result (each fields.asked_at path.now (items_view requests.now)) }
-{
-    let mut asks = Seq::empty(alloc);
-    for place in 0..requests.len() {
-        let at = path.place(alloc, place)?;
-        let asked = read_asked(alloc, &requests[place], &at)?;
-        or_memory(alloc, asks.push(asked))?;
-    }
-    Ok(asks)
-}
+/// What one of the requests asks for.
+impl ReadItem for Asked {
+    ghost reading = { fields.asked_at };
 
-fn read_asked(alloc: Global, request: &Value, path: &Path) -> Result<Asked, FieldError>
-    ensures { Reads result (fields.asked_at path.now (view request.now)) }
-{
-    if has_some(request, "firstAvailable") {
-        Ok(Asked::FirstAvailable(read_first_available(alloc, request, path)?))
-    } else {
-        Ok(Asked::Exactly(read_exactly(alloc, request, path)?))
+    fn read_item(alloc: Global, item: &Value, path: &Path) -> Result<Asked, FieldError> {
+        if has_some(item, "firstAvailable") {
+            Ok(Asked::FirstAvailable(read_first_available(alloc, item, path)?))
+        } else {
+            Ok(Asked::Exactly(read_exactly(alloc, item, path)?))
+        }
     }
 }
 
@@ -60,7 +45,7 @@ fn read_first_available(
 {
     let subrequests = list(alloc, request, path, "firstAvailable")?;
     let path = path.member(alloc, "firstAvailable")?;
-    read_subrequests(alloc, subrequests, &path)
+    read_items(alloc, subrequests, &path)
 }
 
 fn read_exactly(
@@ -75,29 +60,16 @@ fn read_exactly(
     read_exact(alloc, exactly, &path)
 }
 
-fn read_subrequests(
-    alloc: Global,
-    subrequests: &[Value],
-    path: &Path,
-) -> Result<Seq<DeviceAsk>, FieldError>
-    ensures { Reads result (each fields.subrequest_in path.now (items_view subrequests.now)) }
-{
-    let mut asks = Seq::empty(alloc);
-    for place in 0..subrequests.len() {
-        let at = path.place(alloc, place)?;
-        let ask = read_subrequest(alloc, &subrequests[place], &at)?;
-        or_memory(alloc, asks.push(ask))?;
-    }
-    Ok(asks)
-}
+/// What one of the subrequests asks for.
+impl ReadItem for DeviceAsk {
+    ghost reading = { fields.subrequest_in };
 
-fn read_subrequest(alloc: Global, value: &Value, path: &Path) -> Result<DeviceAsk, FieldError>
-    ensures { Reads result (fields.subrequest_in path.now (view value.now)) }
-{
-    let subrequest = value_object(alloc, value, path)?;
-    let ask = read_ask(alloc, subrequest, path)?;
-    left_out(alloc, subrequest, path)?;
-    Ok(ask)
+    fn read_item(alloc: Global, item: &Value, path: &Path) -> Result<DeviceAsk, FieldError> {
+        let subrequest = value_object(alloc, item, path)?;
+        let ask = read_ask(alloc, subrequest, path)?;
+        left_out(alloc, subrequest, path)?;
+        Ok(ask)
+    }
 }
 
 fn read_exact(alloc: Global, exactly: &Value, path: &Path) -> Result<ExactDeviceRequest, FieldError>

@@ -4,12 +4,14 @@ ghost use Rattle.object_fields.specs.Fields.{Reads};
 ghost use Rattle.object_fields.specs.Lists.{each, each_beside};
 ghost use Rattle.api_claim.specs.Requests as fields;
 
-use crate::asks::read_asks;
+use crate::asks::Asked;
 use crate::joins::{join_kinds, join_requests};
 use crate::lists::{has_some, read_new_name, some_items};
 use crate::types::{DeviceRequest, DeviceSubRequest, RequestKind};
 use dra_values::{Seq, Text};
-use object_fields::{FieldError, Kind, Path, member, or_memory, short_list, value_object};
+use object_fields::{
+    FieldError, Kind, Path, member, or_memory, read_items, short_list, value_object,
+};
 use serde_json::Value;
 use std::alloc::{AllocError, Global};
 
@@ -52,7 +54,7 @@ fn read_kinds(
 ) -> Result<Seq<RequestKind>, FieldError>
     ensures { Reads result (fields.kinds_in path.now (items_view requests.now)) }
 {
-    let asks = read_asks(alloc, requests, path)?;
+    let asks: Seq<Asked> = read_items(alloc, requests, path)?;
     let names = read_inner_names(alloc, requests, path)?;
     or_memory(alloc, join_kinds(alloc, asks, names))
 }

@@ -2,7 +2,6 @@ ghost use Rattle.std.specs.Prelude.{◌≡◌, [], option_map};
 ghost use Rattle.serde_json.specs.Find.{as_str};
 ghost use Rattle.serde_json.specs.View.{items_view, view};
 ghost use Rattle.object_fields.specs.Fields.{Reads};
-ghost use Rattle.object_fields.specs.Lists.{each};
 ghost use Rattle.api_claim.specs.Status as fields;
 
 use crate::asks::read_admin;
@@ -10,8 +9,8 @@ use crate::lists::{has_some, some_items};
 use crate::types::{ClaimStatus, StatusResult};
 use dra_values::{Seq, Text};
 use object_fields::{
-    DeviceId, FieldError, Kind, ObjectMeta, Path, Scope, member, object, or_memory, text, unset,
-    value_object,
+    DeviceId, FieldError, Kind, ObjectMeta, Path, ReadItem, Scope, member, object, or_memory,
+    read_items, text, unset, value_object,
 };
 use serde_json::Value;
 use std::alloc::Global;
@@ -98,33 +97,23 @@ fn read_results(
     let path = path.member(alloc, "devices")?;
     let results = some_items(alloc, devices, &path, "results", RESULTS_MOST)?;
     let path = path.member(alloc, "results")?;
-    read_each(alloc, results, &path)
+    read_items(alloc, results, &path)
 }
 
-fn read_each(alloc: Global, values: &[Value], path: &Path) -> Result<Seq<StatusResult>, FieldError>
-    ensures { Reads result (each fields.result_at path.now (items_view values.now)) }
-{
-    let mut results = Seq::empty(alloc);
-    for place in 0..values.len() {
-        let at = path.place(alloc, place)?;
-        let found = read_result(alloc, &values[place], &at)?;
-        or_memory(alloc, results.push(found))?;
+impl ReadItem for StatusResult {
+    ghost reading = { fields.result_at };
+
+    fn read_item(alloc: Global, item: &Value, path: &Path) -> Result<StatusResult, FieldError> {
+        let found = value_object(alloc, item, path)?;
+        let request = Text::new(text(alloc, found, path, "request")?);
+        let device = read_device(alloc, found, path)?;
+        let admin = read_admin(alloc, found, path)?;
+        Ok(StatusResult {
+            request,
+            device,
+            admin,
+        })
     }
-    Ok(results)
-}
-
-fn read_result(alloc: Global, value: &Value, path: &Path) -> Result<StatusResult, FieldError>
-    ensures { Reads result (fields.result_at path.now (view value.now)) }
-{
-    let found = value_object(alloc, value, path)?;
-    let request = Text::new(text(alloc, found, path, "request")?);
-    let device = read_device(alloc, found, path)?;
-    let admin = read_admin(alloc, found, path)?;
-    Ok(StatusResult {
-        request,
-        device,
-        admin,
-    })
 }
 
 fn read_device(alloc: Global, found: &Value, path: &Path) -> Result<DeviceId, FieldError>

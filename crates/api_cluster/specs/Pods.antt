@@ -1,5 +1,5 @@
 -- What is read of a Pod (API reference of v1).
-use Rattle.std.specs.Prelude.{ℕ, ◌==◌, Bool, false, true, List, [], ◌∷◌, ◌++◌, length, not, ⊤, Option, Some, None, Result, Ok, codes}
+use Rattle.std.specs.Prelude.{ℕ, ◌==◌, Bool, false, true, List, [], ◌∷◌, length, not, ⊤, Option, Some, None, Result, Ok, codes}
 use Rattle.serde_json.specs.Data.{Data, null, boolean, number, string, array, object}
 use Rattle.serde_json.specs.Find.{get}
 use Rattle.object_fields.specs.Fields.{field_error, object_at, object_value, optional_at, text_at, unless, unset_at, ◌>>=◌}

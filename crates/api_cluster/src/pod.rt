@@ -1,15 +1,14 @@
 ghost use Rattle.std.specs.Prelude.{◌≡◌, option_map};
 ghost use Rattle.serde_json.specs.Find.{get};
-ghost use Rattle.serde_json.specs.View.{items_view, view};
+ghost use Rattle.serde_json.specs.View.{view};
 ghost use Rattle.object_fields.specs.Fields.{Reads};
-ghost use Rattle.object_fields.specs.Lists.{each};
 ghost use Rattle.api_cluster.specs.Pods as fields;
 
 use crate::types::{Pod, PodResourceClaim};
 use dra_values::{Seq, Text};
 use object_fields::{
-    FieldError, Kind, ObjectMeta, Path, Scope, optional_object, optional_short_list, or_memory,
-    text, unset, value_object,
+    FieldError, Kind, ObjectMeta, Path, ReadItem, Scope, optional_items, optional_object, text,
+    unset, value_object,
 };
 use serde_json::Value;
 use std::alloc::Global;
@@ -96,37 +95,17 @@ fn read_claims(
 ) -> Result<Seq<PodResourceClaim>, FieldError>
     ensures { Reads result (fields.claims_at path.now (view spec.now)) }
 {
-    match optional_short_list(alloc, spec, path, "resourceClaims", CLAIMS_MOST)? {
-        Some(entries) => {
-            let path = path.member(alloc, "resourceClaims")?;
-            read_entries(alloc, entries, &path)
-        }
-        None => Ok(Seq::empty(alloc)),
-    }
+    optional_items(alloc, spec, path, "resourceClaims", CLAIMS_MOST)
 }
 
-fn read_entries(
-    alloc: Global,
-    entries: &[Value],
-    path: &Path,
-) -> Result<Seq<PodResourceClaim>, FieldError>
-    ensures { Reads result (each fields.entry_at path.now (items_view entries.now)) }
-{
-    let mut claims = Seq::empty(alloc);
-    for place in 0..entries.len() {
-        let at = path.place(alloc, place)?;
-        let claim = read_entry(alloc, &entries[place], &at)?;
-        or_memory(alloc, claims.push(claim))?;
-    }
-    Ok(claims)
-}
+impl ReadItem for PodResourceClaim {
+    ghost reading = { fields.entry_at };
 
-fn read_entry(alloc: Global, entry: &Value, path: &Path) -> Result<PodResourceClaim, FieldError>
-    ensures { Reads result (fields.entry_at path.now (view entry.now)) }
-{
-    let entry = value_object(alloc, entry, path)?;
-    unset(alloc, entry, path, "resourceClaimTemplateName")?;
-    let name = Text::new(text(alloc, entry, path, "name")?);
-    let claim = Text::new(text(alloc, entry, path, "resourceClaimName")?);
-    Ok(PodResourceClaim { name, claim })
+    fn read_item(alloc: Global, item: &Value, path: &Path) -> Result<PodResourceClaim, FieldError> {
+        let entry = value_object(alloc, item, path)?;
+        unset(alloc, entry, path, "resourceClaimTemplateName")?;
+        let name = Text::new(text(alloc, entry, path, "name")?);
+        let claim = Text::new(text(alloc, entry, path, "resourceClaimName")?);
+        Ok(PodResourceClaim { name, claim })
+    }
 }

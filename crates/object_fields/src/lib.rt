@@ -4,6 +4,7 @@
 
 mod error;
 mod fields;
+mod items;
 mod key;
 mod kind;
 mod laws;
@@ -20,6 +21,7 @@ mod tests;
 
 pub use error::{FieldError, or_memory};
 pub use fields::{borrowed, field, list, member, object, table, text, truth, whole};
+pub use items::{ReadItem, optional_items, read_items};
 pub use key::{DeviceId, Key};
 pub use kind::{Kind, Stage};
 pub use laws::{lists_keep_limits, metadata_keeps_limits};

@@ -61,6 +61,11 @@ fn joined(alloc: Global, answer: Result<Seq<Text>, FieldError>) -> Result<String
     Ok(all)
 }
 
+/// The texts of the list `f`.
+fn texts_of(alloc: Global, value: &Value, path: &Path) -> Result<Seq<Text>, FieldError> {
+    read_items(alloc, list(alloc, value, path, "f")?, path)
+}
+
 /// How many members an object has.
 fn sized(
     alloc: Global,
@@ -137,6 +142,7 @@ fn limited(alloc: Global, reader: &str, value: &Value) -> Result<String, AllocEr
         "pool" => printed(alloc, read_pool_name(alloc, value, &top, "f")),
         "value text" => printed(alloc, value_text(alloc, value, &top)),
         "value table" => sized(alloc, value_table(alloc, value, &top)),
+        "items" => joined(alloc, texts_of(alloc, value, &top)),
         "selectors" => joined(alloc, read_selectors(alloc, value, &top)),
         _ => written(alloc, value_object(alloc, value, &top)),
     }
@@ -153,6 +159,7 @@ fn optional(alloc: Global, reader: &str, value: &Value) -> Result<String, AllocE
         "signed" => printed_if(alloc, optional_signed(alloc, value, &top, "f")),
         "list" => counted_if(alloc, optional_list(alloc, value, &top, "f")),
         "short list" => counted_if(alloc, optional_short_list(alloc, value, &top, "f", 1)),
+        "items" => joined(alloc, optional_items(alloc, value, &top, "f", 2)),
         "table" => sized_if(alloc, optional_table(alloc, value, &top, "f")),
         "object" => written_if(alloc, optional_object(alloc, value, &top, "f")),
         _ => nothing(alloc, unset(alloc, value, &top, "f")),
@@ -254,6 +261,9 @@ limited|value table|1|{"f":1}
 limited|value table|WrongType |[]
 limited|value object|{"f":1}|{"f":1}
 limited|value object|Missing |null
+limited|items|a;b;c;|{"f":["a","b","c"]}
+limited|items|WrongType [1]|{"f":["a",1,null]}
+limited|items|Missing f|{}
 limited|selectors||{}
 limited|selectors||{"selectors":[]}
 limited|selectors|a;;|{"selectors":[{"cel":{"expression":"a"}},{"cel":{"expression":""}}]}
@@ -276,6 +286,10 @@ optional|list|0|{"f":[]}
 optional|list|absent|{}
 optional|short list|1|{"f":[1]}
 optional|short list|TooMany f|{"f":[1,2]}
+optional|items||{}
+optional|items|a;b;|{"f":["a","b"]}
+optional|items|Missing f[0]|{"f":[null,1]}
+optional|items|TooMany f|{"f":[null,1,2]}
 optional|table|0|{"f":{}}
 optional|object|{}|{"f":{}}
 optional|object|WrongType f|{"f":1}
@@ -323,7 +337,7 @@ fn documents_read_or_have_their_error(rt: HostRuntime) -> Result<(), Fail> {
             count = count.saturating_add(1);
         }
     }
-    assert_eq!(rt; count, 101);
+    assert_eq!(rt; count, 108);
     Ok(())
 }
 
