@@ -1,7 +1,7 @@
--- Which documents are commands, and which command each is. Objects are those of
+-- Which documents are commands, and which commands each is. Objects are those of
 -- `resource.k8s.io/v1` and `v1` of the Kubernetes API reference; the commands of `dra.replay/v1`
 -- are this project's own.
-use Rattle.std.specs.Prelude.{ℕ, nat_le, ◌&&◌, Bool, true, false, List, codes, Option, Some, None, Result, Ok, Err, is_some, option_map, option_and_then, if◌then◌else◌}
+use Rattle.std.specs.Prelude.{ℕ, nat_le, ◌&&◌, Bool, true, false, List, [], ◌∷◌, codes, Option, Some, None, Result, Ok, Err, is_some, option_map, option_and_then, if◌then◌else◌}
 use Rattle.std.specs.Str.{is_utf8}
 use Rattle.serde_json.specs.Data.{Data, Items, no_items, item}
 use Rattle.serde_json.specs.Read.{read}
@@ -55,26 +55,6 @@ passes test (Some ds) = test ds
 abbrev pub list_at : List ℕ → Data → Option Items
 list_at name d = option_and_then as_array (get name d)
 
-abbrev pub applies : Option Document → Bool
-applies None = false
-applies (Some (is.Object kind)) = true
-applies (Some is.List) = false
-applies (Some is.Delete) = false
-applies (Some is.Schedule) = false
-applies (Some is.Release) = false
-applies (Some is.Prepare) = false
-applies (Some is.Unprepare) = false
-applies (Some is.Reopen) = false
-applies (Some is.Together) = false
-
--- a document of an object kind, whatever its fields
-abbrev pub is_object : Data → Bool
-is_object d = applies (document_of d)
-
--- `items` is a list of objects, which may be empty
-abbrev pub is_list : Data → Bool
-is_list d = passes (each is_object) (list_at (codes "items") d)
-
 -- a document of this kind may be a member of a Together, and its fields read
 abbrev pub joins : Option Document → Data → Bool
 joins None d = false
@@ -101,18 +81,6 @@ are_together ds = nat_le 1 (items_length ds) && nat_le (items_length ds) togethe
 abbrev pub is_together : Data → Bool
 is_together d = passes are_together (list_at (codes "commands") d)
 
--- the fields of a document that is this read
-abbrev pub reads : Document → Data → Bool
-reads (is.Object kind) d = true
-reads is.List d = is_list d
-reads is.Delete d = is_delete d
-reads is.Schedule d = is_some (key_of d)
-reads is.Release d = is_some (key_of d)
-reads is.Prepare d = is_some (key_of d)
-reads is.Unprepare d = is_some (key_of d)
-reads is.Reopen d = true
-reads is.Together d = is_together d
-
 -- ---- the commands
 
 -- An object that reads is applied; one that doesn't is a command too, with the first error.
@@ -123,6 +91,32 @@ applied (Err e) = Invalid e
 abbrev pub apply_of : ObjectKind → Data → Command
 apply_of kind d = applied (object_of kind d)
 
+-- the command that applies the object that a document is, whatever its fields; another applies none
+abbrev pub apply_in : Data → Option Document → Option Command
+apply_in d None = None
+apply_in d (Some (is.Object kind)) = Some (apply_of kind d)
+apply_in d (Some is.List) = None
+apply_in d (Some is.Delete) = None
+apply_in d (Some is.Schedule) = None
+apply_in d (Some is.Release) = None
+apply_in d (Some is.Prepare) = None
+apply_in d (Some is.Unprepare) = None
+apply_in d (Some is.Reopen) = None
+apply_in d (Some is.Together) = None
+
+-- a command before others, where all of them are there
+abbrev pub before : Option Command → Option (List Command) → Option (List Command)
+before c cs = option_and_then (λ first. option_map (λ rest. first ∷ rest) cs) c
+
+-- for each of the items in order the command that applies it, where each is an object
+abbrev pub apply_each : Items → Option (List Command)
+apply_each no_items = Some []
+apply_each (item d ds) = before (apply_in d (document_of d)) (apply_each ds)
+
+-- `items` is a list of objects, which may be empty
+abbrev pub listed : Data → Option (List Command)
+listed d = option_and_then apply_each (list_at (codes "items") d)
+
 abbrev pub schedule_of : Data → Option Command
 schedule_of d = option_map Schedule (key_of d)
 
@@ -130,20 +124,24 @@ schedule_of d = option_map Schedule (key_of d)
 abbrev pub not_built : Bool → Option Command
 not_built b = if b then Some NotBuilt else None
 
-abbrev pub command_in : Data → Document → Option Command
-command_in d (is.Object kind) = Some (apply_of kind d)
-command_in d is.List = not_built (reads is.List d)
-command_in d is.Delete = not_built (reads is.Delete d)
-command_in d is.Schedule = schedule_of d
-command_in d is.Release = not_built (reads is.Release d)
-command_in d is.Prepare = not_built (reads is.Prepare d)
-command_in d is.Unprepare = not_built (reads is.Unprepare d)
-command_in d is.Reopen = not_built (reads is.Reopen d)
-command_in d is.Together = not_built (reads is.Together d)
+-- a command by itself
+abbrev pub alone : Option Command → Option (List Command)
+alone c = option_map (λ only. only ∷ []) c
 
-abbrev pub command_of_data : Data → Option Command
-command_of_data d = option_and_then (command_in d) (document_of d)
+abbrev pub commands_in : Data → Document → Option (List Command)
+commands_in d (is.Object kind) = alone (Some (apply_of kind d))
+commands_in d is.List = listed d
+commands_in d is.Delete = alone (not_built (is_delete d))
+commands_in d is.Schedule = alone (schedule_of d)
+commands_in d is.Release = alone (not_built (is_some (key_of d)))
+commands_in d is.Prepare = alone (not_built (is_some (key_of d)))
+commands_in d is.Unprepare = alone (not_built (is_some (key_of d)))
+commands_in d is.Reopen = alone (Some NotBuilt)
+commands_in d is.Together = alone (not_built (is_together d))
 
--- the command that a document is: it is in UTF-8, and serde_json reads it
-unfoldable pub command_of : List ℕ → Option Command
-command_of document = if is_utf8 document then option_and_then command_of_data (read document) else None
+abbrev pub commands_of_data : Data → Option (List Command)
+commands_of_data d = option_and_then (commands_in d) (document_of d)
+
+-- the commands that a document is, in order: it is in UTF-8, and serde_json reads it
+unfoldable pub commands_of_document : List ℕ → Option (List Command)
+commands_of_document document = if is_utf8 document then option_and_then commands_of_data (read document) else None

@@ -1,11 +1,13 @@
-ghost use Rattle.std.specs.Prelude.{◌≡◌, IfOk, option_map};
-ghost use Rattle.serde_json.specs.View.{view};
+ghost use Rattle.std.specs.Prelude.{◌≡◌, IfOk};
+ghost use Rattle.serde_json.specs.View.{items_view, view};
 ghost use Rattle.commands.specs.Commands as spec;
+ghost use Rattle.commands.specs.Documents as documents;
 
 use crate::document::{Document, ObjectKind, document_of};
-use crate::fields::{has_key, is_delete, is_list, is_together, read_key};
+use crate::fields::{has_key, is_delete, is_together, read_key};
 use crate::objects::read_object;
 use alloc_rules::Object;
+use dra_values::Seq;
 use object_fields::{FieldError, Key, Kind};
 use serde_json::Value;
 use std::alloc::{AllocError, Global};
@@ -24,16 +26,16 @@ pub enum Command {
     NotBuilt,
 }
 
-/// The command that the bytes of a document are, None where they aren't one. `AllocError` comes
-/// only where memory runs out.
+/// The commands that the bytes of a document are, in order, None where they aren't commands.
+/// `AllocError` comes only where memory runs out.
 ///
-/// A command is one JSON object in UTF-8. Its `apiVersion` and `kind` say what it is:
+/// A document is one JSON object in UTF-8. Its `apiVersion` and `kind` say what it is:
 ///
 /// | apiVersion | kind | Fields |
 /// |---|---|---|
 /// | `resource.k8s.io/v1` | ResourceSlice, DeviceClass, ResourceClaim | an object, applied |
 /// | `v1` | Node, Pod | an object, applied |
-/// | `v1` | List | `items`: a list of objects of the two rows above |
+/// | `v1` | List | `items`: a list of objects of the two rows above, each applied |
 /// | `dra.replay/v1` | Delete | `target`, the kind of an object; `namespace`, `name` |
 /// | `dra.replay/v1` | Schedule, Release, Prepare, Unprepare | a pod's `namespace`, `name` |
 /// | `dra.replay/v1` | Reopen | none |
@@ -42,17 +44,21 @@ pub enum Command {
 /// The kinds of `resource.k8s.io/v1` and `v1` are those of the Kubernetes API reference; the
 /// documents of `dra.replay/v1` are this project's own. `name` is any text; `namespace` is any
 /// text, and `default` where it is missing or null. A document whose fields don't read so is no
-/// command, nor is a List or a Together with a member that isn't allowed there. An object is always
-/// a command, whatever its fields: it is Invalid, with the first error in their order, where they
-/// don't read.
-pub fn read_command(alloc: Global, document: &[u8]) -> Result<Option<Command>, AllocError>
-    ensures { IfOk result (λ c. c ≡ spec.command_of document.now) }
+/// command, nor is a List or a Together with a member that isn't allowed there. A List is one
+/// command for each of its items, and none where it is empty; every other document is one command.
+/// An object is always a command, whatever its fields: it is Invalid, with the first error in their
+/// order, where they don't read.
+pub fn read_commands(
+    alloc: Global,
+    document: &[u8],
+) -> Result<Option<Seq<Command>>, AllocError>
+    ensures { IfOk result (λ cs. cs ≡ spec.commands_of_document document.now) }
 {
     let Ok(text) = str::from_utf8(document) else {
         return Ok(None);
     };
     match Value::from_str(alloc, text) {
-        Ok(value) => command_in(alloc, &value),
+        Ok(value) => commands_in(alloc, &value),
         Err(error) => {
             if error.is_memory() {
                 Err(AllocError)
@@ -63,14 +69,77 @@ pub fn read_command(alloc: Global, document: &[u8]) -> Result<Option<Command>, A
     }
 }
 
-fn command_in(alloc: Global, value: &Value) -> Result<Option<Command>, AllocError>
-    ensures { IfOk result (λ c. c ≡ spec.command_of_data (view value.now)) }
+fn commands_in(alloc: Global, value: &Value) -> Result<Option<Seq<Command>>, AllocError>
+    ensures { IfOk result (λ cs. cs ≡ spec.commands_of_data (view value.now)) }
 {
     match document_of(value) {
         None => Ok(None),
+        Some(document) => commands_by(alloc, document, value),
+    }
+}
+
+/// The commands of a document of this kind.
+fn commands_by(
+    alloc: Global,
+    document: Document,
+    value: &Value,
+) -> Result<Option<Seq<Command>>, AllocError>
+    ensures { IfOk result (λ cs. cs ≡ spec.commands_in (view value.now) document) }
+{
+    match document {
+        Document::Object(kind) => alone(alloc, Some(apply(alloc, kind, value)?)),
+        Document::List => list(alloc, value),
+        Document::Schedule => alone(alloc, schedule(alloc, value)?),
+        Document::Delete => alone(alloc, not_built(is_delete(value))),
+        Document::Release | Document::Prepare | Document::Unprepare => {
+            alone(alloc, not_built(has_key(value)))
+        }
+        Document::Reopen => alone(alloc, Some(Command::NotBuilt)),
+        Document::Together => alone(alloc, not_built(is_together(value))),
+    }
+}
+
+/// A command by itself.
+fn alone(alloc: Global, command: Option<Command>) -> Result<Option<Seq<Command>>, AllocError>
+    ensures { IfOk result (λ cs. cs ≡ spec.alone command) }
+{
+    let Some(command) = command else {
+        return Ok(None);
+    };
+    let mut commands = Seq::empty(alloc);
+    commands.push(command)?;
+    Ok(Some(commands))
+}
+
+/// The commands of a List, None where its `items` aren't a list of objects.
+fn list(alloc: Global, value: &Value) -> Result<Option<Seq<Command>>, AllocError>
+    ensures { IfOk result (λ cs. cs ≡ spec.listed (view value.now)) }
+{
+    match value.get("items") {
+        Some(Value::Array(items)) => apply_each(alloc, items.as_slice()),
+        _ => Ok(None),
+    }
+}
+
+fn apply_each(alloc: Global, items: &[Value]) -> Result<Option<Seq<Command>>, AllocError>
+    ensures { IfOk result (λ cs. cs ≡ spec.apply_each (items_view items.now)) }
+{
+    let mut commands = Seq::empty(alloc);
+    for value in items {
+        match apply_item(alloc, value)? {
+            Some(command) => commands.push(command)?,
+            None => return Ok(None),
+        }
+    }
+    Ok(Some(commands))
+}
+
+fn apply_item(alloc: Global, value: &Value) -> Result<Option<Command>, AllocError>
+    ensures { IfOk result (λ c. c ≡ spec.apply_in (view value.now) (documents.document_of (view value.now))) }
+{
+    match document_of(value) {
         Some(Document::Object(kind)) => Ok(Some(apply(alloc, kind, value)?)),
-        Some(Document::Schedule) => schedule(alloc, value),
-        Some(document) => Ok(not_built(document, value)),
+        _ => Ok(None),
     }
 }
 
@@ -99,27 +168,9 @@ fn schedule(alloc: Global, value: &Value) -> Result<Option<Command>, AllocError>
     }
 }
 
-/// NotBuilt where the fields of the document read, None where they don't.
-fn not_built(document: Document, value: &Value) -> Option<Command>
-    ensures { result ≡ spec.not_built (spec.reads document (view value.now)) }
+/// NotBuilt where the fields of a document read, None where they don't.
+fn not_built(reads: bool) -> Option<Command>
+    ensures { result ≡ spec.not_built reads }
 {
-    if reads(document, value) {
-        Some(Command::NotBuilt)
-    } else {
-        None
-    }
-}
-
-fn reads(document: Document, value: &Value) -> bool
-    ensures { result ≡ spec.reads document (view value.now) }
-{
-    match document {
-        Document::Object(_) | Document::Reopen => true,
-        Document::List => is_list(value),
-        Document::Delete => is_delete(value),
-        Document::Schedule | Document::Release | Document::Prepare | Document::Unprepare => {
-            has_key(value)
-        }
-        Document::Together => is_together(value),
-    }
+    if reads { Some(Command::NotBuilt) } else { None }
 }

@@ -58,33 +58,6 @@ fn has_target(value: &Value) -> bool
     }
 }
 
-/// Whether the `items` of a List read: a list, each an object to be applied.
-pub fn is_list(value: &Value) -> bool
-    ensures { result ≡ spec.is_list (view value.now) }
-{
-    match value.get("items") {
-        Some(Value::Array(items)) => are_objects(items.as_slice()),
-        _ => false,
-    }
-}
-
-fn are_objects(items: &[Value]) -> bool
-    ensures { result ≡ spec.each spec.is_object (items_view items.now) }
-{
-    for value in items {
-        if !is_object(value) {
-            return false;
-        }
-    }
-    true
-}
-
-fn is_object(value: &Value) -> bool
-    ensures { result ≡ spec.is_object (view value.now) }
-{
-    matches!(document_of(value), Some(Document::Object(_)))
-}
-
 /// Whether the `commands` of a Together read: 1 to 256, each one that may run beside others.
 pub fn is_together(value: &Value) -> bool
     ensures { result ≡ spec.is_together (view value.now) }

@@ -1,4 +1,4 @@
-//! Commands: what a document of a script asks for.
+//! Commands: what the documents of a script ask for.
 #![tactic(auto)]
 
 mod command;
@@ -8,4 +8,4 @@ mod objects;
 #[cfg(test)]
 mod tests;
 
-pub use command::{Command, read_command};
+pub use command::{Command, read_commands};

@@ -1,5 +1,6 @@
-use crate::{Command, read_command};
+use crate::{Command, read_commands};
 use alloc_rules::Object;
+use std::alloc::{AllocError, Global};
 use std::test::Fail;
 
 /// What each document asks for, and the document behind it.
@@ -70,14 +71,18 @@ no command|{"apiVersion":"dra.replay/v1","kind":"Delete","target":null,"name":"x
 no command|{"apiVersion":"dra.replay/v1","kind":"Delete","name":"x"}
 no command|{"apiVersion":"dra.replay/v1","kind":"Delete","target":"Pod","name":null}
 no command|{"apiVersion":"dra.replay/v1","kind":"Delete","target":"Pod"}
-not built|{"apiVersion":"v1","kind":"List","items":[]}
-not built|{"apiVersion":"v1","kind":"List","items":[{"apiVersion":"v1","kind":"Node","metadata":{"name":"n1"}},{"apiVersion":"resource.k8s.io/v1","kind":"ResourceClaim"}]}
+nothing|{"apiVersion":"v1","kind":"List","items":[]}
+apply Node n1, invalid Missing metadata|{"apiVersion":"v1","kind":"List","items":[{"apiVersion":"v1","kind":"Node","metadata":{"name":"n1"}},{"apiVersion":"resource.k8s.io/v1","kind":"ResourceClaim"}]}
+apply Node n1, apply Node n2, apply ResourceSlice n2-gpu, apply DeviceClass gpu, apply ResourceClaim default/c, apply Pod default/p|{"apiVersion":"v1","kind":"List","metadata":{"resourceVersion":""},"items":[{"apiVersion":"v1","kind":"Node","metadata":{"name":"n1"}},{"apiVersion":"v1","kind":"Node","metadata":{"name":"n2"}},{"apiVersion":"resource.k8s.io/v1","kind":"ResourceSlice","metadata":{"name":"n2-gpu"},"spec":{"driver":"gpu.example.com","nodeName":"n2","pool":{"name":"n2","generation":1,"resourceSliceCount":1},"devices":[{"name":"gpu-0"}]}},{"apiVersion":"resource.k8s.io/v1","kind":"DeviceClass","metadata":{"name":"gpu"},"spec":{}},{"apiVersion":"resource.k8s.io/v1","kind":"ResourceClaim","metadata":{"namespace":"default","name":"c"},"spec":{"devices":{"requests":[{"name":"gpu","exactly":{"deviceClassName":"gpu"}}]}}},{"apiVersion":"v1","kind":"Pod","metadata":{"namespace":"default","name":"p"},"spec":{"resourceClaims":[{"name":"g","resourceClaimName":"c"}]}}]}
+invalid Missing spec.selectors[1].cel, apply Node n1|{"apiVersion":"v1","kind":"List","items":[{"apiVersion":"resource.k8s.io/v1","kind":"DeviceClass","metadata":{"name":"gpu"},"spec":{"selectors":[{"cel":{"expression":"true"}},{}]}},{"apiVersion":"v1","kind":"Node","metadata":{"name":"n1"}}]}
 no command|{"apiVersion":"v1","kind":"List"}
 no command|{"apiVersion":"v1","kind":"List","items":null}
 no command|{"apiVersion":"v1","kind":"List","items":{}}
 no command|{"apiVersion":"v1","kind":"List","items":[{"apiVersion":"v1","kind":"Node","metadata":{"name":"n1"}},7]}
 no command|{"apiVersion":"v1","kind":"List","items":[{"apiVersion":"v1","kind":"Node","metadata":{"name":"n1"}},{"apiVersion":"dra.replay/v1","kind":"Schedule","name":"p"}]}
 no command|{"apiVersion":"v1","kind":"List","items":[{"apiVersion":"v1","kind":"List","items":[]}]}
+no command|{"apiVersion":"v1","kind":"List","items":[{"apiVersion":"v1","kind":"Node","metadata":{"name":"n1"}},{"apiVersion":"v1","kind":"List","items":[{"apiVersion":"v1","kind":"Node","metadata":{"name":"n1"}}]}]}
+no command|{"apiVersion":"v1","kind":"List","items":[{"apiVersion":"v1","kind":"Node","metadata":{"name":"n1"}},{"kind":"Node","metadata":{"name":"n2"}}]}
 no command|{"apiVersion":"v1","kind":"List","items":[[{"apiVersion":"v1","kind":"Node","metadata":{"name":"n1"}}]]}
 not built|{"apiVersion":"dra.replay/v1","kind":"Together","commands":[{"apiVersion":"v1","kind":"Node","metadata":{"name":"n1"}},{"apiVersion":"dra.replay/v1","kind":"Delete","target":"Node","name":"n2"},{"apiVersion":"dra.replay/v1","kind":"Schedule","name":"p"},{"apiVersion":"dra.replay/v1","kind":"Release","name":"p"}]}
 not built|{"apiVersion":"dra.replay/v1","kind":"Together","commands":[{"apiVersion":"v1","kind":"Pod"}]}
@@ -97,27 +102,48 @@ no command|{"apiVersion":"dra.replay/v1","kind":"Together","commands":[{"apiVers
 "#;
 
 /// The object's name, behind its kind and its namespace where it has one.
-fn object_text(rt: &HostRuntime, object: &Object) -> Result<String, Fail> {
-    let alloc = rt.alloc();
-    Ok(match object {
-        Object::Slice(slice) => format!(in alloc; "apply ResourceSlice {}", slice.name)?,
-        Object::Class(class) => format!(in alloc; "apply DeviceClass {}", class.name)?,
-        Object::Claim(claim) => format!(in alloc; "apply ResourceClaim {}", claim.key)?,
-        Object::Node(node) => format!(in alloc; "apply Node {}", node.name)?,
-        Object::Pod(pod) => format!(in alloc; "apply Pod {}", pod.key)?,
-    })
+fn object_text(alloc: Global, object: &Object) -> Result<String, AllocError> {
+    match object {
+        Object::Slice(slice) => format!(in alloc; "apply ResourceSlice {}", slice.name),
+        Object::Class(class) => format!(in alloc; "apply DeviceClass {}", class.name),
+        Object::Claim(claim) => format!(in alloc; "apply ResourceClaim {}", claim.key),
+        Object::Node(node) => format!(in alloc; "apply Node {}", node.name),
+        Object::Pod(pod) => format!(in alloc; "apply Pod {}", pod.key),
+    }
+}
+
+/// What the command asks for, in words.
+fn command_text(alloc: Global, command: &Command) -> Result<String, AllocError> {
+    match command {
+        Command::Invalid(error) => format!(in alloc; "invalid {error}"),
+        Command::NotBuilt => String::from_str(alloc, "not built"),
+        Command::Schedule(key) => format!(in alloc; "schedule {key}"),
+        Command::Apply(object) => object_text(alloc, object),
+    }
+}
+
+/// What the commands ask for, one after another.
+fn commands_text(alloc: Global, commands: &[Command]) -> Result<String, AllocError> {
+    let mut text = String::new(alloc);
+    for command in commands {
+        if !text.is_empty() {
+            text.push_str(", ")?;
+        }
+        let words = command_text(alloc, command)?;
+        text.push_str(&words)?;
+    }
+    if text.is_empty() {
+        text.push_str("nothing")?;
+    }
+    Ok(text)
 }
 
 /// What the document asks for, in words.
-fn asked(rt: &HostRuntime, document: &[u8]) -> Result<String, Fail> {
-    let alloc = rt.alloc();
-    Ok(match read_command(alloc, document)? {
-        None => format!(in alloc; "no command")?,
-        Some(Command::Invalid(error)) => format!(in alloc; "invalid {error}")?,
-        Some(Command::NotBuilt) => format!(in alloc; "not built")?,
-        Some(Command::Schedule(key)) => format!(in alloc; "schedule {key}")?,
-        Some(Command::Apply(object)) => object_text(rt, &object)?,
-    })
+fn asked(alloc: Global, document: &[u8]) -> Result<String, AllocError> {
+    match read_commands(alloc, document)? {
+        None => String::from_str(alloc, "no command"),
+        Some(commands) => commands_text(alloc, commands.as_slice()),
+    }
 }
 
 #[test]
@@ -126,16 +152,16 @@ fn documents_are_commands_by_the_table(rt: HostRuntime) -> Result<(), Fail> {
     for line in DOCUMENTS.lines() {
         if let Some((command, document)) = line.split_once('|') {
             assert_eq!(rt;
-                asked(&rt, document.as_bytes())?.as_str(),
+                asked(rt.alloc(), document.as_bytes())?.as_str(),
                 command,
                 "{document}"
             );
             count = count.saturating_add(1);
         }
     }
-    assert_eq!(rt; count, 90);
+    assert_eq!(rt; count, 94);
     let no_text = b"{\"apiVersion\":\"dra.replay/v1\",\"kind\":\"Reopen\",\"of\":\"\xff\"}";
-    assert_eq!(rt; asked(&rt, no_text)?.as_str(), "no command");
+    assert_eq!(rt; asked(rt.alloc(), no_text)?.as_str(), "no command");
     Ok(())
 }
 
@@ -159,7 +185,7 @@ fn together(rt: &HostRuntime, count: u64) -> Result<String, Fail> {
 fn a_together_has_at_most_256_members(rt: HostRuntime) -> Result<(), Fail> {
     for (count, command) in [(1, "not built"), (256, "not built"), (257, "no command")] {
         let text = together(&rt, count)?;
-        assert_eq!(rt; asked(&rt, text.as_bytes())?.as_str(), command);
+        assert_eq!(rt; asked(rt.alloc(), text.as_bytes())?.as_str(), command);
     }
     Ok(())
 }

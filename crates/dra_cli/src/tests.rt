@@ -82,6 +82,49 @@ const REFUSED_LINES: &str = "1 1 denied Invalid Doubled spec.devices[0].attribut
              5 5 applied Node n1\n\
              summary entries=5 commands=5 granted=0 bound=0\n";
 
+// The objects of a cluster in one List over several lines.
+const LIST_OVER_LINES: &str = r#"{"apiVersion":"v1","kind":"List","items":[
+{"apiVersion":"v1","kind":"Node","metadata":{"name":"n1"}},
+{"apiVersion":"v1","kind":"Node","metadata":{"name":"n2"}},
+{"apiVersion":"resource.k8s.io/v1","kind":"ResourceSlice","metadata":{"name":"n2-gpu"},"spec":{"driver":"gpu.example.com","nodeName":"n2","pool":{"name":"n2","generation":1,"resourceSliceCount":1},"devices":[{"name":"gpu-0"}]}},
+{"apiVersion":"resource.k8s.io/v1","kind":"DeviceClass","metadata":{"name":"gpu"},"spec":{}},
+{"apiVersion":"resource.k8s.io/v1","kind":"ResourceClaim","metadata":{"namespace":"default","name":"c"},"spec":{"devices":{"requests":[{"name":"gpu","exactly":{"deviceClassName":"gpu"}}]}}},
+{"apiVersion":"v1","kind":"Pod","metadata":{"namespace":"default","name":"p"},"spec":{"resourceClaims":[{"name":"g","resourceClaimName":"c"}]}}
+]}
+
+{"apiVersion":"dra.replay/v1","kind":"Schedule","namespace":"default","name":"p"}
+"#;
+
+const EMPTY_LIST: &str = r#"{"apiVersion":"v1","kind":"List","items":[]}
+"#;
+
+const FIRST_AND_SUMMARY: &str = "1 1 applied Node n1\n\
+             summary entries=1 commands=1 granted=0 bound=0\n";
+
+const LIST_IN_LIST: &str =
+    r#"{"apiVersion":"v1","kind":"List","items":[{"apiVersion":"v1","kind":"Node","metadata":{"name":"n2"}},{"apiVersion":"v1","kind":"List","items":[]}]}
+"#;
+
+const SCHEDULE_IN_LIST: &str =
+    r#"{"apiVersion":"v1","kind":"List","items":[{"apiVersion":"v1","kind":"Node","metadata":{"name":"n2"}},{"apiVersion":"dra.replay/v1","kind":"Schedule","name":"p"}]}
+"#;
+
+const FAULT_IN_LIST: &str =
+    r#"{"apiVersion":"v1","kind":"List","items":[{"apiVersion":"v1","kind":"Node","metadata":{"name":"n2"}},{"apiVersion":"resource.k8s.io/v1","kind":"ResourceClaim","metadata":{"name":"c"},"spec":{"devices":{"requests":[{"name":"gpu","exactly":{"deviceClassName":"gpu","count":-1}}]}}},{"apiVersion":"v1","kind":"Node","metadata":{"name":"n3"}}]}
+"#;
+
+const LINES_WITH_FAULT: &str = "1 1 applied Node n1\n\
+             2 2 applied Node n2\n\
+             3 3 denied Invalid OutOfRange spec.devices.requests[0].exactly.count\n\
+             4 4 applied Node n3\n\
+             summary entries=4 commands=4 granted=0 bound=0\n";
+
+const FIRST_IN_LIST: &str =
+    r#"{"apiVersion":"v1","kind":"List","items":[{"apiVersion":"v1","kind":"Node","metadata":{"name":"n2"}},{"apiVersion":"v1","kind":"Node","metadata":{"name":"n1"}},{"apiVersion":"v1","kind":"Node","metadata":{"name":"n3"}}]}
+"#;
+
+const TWO_LINES: &str = "1 1 applied Node n1\n2 2 applied Node n2\n";
+
 const NODE_WITH_MEMBER: &str = r#"{"apiVersion":"v1","kind":"Node","metadata":{"name":"n1","x":"#;
 
 const FIRST_LINE: &str = "1 1 applied Node n1\n";
@@ -207,6 +250,23 @@ fn a_replay_stops_at_a_form_that_is_not_done(rt: HostRuntime) -> Result<(), Fail
 }
 
 #[test]
+fn a_list_is_a_command_for_each_of_its_items(rt: HostRuntime) -> Result<(), Fail> {
+    let whole = known(LIST_OVER_LINES).as_bytes();
+    assert!(rt; ends(&rt, whole, 1, (0, 0), Status::Done, known(ALL_LINES))?);
+    for (list, status, written) in [
+        (EMPTY_LIST, Status::Done, FIRST_AND_SUMMARY),
+        (FAULT_IN_LIST, Status::Done, LINES_WITH_FAULT),
+        (LIST_IN_LIST, Status::Document(59), FIRST_LINE),
+        (SCHEDULE_IN_LIST, Status::Document(59), FIRST_LINE),
+        (FIRST_IN_LIST, Status::NotYet(59), TWO_LINES),
+    ] {
+        let script = joined(rt.alloc(), &[known(FIRST), known(list)])?;
+        assert!(rt; ends(&rt, &script, 4096, (0, 0), status, known(written))?, "{list}");
+    }
+    Ok(())
+}
+
+#[test]
 fn an_object_that_does_not_read_is_denied(rt: HostRuntime) -> Result<(), Fail> {
     let refused = known(REFUSED).as_bytes();
     assert!(rt;
@@ -326,8 +386,10 @@ fn ends_within(
 #[test]
 fn a_history_has_room_for_its_entries(rt: HostRuntime) -> Result<(), Fail> {
     let nodes = joined(rt.alloc(), &[known(FIRST), known(SECOND), known(THIRD)])?;
-    let two = known("1 1 applied Node n1\n2 2 applied Node n2\n");
+    let two = known(TWO_LINES);
     assert!(rt; ends_within(&rt, &nodes, 2, Status::Limit(2), two)?);
+    let list = joined(rt.alloc(), &[known(FIRST), known(FAULT_IN_LIST)])?;
+    assert!(rt; ends_within(&rt, &list, 2, Status::Limit(2), two)?);
     assert!(rt; ends_within(&rt, &nodes, 0, Status::Limit(0), "")?);
     let three = known(THREE_LINES);
     assert!(rt; ends_within(&rt, &nodes, 3, Status::Done, three)?);

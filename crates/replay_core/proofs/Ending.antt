@@ -13,40 +13,39 @@ use Rattle.ledger_core.specs.Ledger.{History}
 use Rattle.ledger_core.specs.History.{Legal}
 use Rattle.journal_text.specs.Journal.{lines_from, summary_of, text_of}
 use Rattle.commands.specs.declared.command.Command.{Command}
-use Rattle.commands.specs.Commands.{command_of}
+use Rattle.commands.specs.Commands.{commands_of_document}
 use Rattle.replay_core.specs.declared.status.Status.{Status}
 use Rattle.replay_core.specs.declared.status.Status.TheVariants as status
 use Rattle.replay_core.specs.declared.work.Work.{Work}
-use Rattle.replay_core.specs.Script.{Clean, Cut, Bad, Long, Script, add_command, ending_of, nothing, prepend, script_by, script_from, script_of}
+use Rattle.replay_core.specs.Script.{Clean, Cut, Bad, Long, Script, add_commands, at_each, ending_of, nothing, prepend, script_by, script_from, script_of}
 use Rattle.replay_core.specs.Jobs.{JobBegun}
-use Rattle.replay_core.specs.Lines.{DocumentDid, DocumentStops, MetNext, MetPrinted, MetShort, PrintedShort, RanShort, Summarized, new_lines, search_budget, schedule_attempts}
+use Rattle.replay_core.specs.Lines.{MetNext, MetPrinted, MetShort, PrintedShort, RanShort, Stops, Summarized, new_lines, search_budget, schedule_attempts}
 use Rattle.replay_core.specs.Replay.{Ends, EndsAt, EndsDone, EndsFull, EndsNotYet, EndsRead, EndsShort, IsLines, IsPart, IsPartLines, IsRun, IsText, Tells, TellsFirst}
 use Rattle.replay_core.specs.Progress.{Progress, Standing}
+use Rattle.replay_core.specs.Turns.{DocumentDid, DocumentStops, StoppedAmong, Unread}
 use Rattle.replay_core.proofs.Known.{appends_front, appends_kept, appends_more, consumes_more, front_all, rest_of}
-use Rattle.replay_core.proofs.Running.{LinesLaw, StandLaw, lines_more, run_more, standing_more}
-use Rattle.replay_core.proofs.Scripts.{document_is, document_is_none, next_script, prepend_nothing, tells_by}
+use Rattle.replay_core.proofs.Running.{LinesLaw, lines_more, run_more}
+use Rattle.replay_core.proofs.Scripts.{document_is, document_is_none, next_script, prepend_more, prepend_nothing, prepend_up_to, tells_by}
 
 -- the script as far as it was done, and then a document and something more
 abbrev pub TellsDocument : Option (List ℕ) → List (ℕ × Command) → ℕ → List ℕ → Type 0
-TellsDocument left done at document = (bytes : List ℕ) → left ≡ Some bytes → (rest : Script) × (script_of bytes ≡ prepend done (add_command at (command_of document) rest))
+TellsDocument left done at document = (bytes : List ℕ) → left ≡ Some bytes → (rest : Script) × (script_of bytes ≡ prepend done (add_commands at (commands_of_document document) rest))
 
 -- a document that was done
 pub record Moved (limit : ℕ) (before next : Option (List ℕ)) (done : List (ℕ × Command)) (at : ℕ) (document : List ℕ) (old new : Work) : Type 0 where
   pub now_done : List (ℕ × Command)
   pub standing : Standing limit before next now_done new
-  pub script : (rest : Script) → prepend done (add_command at (command_of document) rest) ≡ prepend now_done rest
-  pub few : new.commands ≤ old.commands + 1
+  pub script : (rest : Script) → prepend done (add_commands at (commands_of_document document) rest) ≡ prepend now_done rest
 
-pub document_moves : StandLaw → LinesLaw → (limit : ℕ) (before now next : Option (List ℕ)) (done : List (ℕ × Command)) (at : ℕ) (document : List ℕ) (old new : Work)
-    → Standing limit before now done old → DocumentDid document old new now next → Legal new.ledger.entries → Moved limit before next done at document old new
-document_moves stands lines limit before now next done at document old new s (c, is, did) legal = record {
-  now_done = done ++ (at, c) ∷ [];
-  standing = standing_more stands lines limit before now next done at c old new s did legal;
-  script = λ rest. document_is done at document c rest is;
-  few = omega (arith, did.counted);
+pub document_moves : (limit : ℕ) (before now next : Option (List ℕ)) (done : List (ℕ × Command)) (at : ℕ) (document : List ℕ) (old new : Work)
+    → Standing limit before now done old → DocumentDid at document old new now next → Moved limit before next done at document old new
+document_moves limit before now next done at document old new s (cs, is, did) = record {
+  now_done = done ++ at_each at cs;
+  standing = did.standing limit before done s;
+  script = λ rest. document_is done at document cs rest is;
 }
 
--- a document that wasn't done leaves the commands before it
+-- what isn't done leaves the commands before it
 short_lines : (limit : ℕ) (left before now next : Option (List ℕ)) (done : List (ℕ × Command)) (old : Work) → Standing limit before now done old → TellsFirst left done → Appends now next []
     → EndsShort limit left before next
 short_lines limit left before now next done old s tells kept = record {
@@ -101,42 +100,73 @@ full_command lines limit left before now next done at c old new n s tells legal 
       (appends_more before now next (lines_from 0 old.ledger.entries) (new_lines old.ledger new.ledger) s.printed met.printed);
 }
 
-tells_command : (left : Option (List ℕ)) (done : List (ℕ × Command)) (at : ℕ) (document : List ℕ) (c : Command) → TellsDocument left done at document → command_of document ≡ Some c → TellsFirst left (done ++ (at, c) ∷ [])
-tells_command left done at document c tells is bytes e = let t = tells bytes e in (t.0, t.1 ∙ document_is done at document c t.0 is)
+-- the front of what the script begins with
+tells_before : (left : Option (List ℕ)) (done more : List (ℕ × Command)) → TellsFirst left (done ++ more) → TellsFirst left done
+tells_before left done more tells bytes e = let t = tells bytes e in (prepend more t.0, t.1 ∙ sym (prepend_more done more t.0))
 
-tells_before : (left : Option (List ℕ)) (done : List (ℕ × Command)) (at : ℕ) (document : List ℕ) → TellsDocument left done at document → TellsFirst left done
-tells_before left done at document tells bytes e = let t = tells bytes e in (add_command at (command_of document) t.0, t.1)
+-- the script as far as a command of a document
+tells_up_to : (left : Option (List ℕ)) (done : List (ℕ × Command)) (at : ℕ) (document : List ℕ) (cs front : List Command) (c : Command) (back : List Command) → TellsDocument left done at document
+    → commands_of_document document ≡ Some cs → cs ≡ front ++ c ∷ back → TellsFirst left ((done ++ at_each at front) ++ (at, c) ∷ [])
+tells_up_to left done at document cs front c back tells is are bytes e =
+    let t = tells bytes e in
+    (prepend (at_each at back) t.0,
+      t.1 ∙ document_is done at document cs t.0 is
+      ∙ ap (λ (l : List Command). prepend (done ++ at_each at l) t.0) are
+      ∙ prepend_up_to done at front c back t.0)
 
--- a document that wasn't done
-pub document_stops : LinesLaw → (limit : ℕ) (left left_now before now next : Option (List ℕ)) (done : List (ℕ × Command)) (at : ℕ) (document : List ℕ) (old new : Work) (s : Status)
-    → Standing limit before now done old → TellsDocument left done at document → Legal new.ledger.entries → DocumentStops at document old new now next s → Ends limit left left_now before next s
-document_stops lines limit left left_now before now next done at document old new status.Done standing tells legal stops = absurd stops
-document_stops lines limit left left_now before now next done at document old new status.Usage standing tells legal stops = absurd stops
-document_stops lines limit left left_now before now next done at document old new (status.Document place) standing tells legal stops = record {
-  done = done;
-  script = λ bytes e. let t = tells bytes e in t.1 ∙ document_is_none done at document t.0 stops.refused ∙ ap (λ (k : ℕ). record { commands = done; ending = Bad k }) (sym stops.place_is);
-  history = old.ledger.entries;
-  run = standing.run;
-  written = appends_kept before now next (lines_from 0 old.ledger.entries) standing.printed stops.printed;
-}
-document_stops lines limit left left_now before now next done at document old new status.Memory standing tells legal (inl kept) =
-    short_lines limit left before now next done old standing (tells_before left done at document tells) kept
-document_stops lines limit left left_now before now next done at document old new status.Memory standing tells legal (inr (c, is, short)) =
-    short_command lines limit left before now next done at c old new standing (tells_command left done at document c tells is) legal short
-document_stops lines limit left left_now before now next done at document old new status.Read standing tells legal stops = absurd stops
-document_stops lines limit left left_now before now next done at document old new status.Write standing tells legal (c, is, short) =
-    short_command lines limit left before now next done at c old new standing (tells_command left done at document c tells is) legal short
-document_stops lines limit left left_now before now next done at document old new (status.Limit n) standing tells legal (c, is, met) =
-    inl (full_command lines limit left before now next done at c old new n standing (tells_command left done at document c tells is) legal met)
-document_stops lines limit left left_now before now next done at document old new (status.NotYet place) standing tells legal (c, is, same, undone) = record {
+-- a command that wasn't done
+command_stops : LinesLaw → (limit : ℕ) (left left_now before now next : Option (List ℕ)) (done : List (ℕ × Command)) (at : ℕ) (c : Command) (old new : Work) (s : Status)
+    → Standing limit before now done old → TellsFirst left (done ++ (at, c) ∷ []) → Legal new.ledger.entries → Stops at c old new now next s → Ends limit left left_now before next s
+command_stops lines limit left left_now before now next done at c old new status.Done standing tells legal stops = absurd stops
+command_stops lines limit left left_now before now next done at c old new status.Usage standing tells legal stops = absurd stops
+command_stops lines limit left left_now before now next done at c old new (status.Document place) standing tells legal stops = absurd stops
+command_stops lines limit left left_now before now next done at c old new status.Memory standing tells legal (inl kept) =
+    short_lines limit left before now next done old standing (tells_before left done ((at, c) ∷ []) tells) kept
+command_stops lines limit left left_now before now next done at c old new status.Memory standing tells legal (inr short) =
+    short_command lines limit left before now next done at c old new standing tells legal short
+command_stops lines limit left left_now before now next done at c old new status.Read standing tells legal stops = absurd stops
+command_stops lines limit left left_now before now next done at c old new status.Write standing tells legal short =
+    short_command lines limit left before now next done at c old new standing tells legal short
+command_stops lines limit left left_now before now next done at c old new (status.Limit n) standing tells legal met =
+    inl (full_command lines limit left before now next done at c old new n standing tells legal met)
+command_stops lines limit left left_now before now next done at c old new (status.NotYet place) standing tells legal (same, undone) = record {
   done = done;
   command = c;
-  script = subst (λ (k : ℕ). TellsFirst left (done ++ (k, c) ∷ [])) (sym same) (tells_command left done at document c tells is);
+  script = subst (λ (k : ℕ). TellsFirst left (done ++ (k, c) ∷ [])) (sym same) tells;
   history = old.ledger.entries;
   run = standing.run;
   unbuilt = undone.unbuilt;
   written = appends_kept before now next (lines_from 0 old.ledger.entries) standing.printed undone.printed;
 }
+
+-- a document whose commands aren't known
+unread_ends : (limit : ℕ) (left left_now before now next : Option (List ℕ)) (done : List (ℕ × Command)) (at : ℕ) (document : List ℕ) (old : Work) (s : Status)
+    → Standing limit before now done old → TellsDocument left done at document → Unread at document now next s → Ends limit left left_now before next s
+unread_ends limit left left_now before now next done at document old status.Done standing tells unread = absurd unread
+unread_ends limit left left_now before now next done at document old status.Usage standing tells unread = absurd unread
+unread_ends limit left left_now before now next done at document old (status.Document place) standing tells unread = record {
+  done = done;
+  script = λ bytes e. let t = tells bytes e in t.1 ∙ document_is_none done at document t.0 unread.refused ∙ ap (λ (k : ℕ). record { commands = done; ending = Bad k }) (sym unread.place_is);
+  history = old.ledger.entries;
+  run = standing.run;
+  written = appends_kept before now next (lines_from 0 old.ledger.entries) standing.printed unread.printed;
+}
+unread_ends limit left left_now before now next done at document old status.Memory standing tells kept =
+    short_lines limit left before now next done old standing (λ bytes e. let t = tells bytes e in (add_commands at (commands_of_document document) t.0, t.1)) kept
+unread_ends limit left left_now before now next done at document old status.Read standing tells unread = absurd unread
+unread_ends limit left left_now before now next done at document old status.Write standing tells unread = absurd unread
+unread_ends limit left left_now before now next done at document old (status.Limit n) standing tells unread = absurd unread
+unread_ends limit left left_now before now next done at document old (status.NotYet place) standing tells unread = absurd unread
+
+-- a document that wasn't done
+pub document_stops : LinesLaw → (limit : ℕ) (left left_now before now next : Option (List ℕ)) (done : List (ℕ × Command)) (at : ℕ) (document : List ℕ) (old new : Work) (s : Status)
+    → Standing limit before now done old → TellsDocument left done at document → Legal new.ledger.entries → DocumentStops at document old new now next s → Ends limit left left_now before next s
+document_stops lines limit left left_now before now next done at document old new s standing tells legal (inl unread) =
+    unread_ends limit left left_now before now next done at document old s standing tells unread
+document_stops lines limit left left_now before now next done at document old new s standing tells legal (inr (cs, is, stopped)) =
+    command_stops lines limit left left_now before stopped.between next (done ++ at_each at stopped.front) at stopped.command stopped.work new s
+    (stopped.done.standing limit before done standing)
+    (tells_up_to left done at document cs stopped.front stopped.command stopped.back tells is stopped.are) legal stopped.stops
 
 -- what the script is where a document is next
 pub tells_document : (limit : ℕ) (left before written : Option (List ℕ)) (a b : Split) (left_a left_b : Option (List ℕ)) (work : Work) (doc : Document) → (p : Progress limit left (remaining a left_a) before written a.at work)
@@ -159,7 +189,6 @@ over_document limit left before was written a b left_a left_b work work_now doc 
       ∙ ap (prepend p.done) (next_script a b left_a left_b doc n ended more)
       ∙ m.script (script_from ended b.at more);
   standing = m.standing;
-  few = omega (arith, p.few, m.few, n.moves);
 }
 
 -- want of memory between two commands

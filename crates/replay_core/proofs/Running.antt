@@ -1,24 +1,26 @@
 -- One command more.
-use Rattle.std.proofs.Common.{ℕ, ◌+◌, ◌≤◌, ◌<◌, ◌≡◌, ◌∙◌, List, [], ◌∷◌, ◌++◌, Bool, true, false, cond, eqb, map, length, refl, sym, ap, subst, arith, append_assoc, append-nil, length-append}
+use Rattle.std.proofs.Common.{ℕ, ◌+◌, ◌^◌, ◌≤◌, ◌<◌, ◌≡◌, ◌∙◌, List, [], ◌∷◌, ◌++◌, Bool, true, false, cond, eqb, map, length, refl, sym, ap, subst, arith, append_assoc, append-nil, length-append}
 use Rattle.std.proofs.lemmas.Bool.{ne_eqb}
 use Rattle.std.specs.Prelude.{Option, None, Some, drop}
 use Rattle.std.specs.Io.KnownBytes.{Appends}
 use Rattle.ledger_core.specs.declared.entry.Entry.{Entry}
 use Rattle.ledger_core.specs.declared.entry.Stand.{Stand}
-use Rattle.ledger_core.specs.declared.entry.Stand.TheVariants.{Fresh}
+use Rattle.ledger_core.specs.declared.entry.Stand.TheVariants.{Fresh, Ended}
 use Rattle.ledger_core.specs.Entry.{stand_after}
 use Rattle.ledger_core.specs.Ledger.{History}
 use Rattle.ledger_core.specs.History.{Legal, stand_of}
 use Rattle.journal_text.specs.Journal.{lines_from}
 use Rattle.commands.specs.declared.command.Command.{Command}
 use Rattle.replay_core.specs.declared.work.Work.{Work}
-use Rattle.replay_core.specs.Script.{commands_of}
+use Rattle.replay_core.specs.Script.{at_each, commands_of}
 use Rattle.replay_core.specs.Jobs.{AllMade, IsMade, JobRun, RunFrom, RunOf}
 use Rattle.replay_core.specs.Doing.{Ran}
 use Rattle.replay_core.specs.Lines.{Did, RanNext, new_lines, search_budget, schedule_attempts}
 use Rattle.replay_core.specs.Replay.{IsRun}
-use Rattle.replay_core.specs.Progress.{Standing}
+use Rattle.replay_core.specs.Progress.{IsReady, Standing}
+use Rattle.replay_core.specs.Turns.{StandsOn}
 use Rattle.replay_core.proofs.Known.{appends_more}
+use Rattle.replay_core.proofs.Scripts.{at_each_joined}
 
 -- the laws of histories and of lines, which the calls of lower crates state
 abbrev pub StandLaw : Type 0
@@ -91,23 +93,60 @@ run_more done at c old new run count legal ran =
           (RunOf-more search_budget schedule_attempts done old.ledger.entries at c ran.segment old.commands count run.run ran.run);
     }
 
--- one command more was done
-pub standing_more : StandLaw → LinesLaw → (limit : ℕ) (before now next : Option (List ℕ)) (done : List (ℕ × Command)) (at : ℕ) (c : Command) (old new : Work)
-    → Standing limit before now done old → Did c old new now next → Legal new.ledger.entries → Standing limit before next (done ++ (at, c) ∷ []) new
-standing_more stands lines limit before now next done at c old new s did legal =
+-- a job that had no entry and has ended has one
+has_entry : (before seg : List Entry) (job place : ℕ) → stand_of before job ≡ Fresh → stand_of (before ++ seg) job ≡ Ended place → 1 ≤ length seg
+has_entry before [] job place fresh ended =
+    let e : Fresh ≡ Ended place = sym fresh ∙ ap (λ (h : List Entry). stand_of h job) (sym (append-nil before)) ∙ ended in
+    absurd (cc)
+has_entry before (e ∷ es) job place fresh ended = omega arith
+
+-- after a command the next may be done
+pub ready_more : StandLaw → (c : Command) (old new : Work) (before after : Option (List ℕ)) → IsReady old → Did c old new before after → IsReady new
+ready_more stands c old new before after r did =
     let ran = did.ran in
     let grown : new.ledger.entries ≡ old.ledger.entries ++ ran.segment = ap (λ (h : History). h.entries) ran.is in
     let same : new.ledger.limit ≡ old.ledger.limit = ap (λ (h : History). h.limit) ran.is in
+    let some = has_entry old.ledger.entries ran.segment (old.commands + 1) ran.run.place (r.fresh (old.commands + 1) (omega arith)) ran.run.ended in
+    let longer : length new.ledger.entries ≡ length old.ledger.entries + length ran.segment = ap (λ (h : List Entry). length h) grown ∙ length-append old.ledger.entries ran.segment in
     record {
-      run = run_more done at c old new s.run s.count_is legal ran;
-      count_is = omega (arith, did.counted, s.count_is, length-append done ((at, c) ∷ []));
       fresh = λ job above.
           let past : old.commands < job = omega (arith, did.counted) in
           let apart : old.commands + 1 ≡ job → ⊥ = λ e. omega (arith, did.counted) in
           ap (λ (h : List Entry). stand_of h job) grown
           ∙ own_only stands (old.commands + 1) c (length old.ledger.entries) search_budget old.ledger.entries ran.segment job ran.run.made apart
-          ∙ s.fresh job past;
+          ∙ r.fresh job past;
+      few = omega (arith, did.counted, r.few, some, longer);
+      small = subst (λ (n : ℕ). n < 2 ^ 48) (sym same) r.small;
+    }
+
+-- one command more was done
+pub standing_more : StandLaw → LinesLaw → (limit : ℕ) (before now next : Option (List ℕ)) (done : List (ℕ × Command)) (at : ℕ) (c : Command) (old new : Work)
+    → Standing limit before now done old → Did c old new now next → Legal new.ledger.entries → Standing limit before next (done ++ (at, c) ∷ []) new
+standing_more stands lines limit before now next done at c old new s did legal =
+    let ran = did.ran in
+    let same : new.ledger.limit ≡ old.ledger.limit = ap (λ (h : History). h.limit) ran.is in
+    record {
+      run = run_more done at c old new s.run s.count_is legal ran;
+      count_is = omega (arith, did.counted, s.count_is, length-append done ((at, c) ∷ []));
+      ready = ready_more stands c old new now next s.ready did;
       printed = subst (λ (t : List ℕ). Appends before next t) (sym (lines_more lines old.ledger new.ledger ran.segment ran.is))
           (appends_more before now next (lines_from 0 old.ledger.entries) (new_lines old.ledger new.ledger) s.printed did.printed);
       limit_is = same ∙ s.limit_is;
     }
+
+-- nothing was done yet
+pub stands_first : (old : Work) (before : Option (List ℕ)) → StandsOn [] old old before before
+stands_first old before = record {
+  standing = λ limit start done s. subst (λ (l : List (ℕ × Command)). Standing limit start before l old) (sym (append-nil done)) s;
+}
+
+-- and then one command more
+pub stands_more : StandLaw → LinesLaw → (at : ℕ) (front : List Command) (c : Command) (old mid new : Work) (before now next : Option (List ℕ))
+    → StandsOn (at_each at front) old mid before now → Did c mid new now next → Legal new.ledger.entries → StandsOn (at_each at (front ++ c ∷ [])) old new before next
+stands_more stands lines at front c old mid new before now next on did legal = record {
+  standing = λ limit start done s.
+      let joined : (done ++ at_each at front) ++ (at, c) ∷ [] ≡ done ++ at_each at (front ++ c ∷ []) =
+          append_assoc done (at_each at front) ((at, c) ∷ []) ∙ ap (λ (l : List (ℕ × Command)). done ++ l) (sym (at_each_joined at front (c ∷ []))) in
+      subst (λ (l : List (ℕ × Command)). Standing limit start next l new) joined
+      (standing_more stands lines limit start now next (done ++ at_each at front) at c mid new (on.standing limit start done s) did legal);
+}

@@ -18,12 +18,13 @@ use Rattle.replay_core.specs.declared.status.Status.{Status}
 use Rattle.replay_core.specs.declared.work.Work.{Work}
 use Rattle.replay_core.specs.Script.{most_input, script_of}
 use Rattle.replay_core.specs.Jobs.{RunFrom, RunOf}
-use Rattle.replay_core.specs.Lines.{DocumentDid, DocumentStops, Summarized, input_status, search_budget, schedule_attempts}
+use Rattle.replay_core.specs.Lines.{Summarized, input_status, search_budget, schedule_attempts}
 use Rattle.replay_core.specs.Replay.{Ends, EndsShort, IsRun}
 use Rattle.replay_core.specs.Progress.{Progress, Standing}
+use Rattle.replay_core.specs.Turns.{DocumentDid, DocumentStops}
 use Rattle.replay_core.proofs.Known.{appends_none}
 use Rattle.replay_core.proofs.Ending.{document_moves, document_stops, ends_at, memory_short, over_document, read_short, summary_ends, tells_document, tells_none}
-use Rattle.replay_core.proofs.Running.{LinesLaw, StandLaw}
+use Rattle.replay_core.proofs.Running.{LinesLaw}
 
 -- where the bytes that are pending and those that are left are none, none are left
 pub left_at_end : (pending : List ℕ) (left : Option (List ℕ)) → IsAtEnd (prepend_known pending left) → IsAtEnd left
@@ -32,13 +33,13 @@ left_at_end [] (Some xs) end = end
 left_at_end (b ∷ bs) (Some xs) end = absurd (cc)
 
 -- a document was next, and was done
-pub step_on : StandLaw → LinesLaw → (limit : ℕ) (left before was written : Option (List ℕ)) (a b : Split) (left_a left_b : Option (List ℕ)) (work work_now : Work) (o : Option Doc) (d : Doc) → o ≡ Some d
-    → Answers the_limits a b left_a left_b (Ok o) → DocumentDid d.bytes.items work work_now was written → Legal work_now.ledger.entries → Progress limit left (remaining a left_a) before was a.at work
+pub step_on : (limit : ℕ) (left before was written : Option (List ℕ)) (a b : Split) (left_a left_b : Option (List ℕ)) (work work_now : Work) (o : Option Doc) (d : Doc) → o ≡ Some d
+    → Answers the_limits a b left_a left_b (Ok o) → DocumentDid d.at d.bytes.items work work_now was written → Progress limit left (remaining a left_a) before was a.at work
     → Progress limit left (remaining b left_b) before written b.at work_now
-step_on stands lines limit left before was written a b left_a left_b work work_now o d e answers did legal p =
+step_on limit left before was written a b left_a left_b work work_now o d e answers did p =
     let n : IsNext the_limits a b left_a left_b (document_of d) = subst (λ (x : Option Doc). Answers the_limits a b left_a left_b (Ok x)) e answers in
     over_document limit left before was written a b left_a left_b work work_now (document_of d) p n
-    (document_moves stands lines limit before was written p.done d.at d.bytes.items work work_now p.standing did legal)
+    (document_moves limit before was written p.done d.at d.bytes.items work work_now p.standing did)
 
 -- it wasn't
 pub step_ends : LinesLaw → (limit : ℕ) (left before was written : Option (List ℕ)) (a b : Split) (left_a left_b : Option (List ℕ)) (work work_now : Work) (o : Option Doc) (d : Doc) (s : Status) → o ≡ Some d
@@ -82,9 +83,9 @@ begins_with None = tt
 begins_with (Some xs) = refl
 
 -- nothing was taken, and nothing done
-pub progress_begins : (limit : ℕ) (left before : Option (List ℕ)) (work : Work) → ((job : ℕ) → stand_of [] job ≡ Fresh) → work.commands ≡ 0
+pub progress_begins : (limit : ℕ) (left before : Option (List ℕ)) (work : Work) → limit < 2 ^ 48 → ((job : ℕ) → stand_of [] job ≡ Fresh) → work.commands ≡ 0
     → work.ledger ≡ record { entries = []; limit = limit } → Progress limit left (prepend_known [] left) before before 0 work
-progress_begins limit left before work law none ledger =
+progress_begins limit left before work small law none ledger =
     let entries : work.ledger.entries ≡ [] = ap (λ (h : History). h.entries) ledger in
     record {
       taken = [];
@@ -94,19 +95,15 @@ progress_begins limit left before work law none ledger =
       standing = record {
         run = subst (λ (h : List Entry). IsRun [] h) (sym entries) empty_run;
         count_is = none;
-        fresh = λ job above. ap (λ (h : List Entry). stand_of h job) entries ∙ law job;
+        ready = record {
+          fresh = λ job above. ap (λ (h : List Entry). stand_of h job) entries ∙ law job;
+          few = omega (arith, none);
+          small = subst (λ (n : ℕ). n < 2 ^ 48) (sym (ap (λ (h : History). h.limit) ledger)) small;
+        };
         printed = subst (λ (t : List ℕ). Appends before before t) (sym (ap (lines_from 0) entries ∙ no_lines)) (appends_none before);
         limit_is = ap (λ (h : History). h.limit) ledger;
       };
-      few = omega arith;
     }
-
--- what the next turn requires
-pub next_fresh : (limit : ℕ) (left now before written : Option (List ℕ)) (at : ℕ) (work : Work) → Progress limit left now before written at work → stand_of work.ledger.entries (work.commands + 1) ≡ Fresh
-next_fresh limit left now before written at work p = p.standing.fresh (work.commands + 1) (omega arith)
-
-pub next_room : (limit : ℕ) (left now before written : Option (List ℕ)) (at : ℕ) (work : Work) → Progress limit left now before written at work → at ≤ most_input → work.commands + 1 < 2 ^ 64
-next_room limit left now before written at work p h = omega (arith, p.few)
 
 -- nothing was done, and nothing written
 pub nothing_done : (limit : ℕ) (left before : Option (List ℕ)) → EndsShort limit left before before

@@ -7,3 +7,4 @@ pub mod Stops
 pub mod Lines
 pub mod Replay
 pub mod Progress
+pub mod Turns

@@ -1,4 +1,4 @@
--- What doing one document does.
+-- What doing one command does.
 use Rattle.std.specs.Prelude.{ℕ, ◌≡◌, ◌≤◌, ◌<◌, ◌+◌, ◌⊎◌, List, [], ◌∷◌, Option, None, Some, false, drop, length}
 use Rattle.std.specs.Io.KnownBytes.{Appends}
 use Rattle.dra_ports.specs.Fronts.{AppendsFront}
@@ -11,7 +11,6 @@ use Rattle.ledger_core.specs.Ledger.{History}
 use Rattle.ledger_core.specs.History.{state_of}
 use Rattle.journal_text.specs.Journal.{lines_from, summary_of}
 use Rattle.commands.specs.declared.command.Command.{Command}
-use Rattle.commands.specs.Commands.{command_of}
 use Rattle.replay_core.specs.declared.status.Status.{Status}
 use Rattle.replay_core.specs.declared.status.Status.TheVariants as status
 use Rattle.replay_core.specs.declared.work.Work.{Work}
@@ -91,29 +90,6 @@ Stops at c old new before after status.Read = ⊥
 Stops at c old new before after status.Write = PrintedShort c old new before after
 Stops at c old new before after (status.Limit n) = MetPrinted c old new before after n
 Stops at c old new before after (status.NotYet place) = (place ≡ at) × Undone c old before after
-
--- a document's command was done
-abbrev pub DocumentDid : List ℕ → Work → Work → Option (List ℕ) → Option (List ℕ) → Type 0
-DocumentDid document old new before after = (c : Command) × (command_of document ≡ Some c) × Did c old new before after
-
--- the document isn't a command
-pub record IsRefused (at place : ℕ) (document : List ℕ) (before after : Option (List ℕ)) : Type 0 where
-  pub place_is : place ≡ at
-  pub refused : command_of document ≡ None
-  pub printed : Appends before after []
-
--- why a document wasn't done
-abbrev pub DocumentStops : ℕ → List ℕ → Work → Work → Option (List ℕ) → Option (List ℕ) → Status → Type 0
-DocumentStops at document old new before after status.Done = ⊥
-DocumentStops at document old new before after status.Usage = ⊥
-DocumentStops at document old new before after (status.Document place) = IsRefused at place document before after
-DocumentStops at document old new before after status.Memory =
-    Appends before after [] ⊎ ((c : Command) × (command_of document ≡ Some c) × PrintedShort c old new before after)
-DocumentStops at document old new before after status.Read = ⊥
-DocumentStops at document old new before after status.Write = (c : Command) × (command_of document ≡ Some c) × PrintedShort c old new before after
-DocumentStops at document old new before after (status.Limit n) = (c : Command) × (command_of document ≡ Some c) × MetPrinted c old new before after n
-DocumentStops at document old new before after (status.NotYet place) =
-    (c : Command) × (command_of document ≡ Some c) × (place ≡ at) × Undone c old before after
 
 -- how printing the summary ends
 abbrev pub Summarized : Work → Option (List ℕ) → Option (List ℕ) → Status → Type 0

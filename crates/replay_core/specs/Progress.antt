@@ -1,5 +1,5 @@
 -- How far a replay has come.
-use Rattle.std.specs.Prelude.{ℕ, ◌≡◌, ◌≤◌, ◌<◌, Bool, List, ◌++◌, Option, length}
+use Rattle.std.specs.Prelude.{ℕ, ◌≡◌, ◌≤◌, ◌<◌, ◌^◌, Bool, List, ◌++◌, Option, length}
 use Rattle.std.specs.Io.KnownBytes.{Appends, Consumes}
 use Rattle.ledger_core.specs.declared.entry.Stand.TheVariants.{Fresh}
 use Rattle.ledger_core.specs.History.{stand_of}
@@ -9,11 +9,17 @@ use Rattle.replay_core.specs.declared.work.Work.{Work}
 use Rattle.replay_core.specs.Script.{prepend, script_from}
 use Rattle.replay_core.specs.Replay.{IsRun}
 
+-- no job after those of the commands done has an entry yet, and each of those has one
+pub record IsReady (work : Work) : Type 0 where
+  pub fresh : (job : ℕ) → work.commands < job → stand_of work.ledger.entries job ≡ Fresh
+  pub few : work.commands ≤ length work.ledger.entries
+  pub small : work.ledger.limit < 2 ^ 48
+
 -- these commands were done, and their lines are printed
 pub record Standing (limit : ℕ) (before now : Option (List ℕ)) (done : List (ℕ × Command)) (work : Work) : Type 0 where
   pub run : IsRun done work.ledger.entries
   pub count_is : work.commands ≡ length done
-  pub fresh : (job : ℕ) → work.commands < job → stand_of work.ledger.entries job ≡ Fresh
+  pub ready : IsReady work
   pub printed : Appends before now (lines_from 0 work.ledger.entries)
   pub limit_is : work.ledger.limit ≡ limit
 
@@ -25,4 +31,3 @@ pub record Progress (limit : ℕ) (left left_now before now : Option (List ℕ))
   pub done : List (ℕ × Command)
   pub script : (ended : Bool) (more : List ℕ) → script_from ended 0 (taken ++ more) ≡ prepend done (script_from ended at more)
   pub standing : Standing limit before now done work
-  pub few : work.commands ≤ at

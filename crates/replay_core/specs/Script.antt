@@ -4,7 +4,7 @@ use Rattle.doc_split.specs.Documents.{Document, Documents}
 use Rattle.doc_split.specs.Documents as documents
 use Rattle.doc_split.specs.Limits.{documents_at, the_limits}
 use Rattle.commands.specs.declared.command.Command.{Command}
-use Rattle.commands.specs.Commands.{command_of}
+use Rattle.commands.specs.Commands.{commands_of_document}
 
 -- why there are no more commands
 pub data Ending : Type 0 where
@@ -32,10 +32,14 @@ nothing ending = record { commands = []; ending = ending }
 abbrev pub prepend : List (ℕ × Command) → Script → Script
 prepend done script = record script { commands = done ++ script.commands }
 
+-- commands of one document, each with its offset
+abbrev pub at_each : ℕ → List Command → List (ℕ × Command)
+at_each at cs = map (λ c. (at, c)) cs
+
 -- what a document is, before the others
-abbrev pub add_command : ℕ → Option Command → Script → Script
-add_command at None rest = nothing (Bad at)
-add_command at (Some c) rest = prepend ((at, c) ∷ []) rest
+abbrev pub add_commands : ℕ → Option (List Command) → Script → Script
+add_commands at None rest = nothing (Bad at)
+add_commands at (Some cs) rest = prepend (at_each at cs) rest
 
 -- why there are no more commands, by why there are no more documents: at the end of an input, or of
 -- what was taken of it
@@ -48,10 +52,10 @@ ending_of ended (documents.Stray at) = Bad at
 ending_of ended (documents.TooLong at) = Bad at
 ending_of ended documents.Long = Long
 
--- the commands of documents in order, up to the first document that is none
+-- the commands of documents in order, up to the first document that isn't commands
 abbrev pub commands_in : List Document → Ending → Script
 commands_in [] ending = nothing ending
-commands_in (d ∷ ds) ending = add_command d.at (command_of d.bytes) (commands_in ds ending)
+commands_in (d ∷ ds) ending = add_commands d.at (commands_of_document d.bytes) (commands_in ds ending)
 
 abbrev pub script_by : Bool → Documents → Script
 script_by ended d = commands_in d.documents (ending_of ended d.ending)

@@ -1,11 +1,9 @@
-ghost use Rattle.std.specs.Prelude.{◌≡◌, ◌<◌, ◌≤◌, ◌+◌, ◌^◌, ℕ, List, Option, IfErr, OnOk};
+ghost use Rattle.std.specs.Prelude.{◌≡◌, ◌<◌, ◌≤◌, ◌^◌, ℕ, List, Option, IfErr, OnOk};
 ghost use Rattle.std.specs.Io.KnownBytes.{IsAtEnd};
 ghost use Rattle.dra_ports.specs.Causes.{Rose};
 ghost use Rattle.doc_split.specs.Split.{remaining};
-ghost use Rattle.ledger_core.specs.declared.entry.Stand.TheVariants.{Fresh};
-ghost use Rattle.ledger_core.specs.History.{stand_of};
 ghost use Rattle.replay_core.specs.Lines.{input_status};
-ghost use Rattle.replay_core.specs.Progress.{Progress};
+ghost use Rattle.replay_core.specs.Progress.{IsReady, Progress};
 ghost use Rattle.replay_core.specs.Replay.{Ends};
 ghost use Rattle.replay_core.specs.Script.{most_input};
 
@@ -28,8 +26,7 @@ fn step<S: Source, K: Sink>(
     input: &mut S,
     output: &mut K,
 ) -> Result<(), Status>
-    requires fresh { stand_of work.old.ledger.entries (work.old.commands + 1) ≡ Fresh }
-    requires room { work.old.commands + 1 < 2 ^ 64 }
+    requires { IsReady work.old }
     ensures ok { OnOk result ((limit : ℕ) (left before : Option (List ℕ)) → Progress limit left (remaining splitter.old (S.left input.old)) before (K.written output.old) splitter.old.at work.old → Progress limit left (remaining splitter.new (S.left input.new)) before (K.written output.new) splitter.new.at work.new) }
     ensures moves { OnOk result (splitter.old.at < splitter.new.at) }
     ensures within { OnOk result (splitter.new.at ≤ most_input) }
@@ -42,7 +39,6 @@ fn step<S: Source, K: Sink>(
     ensures err_faultless_input { IfErr result (λ s. (s ≡ Status.Read → ⊥) → S.faults input.new ≡ S.faults input.old) }
     ensures err_faultless_output { IfErr result (λ s. (s ≡ Status.Write → ⊥) → K.faults output.new ≡ K.faults output.old) }
 {
-    histories_grow();
     lines_of_more();
     match splitter.next_document(alloc, input) {
         Ok(Some(doc)) => match do_document(alloc, work, doc.at, &doc.bytes, output) {

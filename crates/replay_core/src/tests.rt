@@ -1,5 +1,5 @@
 use alloc_rules::{Decision, DeviceResult, Passed, Plan, State, decide};
-use commands::{Command, read_command};
+use commands::{Command, read_commands};
 use dra_values::Text;
 use object_fields::Key;
 use std::alloc::{AllocError, Global};
@@ -35,11 +35,21 @@ fn known(text: &'static str) -> &'static str {
     text
 }
 
+/// Puts the objects that the commands apply into the state.
+fn put_each(alloc: Global, state: &mut State, commands: &[Command]) -> Result<(), AllocError> {
+    for command in commands {
+        if let Command::Apply(object) = command {
+            state.put(alloc, 1, object)?;
+        }
+    }
+    Ok(())
+}
+
 /// Puts the objects of the documents, one a line, into the state.
 fn put_all(alloc: Global, state: &mut State, documents: &str) -> Result<(), AllocError> {
     for line in documents.lines() {
-        if let Some(Command::Apply(object)) = read_command(alloc, line.as_bytes())? {
-            state.put(alloc, 1, &object)?;
+        if let Some(commands) = read_commands(alloc, line.as_bytes())? {
+            put_each(alloc, state, commands.as_slice())?;
         }
     }
     Ok(())

@@ -1,18 +1,21 @@
-ghost use Rattle.std.specs.Prelude.{◌≡◌, ◌<◌, ◌≤◌, ◌+◌, ◌^◌, [], Some, IfOk, IfErr, OnOk, OnErr, drop};
+ghost use Rattle.std.specs.Prelude.{◌≡◌, ◌≤◌, IfErr, OnOk, OnErr, drop};
 ghost use Rattle.std.specs.Io.KnownBytes.{Appends};
 ghost use Rattle.dra_ports.specs.Causes.{HasCause, Rose};
 ghost use Rattle.dra_ports.specs.Fronts.{AppendsFront};
-ghost use Rattle.ledger_core.specs.declared.entry.Stand.TheVariants.{Fresh};
-ghost use Rattle.ledger_core.specs.History.{stand_of, Legal};
+ghost use Rattle.ledger_core.specs.History.{Legal};
 ghost use Rattle.journal_text.specs.Journal.{lines_from};
-ghost use Rattle.replay_core.specs.Lines.{output_status, Did, DocumentDid, DocumentStops, Stops, Summarized};
+ghost use Rattle.replay_core.specs.Lines.{output_status, Did, Stops, Summarized};
+ghost use Rattle.replay_core.specs.Progress.{IsReady};
+ghost use Rattle.replay_core.specs.Script.{at_each};
+ghost use Rattle.replay_core.specs.Turns.{DocumentDid, DocumentStops, StandsOn, StoppedAmong};
 
 use crate::jobs::do_command;
 use crate::{Status, Stop};
-use commands::{Command, read_command};
+use commands::{Command, read_commands};
 use dra_ports::{PortError, Sink, write_all};
-use journal_text::{lines, summary};
-use ledger_core::Ledger;
+use dra_values::Seq;
+use journal_text::{lines, lines_of_more, summary};
+use ledger_core::{Ledger, histories_grow};
 use std::alloc::Global;
 
 /// The ledger, and how many commands were done.
@@ -55,8 +58,7 @@ pub fn do_next<K: Sink>(
     command: Command,
     output: &mut K,
 ) -> Result<(), Status>
-    requires fresh { stand_of work.old.ledger.entries (work.old.commands + 1) ≡ Fresh }
-    requires room { work.old.commands + 1 < 2 ^ 64 }
+    requires { IsReady work.old }
     ensures did { OnOk result (Did command work.old work.new (K.written output.old) (K.written output.new)) }
     ensures stops { IfErr result (Stops at command work.old work.new (K.written output.old) (K.written output.new)) }
     ensures write { IfErr result (λ s. s ≡ Status.Write → Rose (K.faults output.old) (K.faults output.new)) }
@@ -65,8 +67,8 @@ pub fn do_next<K: Sink>(
     ensures err_faultless { IfErr result (λ s. (s ≡ Status.Write → ⊥) → K.faults output.new ≡ K.faults output.old) }
     ensures legal { Legal work.new.ledger.entries }
 {
-    let job = work.commands + 1;
     let from = work.ledger.len();
+    let job = work.commands + 1;
     let done = do_command(alloc, &mut work.ledger, job, command);
     let _entries = work.ledger.len();
     match done {
@@ -86,7 +88,33 @@ pub fn do_next<K: Sink>(
     }
 }
 
-/// Does a document's command as the next job, and prints its lines.
+/// Does commands one after another, each as the next job, and prints the lines of each.
+fn do_all<K: Sink>(
+    alloc: Global,
+    work: &mut Work,
+    at: u64,
+    commands: Seq<Command>,
+    output: &mut K,
+) -> Result<(), Status>
+    requires { IsReady work.old }
+    ensures did { OnOk result (StandsOn (at_each at commands) work.old work.new (K.written output.old) (K.written output.new)) }
+    ensures stops { IfErr result (StoppedAmong at commands work.old work.new (K.written output.old) (K.written output.new)) }
+    ensures write { IfErr result (λ s. s ≡ Status.Write → Rose (K.faults output.old) (K.faults output.new)) }
+    ensures later { K.faults output.old ≤ K.faults output.new }
+    ensures ok_faultless { OnOk result (K.faults output.new ≡ K.faults output.old) }
+    ensures err_faultless { IfErr result (λ s. (s ≡ Status.Write → ⊥) → K.faults output.new ≡ K.faults output.old) }
+    ensures legal { Legal work.new.ledger.entries }
+{
+    histories_grow();
+    lines_of_more();
+    let _entries = work.ledger.len();
+    for command in commands.into_vec() {
+        do_next(alloc, work, at, command, output)?;
+    }
+    Ok(())
+}
+
+/// Does a document's commands, each as the next job, and prints the lines of each.
 pub fn do_document<K: Sink>(
     alloc: Global,
     work: &mut Work,
@@ -94,9 +122,8 @@ pub fn do_document<K: Sink>(
     document: &[u8],
     output: &mut K,
 ) -> Result<(), Status>
-    requires fresh { stand_of work.old.ledger.entries (work.old.commands + 1) ≡ Fresh }
-    requires room { work.old.commands + 1 < 2 ^ 64 }
-    ensures did { OnOk result (DocumentDid document.now work.old work.new (K.written output.old) (K.written output.new)) }
+    requires { IsReady work.old }
+    ensures did { OnOk result (DocumentDid at document.now work.old work.new (K.written output.old) (K.written output.new)) }
     ensures stops { IfErr result (DocumentStops at document.now work.old work.new (K.written output.old) (K.written output.new)) }
     ensures write { IfErr result (λ s. s ≡ Status.Write → Rose (K.faults output.old) (K.faults output.new)) }
     ensures later { K.faults output.old ≤ K.faults output.new }
@@ -105,8 +132,8 @@ pub fn do_document<K: Sink>(
     ensures legal { Legal work.new.ledger.entries }
 {
     let _entries = work.ledger.len();
-    match read_command(alloc, document) {
-        Ok(Some(command)) => do_next(alloc, work, at, command, output),
+    match read_commands(alloc, document) {
+        Ok(Some(commands)) => do_all(alloc, work, at, commands, output),
         Ok(None) => Err(Status::Document(at)),
         Err(_) => Err(Status::Memory),
     }

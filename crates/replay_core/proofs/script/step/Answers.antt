@@ -6,9 +6,9 @@ use Rattle.replay_core.proofs.script.step.Goals as goal
 
 pub returns-in-Ok-clause-ok : goal.returns-in-Ok-clause-ok
 returns-in-Ok-clause-ok g c = λ limit left before p.
-    step_on c.histories_grow.ensures.stand c.lines_of_more.ensures limit left before (g.K.Sink.written c.args.output.now) (g.K.Sink.written c.do_document.new.output)
+    step_on limit left before (g.K.Sink.written c.args.output.now) (g.K.Sink.written c.do_document.new.output)
     c.args.splitter.now c.next_document.new.self (g.S.Source.left c.args.input.now) (g.S.Source.left c.next_document.new.from) c.args.work.now c.do_document.new.work
-    c.in-Ok-Some.field-0 c.in-Ok-Some.doc c.in-Ok-Some.field-0-is c.in-Ok-Some.ensures.answers (rw c.deref.ensures.value at c.in-Ok.ensures.did) c.in-Ok.ensures.legal p
+    c.in-Ok-Some.field-0 c.in-Ok-Some.doc c.in-Ok-Some.field-0-is c.in-Ok-Some.ensures.answers (rw c.deref.ensures.value at c.in-Ok.ensures.did) p
 
 pub returns-in-Ok-Some-clause-ends : goal.returns-in-Ok-Some-clause-ends
 returns-in-Ok-Some-clause-ends g c = λ limit left before p.

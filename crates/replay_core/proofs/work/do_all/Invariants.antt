@@ -1,0 +1,18 @@
+use Rattle.std.proofs.Common.{◌≡◌, ◌++◌, List}
+use Rattle.ledger_core.specs.History.{Legal}
+use Rattle.commands.specs.declared.command.Command.{Command}
+use Rattle.replay_core.specs.Progress.{IsReady}
+use Rattle.replay_core.specs.Script.{at_each}
+use Rattle.replay_core.specs.Turns.{StandsOn}
+use Rattle.replay_core.proofs.work.do_all.Given as goal
+
+-- those that were done, and those that are left
+abbrev pub invariant-loop-command : goal.invariant-loop-command
+invariant-loop-command g l = record {
+  front : List Command;
+  are : l.commands ≡ front ++ l.command-iterator;
+  done : StandsOn (at_each l.at front) l.fn.work l.work (g.K.Sink.written l.fn.output) (g.K.Sink.written l.output);
+  ready : IsReady l.work;
+  legal : Legal l.work.ledger.entries;
+  faultless : g.K.Sink.faults l.output ≡ g.K.Sink.faults l.fn.output;
+}
