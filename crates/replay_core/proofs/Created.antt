@@ -1,5 +1,5 @@
 -- What applying an object of a form that is done makes.
-use Rattle.std.proofs.Common.{ℕ, List, ◌≡◌, Bool, true, false, cond, ◌&&◌, Option, None, Some, is_none, refl, inl, inr}
+use Rattle.std.proofs.Common.{ℕ, List, ◌≡◌, Bool, true, false, cond, Option, None, Some, is_none, refl, inl, inr}
 use Rattle.std.proofs.lemmas.Bool.{and_parts}
 use Rattle.alloc_rules.specs.declared.object.Object.{Object}
 use Rattle.alloc_rules.specs.declared.object.Object.TheVariants as object

@@ -1,14 +1,13 @@
 -- How a replay goes on, and how it ends.
-use Rattle.std.proofs.Common.{ℕ, ◌+◌, ◌≤◌, ◌<◌, ◌≡◌, ◌∙◌, List, [], ◌∷◌, ◌++◌, Bool, true, false, eqb, length, refl, sym, ap, subst, arith, append_assoc, append-nil, length-append, inl, inr, ⊎_elim}
-use Rattle.std.specs.Prelude.{Option, None, Some}
-use Rattle.std.specs.Io.KnownBytes.{Appends, Consumes}
+use Rattle.std.proofs.Common.{ℕ, ◌+◌, ◌≡◌, ◌∙◌, List, [], ◌∷◌, ◌++◌, true, false, length, refl, sym, ap, subst, arith, append_assoc, inl, inr}
+use Rattle.std.specs.Prelude.{Option, Some}
+use Rattle.std.specs.Io.KnownBytes.{Appends}
 use Rattle.dra_ports.specs.Fronts.{AppendsFront}
 use Rattle.doc_split.specs.Answers.{HasNone, IsCut, IsNext, NoneWhole}
 use Rattle.doc_split.specs.Documents.{Document, Documents}
 use Rattle.doc_split.specs.Documents as documents
 use Rattle.doc_split.specs.Limits.{the_limits}
 use Rattle.doc_split.specs.Split.{Split, remaining}
-use Rattle.ledger_core.specs.declared.entry.Entry.{Entry}
 use Rattle.ledger_core.specs.Ledger.{History}
 use Rattle.ledger_core.specs.History.{Legal}
 use Rattle.journal_text.specs.Journal.{lines_from, summary_of, text_of}
@@ -17,12 +16,12 @@ use Rattle.commands.specs.Commands.{commands_of_document}
 use Rattle.replay_core.specs.declared.status.Status.{Status}
 use Rattle.replay_core.specs.declared.status.Status.TheVariants as status
 use Rattle.replay_core.specs.declared.work.Work.{Work}
-use Rattle.replay_core.specs.Script.{Clean, Cut, Bad, Long, Script, add_commands, at_each, ending_of, nothing, prepend, script_by, script_from, script_of}
+use Rattle.replay_core.specs.Script.{Clean, Cut, Bad, Script, add_commands, at_each, ending_of, nothing, prepend, script_by, script_from, script_of}
 use Rattle.replay_core.specs.Jobs.{JobBegun}
-use Rattle.replay_core.specs.Lines.{MetNext, MetPrinted, MetShort, PrintedShort, RanShort, Stops, Summarized, new_lines, search_budget, schedule_attempts}
-use Rattle.replay_core.specs.Replay.{Ends, EndsAt, EndsDone, EndsFull, EndsNotYet, EndsRead, EndsShort, IsLines, IsPart, IsPartLines, IsRun, IsText, Tells, TellsFirst}
+use Rattle.replay_core.specs.Lines.{MetNext, MetPrinted, PrintedShort, Stops, Summarized, new_lines, search_budget, schedule_attempts}
+use Rattle.replay_core.specs.Replay.{Ends, EndsAt, EndsFull, EndsRead, EndsShort, IsPart, Tells, TellsFirst}
 use Rattle.replay_core.specs.Progress.{Progress, Standing}
-use Rattle.replay_core.specs.Turns.{DocumentDid, DocumentStops, StoppedAmong, Unread}
+use Rattle.replay_core.specs.Turns.{DocumentDid, DocumentStops, Unread}
 use Rattle.replay_core.proofs.Known.{appends_front, appends_kept, appends_more, consumes_more, front_all, rest_of}
 use Rattle.replay_core.proofs.Running.{LinesLaw, lines_more, run_more}
 use Rattle.replay_core.proofs.Scripts.{document_is, document_is_none, next_script, prepend_more, prepend_nothing, prepend_up_to, tells_by}

@@ -1,10 +1,9 @@
 -- One command more.
-use Rattle.std.proofs.Common.{ℕ, ◌+◌, ◌^◌, ◌≤◌, ◌<◌, ◌≡◌, ◌∙◌, List, [], ◌∷◌, ◌++◌, Bool, true, false, cond, eqb, map, length, refl, sym, ap, subst, arith, append_assoc, append-nil, length-append}
+use Rattle.std.proofs.Common.{ℕ, ◌+◌, ◌^◌, ◌≤◌, ◌<◌, ◌≡◌, ◌∙◌, List, [], ◌∷◌, ◌++◌, Bool, false, cond, eqb, length, refl, sym, ap, subst, arith, append_assoc, append-nil, length-append}
 use Rattle.std.proofs.lemmas.Bool.{ne_eqb}
-use Rattle.std.specs.Prelude.{Option, None, Some, drop}
+use Rattle.std.specs.Prelude.{Option, drop}
 use Rattle.std.specs.Io.KnownBytes.{Appends}
 use Rattle.ledger_core.specs.declared.entry.Entry.{Entry}
-use Rattle.ledger_core.specs.declared.entry.Stand.{Stand}
 use Rattle.ledger_core.specs.declared.entry.Stand.TheVariants.{Fresh, Ended}
 use Rattle.ledger_core.specs.Entry.{stand_after}
 use Rattle.ledger_core.specs.Ledger.{History}
@@ -13,8 +12,7 @@ use Rattle.journal_text.specs.Journal.{lines_from}
 use Rattle.commands.specs.declared.command.Command.{Command}
 use Rattle.replay_core.specs.declared.work.Work.{Work}
 use Rattle.replay_core.specs.Script.{at_each, commands_of}
-use Rattle.replay_core.specs.Jobs.{AllMade, IsMade, JobRun, RunFrom, RunOf}
-use Rattle.replay_core.specs.Doing.{Ran}
+use Rattle.replay_core.specs.Jobs.{AllMade, JobRun, RunFrom, RunOf}
 use Rattle.replay_core.specs.Lines.{Did, RanNext, new_lines, search_budget, schedule_attempts}
 use Rattle.replay_core.specs.Replay.{IsRun}
 use Rattle.replay_core.specs.Progress.{IsReady, Standing}

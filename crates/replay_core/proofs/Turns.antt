@@ -1,5 +1,5 @@
 -- One turn of a replay.
-use Rattle.std.proofs.Common.{ℕ, ◌+◌, ◌^◌, ◌≤◌, ◌<◌, ◌≡◌, ◌∙◌, List, [], ◌∷◌, ◌++◌, refl, sym, ap, subst, arith, inl, inr}
+use Rattle.std.proofs.Common.{ℕ, ◌^◌, ◌<◌, ◌≡◌, ◌∙◌, List, [], ◌∷◌, refl, sym, ap, subst, arith, inl, inr}
 use Rattle.std.specs.Prelude.{Option, None, Some, Ok, Err}
 use Rattle.std.specs.Io.KnownBytes.{Appends, Consumes, IsAtEnd, prepend_known}
 use Rattle.doc_split.specs.declared.error.DocError.{DocError}
@@ -16,11 +16,11 @@ use Rattle.ledger_core.specs.History.{Legal, LegalAfter, stand_of}
 use Rattle.journal_text.specs.Journal.{lines_from}
 use Rattle.replay_core.specs.declared.status.Status.{Status}
 use Rattle.replay_core.specs.declared.work.Work.{Work}
-use Rattle.replay_core.specs.Script.{most_input, script_of}
+use Rattle.replay_core.specs.Script.{script_of}
 use Rattle.replay_core.specs.Jobs.{RunFrom, RunOf}
-use Rattle.replay_core.specs.Lines.{Summarized, input_status, search_budget, schedule_attempts}
+use Rattle.replay_core.specs.Lines.{Summarized, input_status}
 use Rattle.replay_core.specs.Replay.{Ends, EndsShort, IsRun}
-use Rattle.replay_core.specs.Progress.{Progress, Standing}
+use Rattle.replay_core.specs.Progress.{Progress}
 use Rattle.replay_core.specs.Turns.{DocumentDid, DocumentStops}
 use Rattle.replay_core.proofs.Known.{appends_none}
 use Rattle.replay_core.proofs.Ending.{document_moves, document_stops, ends_at, memory_short, over_document, read_short, summary_ends, tells_document, tells_none}

@@ -1,4 +1,4 @@
-use Rattle.std.proofs.Common.{ℕ, ◌≡◌, refl, sym, subst, ap, arith}
+use Rattle.std.proofs.Common.{◌≡◌, refl, sym, subst, ap, arith}
 use Rattle.doc_split.specs.Split.{Split, remaining}
 use Rattle.replay_core.specs.Progress.{Progress}
 use Rattle.replay_core.proofs.Turns.{nothing_done, progress_begins}

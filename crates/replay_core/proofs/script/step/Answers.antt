@@ -1,4 +1,4 @@
-use Rattle.std.proofs.Common.{◌≡◌, refl, sym, subst}
+use Rattle.std.proofs.Common.{sym, subst}
 use Rattle.replay_core.specs.declared.status.Status.{Status}
 use Rattle.replay_core.specs.Replay.{Ends}
 use Rattle.replay_core.proofs.Turns.{end_ends, end_of, left_at_end, none_ends, step_ends, step_on}

@@ -10,7 +10,7 @@ use Rattle.replay_core.proofs.work.do_all.Given as goal
 abbrev pub invariant-loop-command : goal.invariant-loop-command
 invariant-loop-command g l = record {
   front : List Command;
-  are : l.commands ≡ front ++ l.command-iterator;
+  are : l.fn.commands ≡ front ++ l.command-iterator.rest.items;
   done : StandsOn (at_each l.at front) l.fn.work l.work (g.K.Sink.written l.fn.output) (g.K.Sink.written l.output);
   ready : IsReady l.work;
   legal : Legal l.work.ledger.entries;
