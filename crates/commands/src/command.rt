@@ -48,10 +48,7 @@ pub enum Command {
 /// command for each of its items, and none where it is empty; every other document is one command.
 /// An object is always a command, whatever its fields: it is Invalid, with the first error in their
 /// order, where they don't read.
-pub fn read_commands(
-    alloc: Global,
-    document: &[u8],
-) -> Result<Option<Seq<Command>>, AllocError>
+pub fn read_commands(alloc: Global, document: &[u8]) -> Result<Option<Seq<Command>>, AllocError>
     ensures { IfOk result (λ cs. cs ≡ spec.commands_of_document document.now) }
 {
     let Ok(text) = str::from_utf8(document) else {

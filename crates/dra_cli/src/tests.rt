@@ -261,7 +261,10 @@ fn a_list_is_a_command_for_each_of_its_items(rt: HostRuntime) -> Result<(), Fail
         (FIRST_IN_LIST, Status::NotYet(59), TWO_LINES),
     ] {
         let script = joined(rt.alloc(), &[known(FIRST), known(list)])?;
-        assert!(rt; ends(&rt, &script, 4096, (0, 0), status, known(written))?, "{list}");
+        assert!(rt;
+            ends(&rt, &script, 4096, (0, 0), status, known(written))?,
+            "{list}"
+        );
     }
     Ok(())
 }

@@ -107,11 +107,12 @@ tells_before left done more tells bytes e = let t = tells bytes e in (prepend mo
 tells_up_to : (left : Option (List ℕ)) (done : List (ℕ × Command)) (at : ℕ) (document : List ℕ) (cs front : List Command) (c : Command) (back : List Command) → TellsDocument left done at document
     → commands_of_document document ≡ Some cs → cs ≡ front ++ c ∷ back → TellsFirst left ((done ++ at_each at front) ++ (at, c) ∷ [])
 tells_up_to left done at document cs front c back tells is are bytes e =
-    let t = tells bytes e in
-    (prepend (at_each at back) t.0,
+    let t = tells bytes e in (
+      prepend (at_each at back) t.0,
       t.1 ∙ document_is done at document cs t.0 is
-      ∙ ap (λ (l : List Command). prepend (done ++ at_each at l) t.0) are
-      ∙ prepend_up_to done at front c back t.0)
+          ∙ ap (λ (l : List Command). prepend (done ++ at_each at l) t.0) are
+          ∙ prepend_up_to done at front c back t.0,
+    )
 
 -- a command that wasn't done
 command_stops : LinesLaw → (limit : ℕ) (left left_now before now next : Option (List ℕ)) (done : List (ℕ × Command)) (at : ℕ) (c : Command) (old new : Work) (s : Status)

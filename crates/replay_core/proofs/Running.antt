@@ -144,7 +144,7 @@ pub stands_more : StandLaw → LinesLaw → (at : ℕ) (front : List Command) (c
 stands_more stands lines at front c old mid new before now next on did legal = record {
   standing = λ limit start done s.
       let joined : (done ++ at_each at front) ++ (at, c) ∷ [] ≡ done ++ at_each at (front ++ c ∷ []) =
-          append_assoc done (at_each at front) ((at, c) ∷ []) ∙ ap (λ (l : List (ℕ × Command)). done ++ l) (sym (at_each_joined at front (c ∷ []))) in
+      append_assoc done (at_each at front) ((at, c) ∷ []) ∙ ap (λ (l : List (ℕ × Command)). done ++ l) (sym (at_each_joined at front (c ∷ []))) in
       subst (λ (l : List (ℕ × Command)). Standing limit start next l new) joined
       (standing_more stands lines limit start now next (done ++ at_each at front) at c mid new (on.standing limit start done s) did legal);
 }
