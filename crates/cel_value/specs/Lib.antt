@@ -1,0 +1,5 @@
+pub mod Device
+pub mod Functions
+pub mod Lookups
+pub mod Operators
+pub mod Values
