@@ -7,9 +7,7 @@ use Rattle.std.specs.declared.cmp.Ordering.{Ordering}
 use Rattle.std.specs.declared.cmp.Ordering.TheVariants.{Less, Equal, Greater}
 use Rattle.quantity.specs.Range.{most}
 use Rattle.quantity.specs.Value.{quantity_value}
-use Rattle.quantity.specs.declared.error.QuantityError.{QuantityError}
 use Rattle.semver.specs.Parse.{Parts, version_parts}
-use Rattle.semver.specs.declared.error.Error.{Error}
 use Rattle.cel_tree.specs.declared.calls.Function.{Function}
 use Rattle.cel_tree.specs.declared.calls.Function.TheVariants.{Size, StartsWith, EndsWith, Contains, Quantity, IsQuantity, Semver, IsSemver, CompareTo, IsLessThan, IsGreaterThan, Add, Sub, Sign, IsInteger, AsInteger, Major, Minor, Patch}
 use Rattle.cel_value.specs.declared.error.EvalError.{EvalError}
@@ -50,20 +48,26 @@ abbrev pub contains : List ℕ → List ℕ → Bool
 contains [] part = begins [] part
 contains (b ∷ s) part = begins (b ∷ s) part || contains s part
 
+abbrev pub text_in : Value → Result (List ℕ) EvalError
+text_in v = single_in v >>= text_from
+
 -- a test of two texts
-abbrev pub of_texts : (List ℕ → List ℕ → Bool) → Single → Single → Result Value EvalError
-of_texts test (single.Text s) (single.Text t) = Ok (truth (test s t))
-of_texts test x y = Err NoOverload
+abbrev pub of_texts : (List ℕ → List ℕ → Bool) → Value → Value → Result Value EvalError
+of_texts test x y = text_in x >>= λ s. text_in y >>= λ t. Ok (truth (test s t))
 
 -- ---- what a text reads as
 
-abbrev pub quantity_from : Result ℤ QuantityError → Result Value EvalError
-quantity_from (Ok n) = Ok (quantity n)
-quantity_from (Err e) = Err BadConversion
+abbrev pub or_bad : {A E : Type 0} → Result A E → Result A EvalError
+or_bad (Ok x) = Ok x
+or_bad (Err e) = Err BadConversion
 
-abbrev pub version_from : Result Parts Error → Result Value EvalError
-version_from (Ok v) = Ok (value.Single (single.Version v))
-version_from (Err e) = Err BadConversion
+-- the notation of Kubernetes quantities
+abbrev pub quantity_read : List ℕ → Result ℤ EvalError
+quantity_read s = or_bad (quantity_value s)
+
+-- Semantic Versioning 2.0.0
+abbrev pub version_read : List ℕ → Result Parts EvalError
+version_read s = or_bad (version_parts s)
 
 -- ---- quantities and versions
 
@@ -87,12 +91,6 @@ one = pos 1000000000
 abbrev pub in_range : ℤ → Result Value EvalError
 in_range n = if int_le (neg_ℤ (pos most)) n && int_le n (pos most) then Ok (quantity n) else Err Overflow
 
--- of a quantity and a quantity or a whole number
-abbrev pub quantity_sum : (ℤ → ℤ → ℤ) → Single → Single → Result Value EvalError
-quantity_sum f (single.Quantity m) (single.Quantity n) = in_range (f m n)
-quantity_sum f (single.Quantity m) (single.Int n) = in_range (f m (n *ℤ one))
-quantity_sum f x y = Err NoOverload
-
 abbrev pub amount_from : Single → Result ℤ EvalError
 amount_from (single.Quantity n) = Ok n
 amount_from single.Null = Err NoOverload
@@ -101,29 +99,51 @@ amount_from (single.Int n) = Err NoOverload
 amount_from (single.Text s) = Err NoOverload
 amount_from (single.Version v) = Err NoOverload
 
+abbrev pub amount_in : Value → Result ℤ EvalError
+amount_in v = single_in v >>= amount_from
+
+-- what is added to a quantity: a quantity, or a whole number
+abbrev pub addend_from : Single → Result ℤ EvalError
+addend_from (single.Quantity n) = Ok n
+addend_from (single.Int n) = Ok (n *ℤ one)
+addend_from single.Null = Err NoOverload
+addend_from (single.Bool b) = Err NoOverload
+addend_from (single.Text s) = Err NoOverload
+addend_from (single.Version v) = Err NoOverload
+
+abbrev pub addend_in : Value → Result ℤ EvalError
+addend_in v = single_in v >>= addend_from
+
+-- exact, or Overflow
+abbrev pub quantity_sum : (ℤ → ℤ → ℤ) → Value → Value → Result Value EvalError
+quantity_sum f x y = amount_in x >>= λ m. addend_in y >>= λ n. in_range (f m n)
+
 abbrev pub is_whole : ℤ → Bool
 is_whole n = int_eq (int_rem n one) (pos 0)
 
 abbrev pub as_integer : ℤ → Result Value EvalError
 as_integer n = if is_whole n then Ok (int (int_div n one)) else Err BadConversion
 
-abbrev pub version_in : Single → Result Parts EvalError
-version_in (single.Version v) = Ok v
-version_in single.Null = Err NoOverload
-version_in (single.Bool b) = Err NoOverload
-version_in (single.Int n) = Err NoOverload
-version_in (single.Text s) = Err NoOverload
-version_in (single.Quantity n) = Err NoOverload
+abbrev pub version_from : Single → Result Parts EvalError
+version_from (single.Version v) = Ok v
+version_from single.Null = Err NoOverload
+version_from (single.Bool b) = Err NoOverload
+version_from (single.Int n) = Err NoOverload
+version_from (single.Text s) = Err NoOverload
+version_from (single.Quantity n) = Err NoOverload
+
+abbrev pub version_in : Value → Result Parts EvalError
+version_in v = single_in v >>= version_from
 
 -- ---- the tables
 
 -- `function(argument)`
 abbrev pub call_with : Device → Function → Value → Result Value EvalError
 call_with d Size x = size_of d x
-call_with d Quantity x = single_in x >>= text_from >>= λ s. quantity_from (quantity_value s)
-call_with d IsQuantity x = single_in x >>= text_from >>= λ s. Ok (truth (is_ok (quantity_value s)))
-call_with d Semver x = single_in x >>= text_from >>= λ s. version_from (version_parts s)
-call_with d IsSemver x = single_in x >>= text_from >>= λ s. Ok (truth (is_ok (version_parts s)))
+call_with d Quantity x = text_in x >>= λ s. quantity_read s >>= λ n. Ok (quantity n)
+call_with d IsQuantity x = text_in x >>= λ s. Ok (truth (is_ok (quantity_read s)))
+call_with d Semver x = text_in x >>= λ s. version_read s >>= λ v. Ok (value.Single (single.Version v))
+call_with d IsSemver x = text_in x >>= λ s. Ok (truth (is_ok (version_read s)))
 call_with d function x = Err NoOverload
 
 abbrev pub call_of : Device → Function → List Value → Result Value EvalError
@@ -134,24 +154,24 @@ call_of d function (x ∷ y ∷ rest) = Err NoOverload
 -- `object.function()`
 abbrev pub method_alone : Device → Function → Value → Result Value EvalError
 method_alone d Size x = size_of d x
-method_alone d Sign x = single_in x >>= amount_from >>= λ n. Ok (int (order_number (int_cmp n (pos 0))))
-method_alone d IsInteger x = single_in x >>= amount_from >>= λ n. Ok (truth (is_whole n))
-method_alone d AsInteger x = single_in x >>= amount_from >>= as_integer
-method_alone d Major x = single_in x >>= version_in >>= λ v. whole (pos v.0)
-method_alone d Minor x = single_in x >>= version_in >>= λ v. whole (pos v.1)
-method_alone d Patch x = single_in x >>= version_in >>= λ v. whole (pos v.2)
+method_alone d Sign x = amount_in x >>= λ n. Ok (int (order_number (int_cmp n (pos 0))))
+method_alone d IsInteger x = amount_in x >>= λ n. Ok (truth (is_whole n))
+method_alone d AsInteger x = amount_in x >>= as_integer
+method_alone d Major x = version_in x >>= λ v. whole (pos v.0)
+method_alone d Minor x = version_in x >>= λ v. whole (pos v.1)
+method_alone d Patch x = version_in x >>= λ v. whole (pos v.2)
 method_alone d function x = Err NoOverload
 
 -- `object.function(argument)`
 abbrev pub method_with : Function → Value → Value → Result Value EvalError
-method_with StartsWith x y = both_in (of_texts begins) x y
-method_with EndsWith x y = both_in (of_texts ends) x y
-method_with Contains x y = both_in (of_texts contains) x y
+method_with StartsWith x y = of_texts begins x y
+method_with EndsWith x y = of_texts ends x y
+method_with Contains x y = of_texts contains x y
 method_with CompareTo x y = both_in order_of x y >>= λ o. Ok (int (order_number o))
 method_with IsLessThan x y = both_in order_of x y >>= λ o. Ok (truth (is_lt o))
 method_with IsGreaterThan x y = both_in order_of x y >>= λ o. Ok (truth (is_gt o))
-method_with Add x y = both_in (quantity_sum (λ m n. m +ℤ n)) x y
-method_with Sub x y = both_in (quantity_sum (λ m n. m -ℤ n)) x y
+method_with Add x y = quantity_sum (λ m n. m +ℤ n) x y
+method_with Sub x y = quantity_sum (λ m n. m -ℤ n) x y
 method_with function x y = Err NoOverload
 
 -- `object.function(arguments)`

@@ -3,3 +3,4 @@ pub mod Functions
 pub mod Lookups
 pub mod Operators
 pub mod Values
+pub mod VersionLaws

@@ -129,20 +129,26 @@ add_of (value.Single x) (value.Single y) = single_sum x y
 add_of (value.List xs) (value.List ys) = Ok (value.List (xs ++ ys))
 add_of x y = Err NoOverload
 
+abbrev pub difference : ℤ × ℤ → Result Value EvalError
+difference p = whole (p.0 -ℤ p.1)
+
+abbrev pub product : ℤ × ℤ → Result Value EvalError
+product p = whole (p.0 *ℤ p.1)
+
 -- Division truncates towards zero, and the remainder has the dividend's sign. The least whole number
 -- divided by -1 has no quotient of 64 bits, and its remainder is Overflow too.
-abbrev pub divided : (ℤ → ℤ → ℤ) → ℤ → ℤ → Result Value EvalError
-divided f m n =
-    if int_eq n (pos 0) then Err DivByZero
-    else (if fits (int_div m n) then Ok (int (f m n)) else Err Overflow)
+abbrev pub divided : (ℤ → ℤ → ℤ) → ℤ × ℤ → Result Value EvalError
+divided f p =
+    if int_eq p.1 (pos 0) then Err DivByZero
+    else (if fits (int_div p.0 p.1) then Ok (int (f p.0 p.1)) else Err Overflow)
+
+abbrev pub both_ints : Single → Single → Result (ℤ × ℤ) EvalError
+both_ints (single.Int m) (single.Int n) = Ok (m, n)
+both_ints x y = Err NoOverload
 
 -- an operation on two whole numbers
-abbrev pub of_ints : (ℤ → ℤ → Result Value EvalError) → Single → Single → Result Value EvalError
-of_ints f (single.Int m) (single.Int n) = f m n
-of_ints f x y = Err NoOverload
-
-abbrev pub arithmetic : (ℤ → ℤ → Result Value EvalError) → Value → Value → Result Value EvalError
-arithmetic f = both_in (of_ints f)
+abbrev pub arithmetic : (ℤ × ℤ → Result Value EvalError) → Value → Value → Result Value EvalError
+arithmetic f x y = both_in both_ints x y >>= f
 
 -- ---- `in`
 
@@ -167,7 +173,7 @@ binary_of d op.Equal x y = same_of x y >>= λ b. Ok (truth b)
 binary_of d op.NotEqual x y = same_of x y >>= λ b. Ok (truth (not b))
 binary_of d op.In x y = in_of d x y >>= λ b. Ok (truth b)
 binary_of d op.Add x y = add_of x y
-binary_of d op.Subtract x y = arithmetic (λ m n. whole (m -ℤ n)) x y
-binary_of d op.Multiply x y = arithmetic (λ m n. whole (m *ℤ n)) x y
+binary_of d op.Subtract x y = arithmetic difference x y
+binary_of d op.Multiply x y = arithmetic product x y
 binary_of d op.Divide x y = arithmetic (divided int_div) x y
 binary_of d op.Remainder x y = arithmetic (divided int_rem) x y

@@ -1,5 +1,5 @@
 -- What values are: answers and errors, truth, weight, elements as keys and keys as values.
-use Rattle.std.specs.Prelude.{◌≡◌, ℕ, ◌+◌, ◌^◌, length, sum_by, ℤ, pos, negsuc, nat_lt, List, [], ◌∷◌, Bool, true, false, Result, Ok, Err, if◌then◌else◌}
+use Rattle.std.specs.Prelude.{◌≡◌, ℕ, ◌+◌, ◌-◌, ◌^◌, length, sum_by, ℤ, pos, neg_ℤ, int_le, int_lt, ◌&&◌, List, [], ◌∷◌, Bool, true, false, Result, Ok, Err, if◌then◌else◌}
 use Rattle.cel_tree.specs.Ast.{Constant, Null, Truth, Whole, Bytes}
 use Rattle.cel_value.specs.declared.error.EvalError.{EvalError}
 use Rattle.cel_value.specs.declared.error.EvalError.TheVariants.{NoKey, NoOverload, Overflow, DivByZero, OutOfRange, BadConversion, Memory}
@@ -27,6 +27,11 @@ abbrev pub Gives : {A : Type 0} → Result A EvalError → Result A EvalError �
 Gives (Ok x) meaning = meaning ≡ Ok x
 Gives (Err e) meaning = UnlessMemory e (meaning ≡ Err e)
 
+-- the same of a function that takes no memory and gives what view sees
+abbrev pub Shows : {X Y : Type 0} → (X → Y) → Result X EvalError → Result Y EvalError → Type 0
+Shows view (Ok x) meaning = meaning ≡ Ok (view x)
+Shows view (Err e) meaning = meaning ≡ Err e
+
 -- the second step goes on with what the first gave; the first error counts
 infixl 10 ◌>>=◌
 abbrev pub ◌>>=◌ : {A B : Type 0} → Result A EvalError → (A → Result B EvalError) → Result B EvalError
@@ -52,8 +57,7 @@ quantity n = value.Single (single.Quantity n)
 
 -- A whole number has 64 bits: -2^63 to 2^63-1.
 abbrev pub fits : ℤ → Bool
-fits (pos n) = nat_lt n (2 ^ 63)
-fits (negsuc n) = nat_lt n (2 ^ 63)
+fits n = int_le (neg_ℤ (pos (2 ^ 63))) n && int_lt n (pos (2 ^ 63))
 
 abbrev pub whole : ℤ → Result Value EvalError
 whole n = if fits n then Ok (int n) else Err Overflow
@@ -125,3 +129,7 @@ weight_of (value.List xs) = 1 + sum_by single_weight xs
 weight_of (value.Map es) = 1 + sum_by entry_weight es
 weight_of (value.Domains f) = 2049
 weight_of (value.Entries f domain) = 2049
+
+-- the greatest number of 64 bits
+abbrev pub most : ℕ
+most = 2 ^ 64 - 1

@@ -1,10 +1,17 @@
-ghost use Rattle.std.specs.Prelude.{◌≡◌};
+ghost use Rattle.std.specs.Prelude.{◌≡◌, [], ◌++◌, IfOk, option_map, option_copied};
+ghost use Rattle.cel_value.specs.declared.value.Single.TheVariants as single;
+ghost use Rattle.std.specs.List.{list_any};
+ghost use Rattle.std.specs.Str.{bytes_eq};
+ghost use Rattle.std.specs.Map.{keys_of};
 ghost use Rattle.cel_value.specs.Device.{Device, IsWithinLimits};
+ghost use Rattle.cel_value.specs.Lookups.{at_name, full_name, has_domain, domains_from, domains_of, ids_in, ids_of};
 
 use crate::Single;
-use dra_values::{Table, Text};
+use cel_tree::Facet;
+use dra_values::{Duplicate, Seq, Table, Text};
 use object_fields::QualName;
 use quantity::Quantity;
+use std::alloc::{AllocError, Global};
 use std::marker::Model;
 
 /// The device that a selector is about, within the limits of the API reference of
@@ -47,4 +54,132 @@ impl DeviceEnv {
             capacity,
         }
     }
+
+    /// The driver's name, a DNS subdomain of at most 63 bytes.
+    pub fn driver(&self) -> &Text
+        ensures { result.now ≡ self.now.driver }
+    {
+        &self.driver
+    }
+
+    /// States the limits, which every device keeps.
+    pub fn within_limits(&self)
+        ensures { IsWithinLimits self.now }
+    {
+        let _driver = &self.driver;
+    }
+
+    /// A copy of the attribute or capacity with that id in that domain.
+    pub(crate) fn get(
+        &self,
+        alloc: Global,
+        facet: Facet,
+        domain: &str,
+        id: &str,
+    ) -> Result<Option<Single>, AllocError>
+        ensures { IfOk result (λ found. found ≡ at_name self.now facet (full_name domain.now id.now)) }
+    {
+        let name = QualName {
+            domain: Text::from_str(alloc, domain)?,
+            id: Text::from_str(alloc, id)?,
+        };
+        match facet {
+            Facet::Attributes => copied(alloc, self.attributes.get(&name)),
+            Facet::Capacities => Ok(amount(self.capacity.get(&name))),
+        }
+    }
+
+    /// Whether the device has an attribute or a capacity in the domain.
+    pub(crate) fn has_domain(&self, facet: Facet, domain: &str) -> bool
+        ensures { result ≡ has_domain self.now facet domain.now }
+    {
+        match facet {
+            Facet::Attributes => any_in(&self.attributes, domain),
+            Facet::Capacities => any_in(&self.capacity, domain),
+        }
+    }
+
+    /// The domains of the attributes or capacities, each once, in order.
+    pub(crate) fn domains(&self, alloc: Global, facet: Facet) -> Result<Seq<Text>, AllocError>
+        ensures { IfOk result (λ names. names ≡ domains_of self.now facet) }
+    {
+        match facet {
+            Facet::Attributes => domains(alloc, &self.attributes),
+            Facet::Capacities => domains(alloc, &self.capacity),
+        }
+    }
+
+    /// The ids of the attributes or capacities in the domain, in order.
+    pub(crate) fn ids(
+        &self,
+        alloc: Global,
+        facet: Facet,
+        domain: &str,
+    ) -> Result<Seq<Text>, AllocError>
+        ensures { IfOk result (λ names. names ≡ ids_of self.now facet domain.now) }
+    {
+        match facet {
+            Facet::Attributes => ids(alloc, &self.attributes, domain),
+            Facet::Capacities => ids(alloc, &self.capacity, domain),
+        }
+    }
+}
+
+fn copied(alloc: Global, found: Option<&Single>) -> Result<Option<Single>, AllocError>
+    ensures { IfOk result (λ copy. copy ≡ option_copied found) }
+{
+    match found {
+        Some(single) => Ok(Some(single.duplicate(alloc)?)),
+        None => Ok(None),
+    }
+}
+
+fn amount(found: Option<&Quantity>) -> Option<Single>
+    ensures { result ≡ option_map single.Quantity (option_copied found) }
+{
+    match found {
+        Some(quantity) => Some(Single::Quantity(*quantity)),
+        None => None,
+    }
+}
+
+fn any_in<V>(table: &Table<QualName, V>, domain: &str) -> bool
+    ensures { result ≡ list_any (λ name. bytes_eq name.domain domain.now) (keys_of table.now) }
+{
+    for (name, _) in table.as_map() {
+        if name.domain.as_str() == domain {
+            return true;
+        }
+    }
+    false
+}
+
+fn domains<V>(alloc: Global, table: &Table<QualName, V>) -> Result<Seq<Text>, AllocError>
+    ensures { IfOk result (λ names. names ≡ domains_from [] (keys_of table.now)) }
+{
+    let mut domains = Seq::empty(alloc);
+    for (name, _) in table.as_map() {
+        if !is_among(&name.domain, domains.as_slice()) {
+            domains.push(name.domain.copy(alloc)?)?;
+        }
+    }
+    Ok(domains)
+}
+
+fn is_among(name: &Text, names: &[Text]) -> bool
+    ensures { result ≡ list_any (λ s. bytes_eq s name.now) names.now }
+{
+    names.contains(name)
+}
+
+fn ids<V>(alloc: Global, table: &Table<QualName, V>, domain: &str) -> Result<Seq<Text>, AllocError>
+    ensures { IfOk result (λ names. names ≡ ids_in domain.now (keys_of table.now)) }
+{
+    let mut ids = Seq::empty(alloc);
+    for (name, _) in table.as_map() {
+        if name.domain.as_str() == domain {
+            ids.push(name.id.copy(alloc)?)?;
+        }
+    }
+    Ok(ids)
 }

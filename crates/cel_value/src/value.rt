@@ -4,8 +4,9 @@ use dra_values::{Duplicate, Seq, Table, Text};
 use quantity::Quantity;
 use std::alloc::{AllocError, Global};
 
-/// A value that holds no others.
-#[derive(Drop)]
+/// A value that holds no others. Values of different types are unequal, quantities are equal by value,
+/// and versions by precedence.
+#[derive(Debug, PartialEq, Drop)]
 pub enum Single {
     Null,
     Bool(bool),
@@ -25,7 +26,7 @@ pub enum Key {
 }
 
 /// What an expression of the selector language gives. Lists and maps hold single values alone.
-#[derive(Drop)]
+#[derive(Debug, Drop)]
 pub enum Value {
     Single(Single),
     List(Seq<Single>),
