@@ -21,3 +21,6 @@ pub use operators::{binary, unary};
 pub use scalars::{constant, truth, weight};
 pub use value::{Key, Single, Value};
 pub use version::Version;
+
+#[cfg(test)]
+mod tests;
