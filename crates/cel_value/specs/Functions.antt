@@ -69,6 +69,19 @@ quantity_read s = or_bad (quantity_value s)
 abbrev pub version_read : List ℕ → Result Parts EvalError
 version_read s = or_bad (version_parts s)
 
+-- `quantity(s)`, `isQuantity(s)`, `semver(s)`, `isSemver(s)`
+abbrev pub quantity_of : Value → Result Value EvalError
+quantity_of x = text_in x >>= λ s. quantity_read s >>= λ n. Ok (quantity n)
+
+abbrev pub is_quantity_of : Value → Result Value EvalError
+is_quantity_of x = text_in x >>= λ s. Ok (truth (is_ok (quantity_read s)))
+
+abbrev pub version_of : Value → Result Value EvalError
+version_of x = text_in x >>= λ s. version_read s >>= λ v. Ok (value.Single (single.Version v))
+
+abbrev pub is_version_of : Value → Result Value EvalError
+is_version_of x = text_in x >>= λ s. Ok (truth (is_ok (version_read s)))
+
 -- ---- quantities and versions
 
 -- two quantities by value, or two versions by precedence
@@ -140,10 +153,10 @@ version_in v = single_in v >>= version_from
 -- `function(argument)`
 abbrev pub call_with : Device → Function → Value → Result Value EvalError
 call_with d Size x = size_of d x
-call_with d Quantity x = text_in x >>= λ s. quantity_read s >>= λ n. Ok (quantity n)
-call_with d IsQuantity x = text_in x >>= λ s. Ok (truth (is_ok (quantity_read s)))
-call_with d Semver x = text_in x >>= λ s. version_read s >>= λ v. Ok (value.Single (single.Version v))
-call_with d IsSemver x = text_in x >>= λ s. Ok (truth (is_ok (version_read s)))
+call_with d Quantity x = quantity_of x
+call_with d IsQuantity x = is_quantity_of x
+call_with d Semver x = version_of x
+call_with d IsSemver x = is_version_of x
 call_with d function x = Err NoOverload
 
 abbrev pub call_of : Device → Function → List Value → Result Value EvalError

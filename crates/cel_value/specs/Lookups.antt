@@ -67,11 +67,14 @@ has_domain d f domain = list_any (λ name. bytes_eq name.domain domain) (names_o
 abbrev pub has_id : Device → Facet → List ℕ → List ℕ → Bool
 has_id d f domain id = is_some (at_name d f (full_name domain id))
 
+-- one more, unless it was seen before
+abbrev pub with_new : List (List ℕ) → List ℕ → List (List ℕ)
+with_new seen domain = if list_any (λ s. bytes_eq s domain) seen then seen else seen ++ domain ∷ []
+
 -- behind those seen, each domain once
 abbrev pub domains_from : List (List ℕ) → List QualName → List (List ℕ)
 domains_from seen [] = seen
-domains_from seen (name ∷ names) =
-    if list_any (λ s. bytes_eq s name.domain) seen then domains_from seen names else domains_from (seen ++ name.domain ∷ []) names
+domains_from seen (name ∷ names) = domains_from (with_new seen name.domain) names
 
 -- the domains of the device, each once, in order
 abbrev pub domains_of : Device → Facet → List (List ℕ)
@@ -123,14 +126,23 @@ element_of (single.Text s) xs = Err NoOverload
 element_of (single.Quantity n) xs = Err NoOverload
 element_of (single.Version v) xs = Err NoOverload
 
+abbrev pub value_at : Single → List (Key × Single) → Result Value EvalError
+value_at x es = key_from x >>= λ k. found NoKey (at_key k es)
+
+abbrev pub in_domain : Facet → Single → Result Value EvalError
+in_domain f x = text_from x >>= λ domain. Ok (value.Entries f domain)
+
+abbrev pub entry_at : Device → Facet → List ℕ → Single → Result Value EvalError
+entry_at d f domain x = text_from x >>= λ id. found NoKey (at_name d f (full_name domain id))
+
 -- a list by a place, a map by a key, the domains by a domain, and those of a domain by an id. A domain
 -- that isn't there has nothing in it.
 abbrev pub part_of : Device → Value → Single → Result Value EvalError
 part_of d (value.Single s) x = Err NoOverload
 part_of d (value.List xs) x = element_of x xs
-part_of d (value.Map es) x = key_from x >>= λ k. found NoKey (at_key k es)
-part_of d (value.Domains f) x = text_from x >>= λ domain. Ok (value.Entries f domain)
-part_of d (value.Entries f domain) x = text_from x >>= λ id. found NoKey (at_name d f (full_name domain id))
+part_of d (value.Map es) x = value_at x es
+part_of d (value.Domains f) x = in_domain f x
+part_of d (value.Entries f domain) x = entry_at d f domain x
 
 abbrev pub index_of : Device → Value → Value → Result Value EvalError
 index_of d v i = single_in i >>= part_of d v

@@ -129,26 +129,26 @@ add_of (value.Single x) (value.Single y) = single_sum x y
 add_of (value.List xs) (value.List ys) = Ok (value.List (xs ++ ys))
 add_of x y = Err NoOverload
 
-abbrev pub difference : ℤ × ℤ → Result Value EvalError
-difference p = whole (p.0 -ℤ p.1)
+abbrev pub difference : ℤ → ℤ → Result Value EvalError
+difference m n = whole (m -ℤ n)
 
-abbrev pub product : ℤ × ℤ → Result Value EvalError
-product p = whole (p.0 *ℤ p.1)
+abbrev pub product : ℤ → ℤ → Result Value EvalError
+product m n = whole (m *ℤ n)
 
 -- Division truncates towards zero, and the remainder has the dividend's sign. The least whole number
 -- divided by -1 has no quotient of 64 bits, and its remainder is Overflow too.
-abbrev pub divided : (ℤ → ℤ → ℤ) → ℤ × ℤ → Result Value EvalError
-divided f p =
-    if int_eq p.1 (pos 0) then Err DivByZero
-    else (if fits (int_div p.0 p.1) then Ok (int (f p.0 p.1)) else Err Overflow)
+abbrev pub divided : (ℤ → ℤ → ℤ) → ℤ → ℤ → Result Value EvalError
+divided f m n =
+    if int_eq n (pos 0) then Err DivByZero
+    else (if fits (int_div m n) then Ok (int (f m n)) else Err Overflow)
 
 abbrev pub both_ints : Single → Single → Result (ℤ × ℤ) EvalError
 both_ints (single.Int m) (single.Int n) = Ok (m, n)
 both_ints x y = Err NoOverload
 
 -- an operation on two whole numbers
-abbrev pub arithmetic : (ℤ × ℤ → Result Value EvalError) → Value → Value → Result Value EvalError
-arithmetic f x y = both_in both_ints x y >>= f
+abbrev pub arithmetic : (ℤ → ℤ → Result Value EvalError) → Value → Value → Result Value EvalError
+arithmetic f x y = both_in both_ints x y >>= λ p. f p.0 p.1
 
 -- ---- `in`
 

@@ -1,10 +1,10 @@
-ghost use Rattle.std.specs.Prelude.{◌≡◌, [], ◌++◌, IfOk, option_map, option_copied};
+ghost use Rattle.std.specs.Prelude.{◌≡◌, [], ◌++◌, IfOk, OnOk, option_map, option_copied};
 ghost use Rattle.cel_value.specs.declared.value.Single.TheVariants as single;
 ghost use Rattle.std.specs.List.{list_any};
 ghost use Rattle.std.specs.Str.{bytes_eq};
 ghost use Rattle.std.specs.Map.{keys_of};
 ghost use Rattle.cel_value.specs.Device.{Device, IsWithinLimits};
-ghost use Rattle.cel_value.specs.Lookups.{at_name, full_name, has_domain, domains_from, domains_of, ids_in, ids_of};
+ghost use Rattle.cel_value.specs.Lookups.{at_name, full_name, has_domain, with_new, domains_from, domains_of, ids_in, ids_of};
 
 use crate::Single;
 use cel_tree::Facet;
@@ -83,9 +83,20 @@ impl DeviceEnv {
             domain: Text::from_str(alloc, domain)?,
             id: Text::from_str(alloc, id)?,
         };
+        self.find(alloc, facet, &name)
+    }
+
+    fn find(
+        &self,
+        alloc: Global,
+        facet: Facet,
+        name: &QualName,
+    ) -> Result<Option<Single>, AllocError>
+        ensures { IfOk result (λ found. found ≡ at_name self.now facet name.now) }
+    {
         match facet {
-            Facet::Attributes => copied(alloc, self.attributes.get(&name)),
-            Facet::Capacities => Ok(amount(self.capacity.get(&name))),
+            Facet::Attributes => copied(alloc, self.attributes.get(name)),
+            Facet::Capacities => Ok(amount(self.capacity.get(name))),
         }
     }
 
@@ -126,7 +137,7 @@ impl DeviceEnv {
 }
 
 fn copied(alloc: Global, found: Option<&Single>) -> Result<Option<Single>, AllocError>
-    ensures { IfOk result (λ copy. copy ≡ option_copied found) }
+    ensures { IfOk result (λ copy. copy ≡ option_copied found.entry) }
 {
     match found {
         Some(single) => Ok(Some(single.duplicate(alloc)?)),
@@ -135,7 +146,7 @@ fn copied(alloc: Global, found: Option<&Single>) -> Result<Option<Single>, Alloc
 }
 
 fn amount(found: Option<&Quantity>) -> Option<Single>
-    ensures { result ≡ option_map single.Quantity (option_copied found) }
+    ensures { result ≡ option_map single.Quantity (option_copied found.entry) }
 {
     match found {
         Some(quantity) => Some(Single::Quantity(*quantity)),
@@ -159,11 +170,20 @@ fn domains<V>(alloc: Global, table: &Table<QualName, V>) -> Result<Seq<Text>, Al
 {
     let mut domains = Seq::empty(alloc);
     for (name, _) in table.as_map() {
-        if !is_among(&name.domain, domains.as_slice()) {
-            domains.push(name.domain.copy(alloc)?)?;
-        }
+        push_new(alloc, &mut domains, &name.domain)?;
     }
     Ok(domains)
+}
+
+/// Puts the name at the end, unless it is there.
+fn push_new(alloc: Global, names: &mut Seq<Text>, name: &Text) -> Result<(), AllocError>
+    ensures { OnOk result (names.new ≡ with_new names.old name.now) }
+{
+    if is_among(name, names.as_slice()) {
+        Ok(())
+    } else {
+        names.push(name.copy(alloc)?)
+    }
 }
 
 fn is_among(name: &Text, names: &[Text]) -> bool

@@ -1,8 +1,8 @@
 //! What stands in a device, in a list and in a map.
 
-ghost use Rattle.std.specs.Prelude.{◌≡◌, map, Ok, IfOk, option_copied};
+ghost use Rattle.std.specs.Prelude.{◌≡◌, map, Ok, IfOk, is_some, option_copied};
 ghost use Rattle.std.specs.Map.{keys_of};
-ghost use Rattle.cel_value.specs.Values.{Gives, Shows, ◌>>=◌, key_from, single_of};
+ghost use Rattle.cel_value.specs.Values.{Gives, Shows, single_of};
 ghost use Rattle.cel_value.specs.declared.error.EvalError.TheVariants.{NoKey};
 ghost use Rattle.cel_value.specs.declared.value.Value.TheVariants as value;
 ghost use Rattle.cel_value.specs.Lookups as spec;
@@ -95,7 +95,7 @@ fn element(alloc: Global, items: &[Single], index: &Single) -> Result<Value, Eva
 
 /// A copy of what was found, or the error.
 fn found(alloc: Global, error: EvalError, found: Option<&Single>) -> Result<Value, EvalError>
-    ensures { Gives result (spec.found error (option_copied found)) }
+    ensures { Gives result (spec.found error (option_copied found.entry)) }
 {
     match found {
         Some(single) => Ok(Value::Single(single.duplicate(alloc)?)),
@@ -104,10 +104,22 @@ fn found(alloc: Global, error: EvalError, found: Option<&Single>) -> Result<Valu
 }
 
 fn value_at(alloc: Global, entries: &Table<Key, Single>, index: &Single) -> Result<Value, EvalError>
-    ensures { Gives result (key_from index.now >>= λ k. spec.found NoKey (spec.at_key k entries.now)) }
+    ensures { Gives result (spec.value_at index.now entries.now) }
 {
     let key = key_from(alloc, index)?;
-    found(alloc, EvalError::NoKey, entries.get(&key))
+    at_key(alloc, entries, &key)
+}
+
+fn at_key(alloc: Global, entries: &Table<Key, Single>, key: &Key) -> Result<Value, EvalError>
+    ensures { Gives result (spec.found NoKey (spec.at_key key.now entries.now)) }
+{
+    found(alloc, EvalError::NoKey, entries.get(key))
+}
+
+fn has_key(entries: &Table<Key, Single>, key: &Key) -> bool
+    ensures { result ≡ is_some (spec.at_key key.now entries.now) }
+{
+    entries.contains_key(key)
 }
 
 /// A text, or NoOverload.
@@ -121,7 +133,7 @@ fn text_from(single: &Single) -> Result<&Text, EvalError>
 }
 
 fn in_domain(alloc: Global, facet: Facet, domain: &Single) -> Result<Value, EvalError>
-    ensures { Gives result (spec.text_from domain.now >>= λ s. Ok (value.Entries facet s)) }
+    ensures { Gives result (spec.in_domain facet domain.now) }
 {
     match domain {
         Single::Text(domain) => Ok(Value::Entries(facet, domain.copy(alloc)?)),
@@ -136,7 +148,7 @@ fn entry(
     domain: &Text,
     id: &Single,
 ) -> Result<Value, EvalError>
-    ensures { Gives result (spec.text_from id.now >>= λ s. spec.found NoKey (spec.at_name device.now facet (spec.full_name domain.now s))) }
+    ensures { Gives result (spec.entry_at device.now facet domain.now id.now) }
 {
     match id {
         Single::Text(id) => named(device.get(alloc, facet, domain.as_str(), id.as_str())?),
@@ -167,7 +179,7 @@ pub fn has(
         Value::Single(_) | Value::List(_) => Err(EvalError::NoOverload),
         Value::Map(entries) => {
             let key = Key::Text(Text::from_str(alloc, name)?);
-            Ok(Value::bool(entries.contains_key(&key)))
+            Ok(Value::bool(has_key(entries, &key)))
         }
         Value::Domains(facet) => Ok(Value::bool(device.has_domain(*facet, name))),
         Value::Entries(facet, domain) => {
@@ -206,7 +218,7 @@ fn is_single_in(
         Value::List(items) => Ok(items.as_slice().contains(element)),
         Value::Map(entries) => {
             let key = key_from(alloc, element)?;
-            Ok(entries.contains_key(&key))
+            Ok(has_key(entries, &key))
         }
         Value::Domains(facet) => {
             let domain = text_from(element)?;

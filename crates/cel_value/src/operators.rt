@@ -65,10 +65,22 @@ pub fn binary(
         BinaryOp::NotEqual => Ok(Value::bool(!same(left, right)?)),
         BinaryOp::In => Ok(Value::bool(is_in(alloc, device, left, right)?)),
         BinaryOp::Add => add(alloc, left, right),
-        BinaryOp::Subtract => difference(ints(left, right)?),
-        BinaryOp::Multiply => product(ints(left, right)?),
-        BinaryOp::Divide => quotient(ints(left, right)?),
-        BinaryOp::Remainder => remainder(ints(left, right)?),
+        BinaryOp::Subtract => {
+            let (left, right) = ints(left, right)?;
+            difference(left, right)
+        }
+        BinaryOp::Multiply => {
+            let (left, right) = ints(left, right)?;
+            product(left, right)
+        }
+        BinaryOp::Divide => {
+            let (left, right) = ints(left, right)?;
+            quotient(left, right)
+        }
+        BinaryOp::Remainder => {
+            let (left, right) = ints(left, right)?;
+            remainder(left, right)
+        },
     }
 }
 
@@ -171,25 +183,22 @@ fn single_ints(left: &Single, right: &Single) -> Result<(i64, i64), EvalError>
     }
 }
 
-fn difference(both: (i64, i64)) -> Result<Value, EvalError>
-    ensures { result ≡ spec.difference both }
+fn difference(left: i64, right: i64) -> Result<Value, EvalError>
+    ensures { result ≡ spec.difference left right }
 {
-    let (left, right) = both;
     whole(left as i128 - right as i128)
 }
 
-fn product(both: (i64, i64)) -> Result<Value, EvalError>
-    ensures { result ≡ spec.product both }
+fn product(left: i64, right: i64) -> Result<Value, EvalError>
+    ensures { result ≡ spec.product left right }
 {
-    let (left, right) = both;
     whole(left as i128 * right as i128)
 }
 
 /// The quotient, truncated towards zero.
-fn quotient(both: (i64, i64)) -> Result<Value, EvalError>
-    ensures { result ≡ spec.divided int_div both }
+fn quotient(left: i64, right: i64) -> Result<Value, EvalError>
+    ensures { result ≡ spec.divided int_div left right }
 {
-    let (left, right) = both;
     if right == 0 {
         Err(EvalError::DivByZero)
     } else {
@@ -198,10 +207,9 @@ fn quotient(both: (i64, i64)) -> Result<Value, EvalError>
 }
 
 /// The remainder of that quotient, with the dividend's sign.
-fn remainder(both: (i64, i64)) -> Result<Value, EvalError>
-    ensures { result ≡ spec.divided int_rem both }
+fn remainder(left: i64, right: i64) -> Result<Value, EvalError>
+    ensures { result ≡ spec.divided int_rem left right }
 {
-    let (left, right) = both;
     if right == 0 {
         Err(EvalError::DivByZero)
     } else if fits(left as i128 / right as i128) {

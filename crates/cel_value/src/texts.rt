@@ -68,7 +68,7 @@ fn is_within(text: &[u8], part: &[u8]) -> bool
 
 /// `quantity(text)`, or BadConversion.
 pub(crate) fn quantity(text: &Value) -> Result<Value, EvalError>
-    ensures { (d : _) → result ≡ spec.call_with d function.Quantity text.now }
+    ensures { result ≡ spec.quantity_of text.now }
 {
     let text = text_in(text)?;
     let quantity = read_quantity(text)?;
@@ -77,7 +77,7 @@ pub(crate) fn quantity(text: &Value) -> Result<Value, EvalError>
 
 /// `isQuantity(text)`
 pub(crate) fn is_quantity(text: &Value) -> Result<Value, EvalError>
-    ensures { (d : _) → result ≡ spec.call_with d function.IsQuantity text.now }
+    ensures { result ≡ spec.is_quantity_of text.now }
 {
     let text = text_in(text)?;
     Ok(Value::bool(read_quantity(text).is_ok()))
@@ -94,7 +94,7 @@ fn read_quantity(text: &Text) -> Result<Quantity, EvalError>
 
 /// `semver(text)`, or BadConversion.
 pub(crate) fn version(alloc: Global, text: &Value) -> Result<Value, EvalError>
-    ensures { (d : _) → Gives result (spec.call_with d function.Semver text.now) }
+    ensures { Gives result (spec.version_of text.now) }
 {
     let text = text_in(text)?;
     let version = read_version(alloc, text)?;
@@ -103,7 +103,7 @@ pub(crate) fn version(alloc: Global, text: &Value) -> Result<Value, EvalError>
 
 /// `isSemver(text)`
 pub(crate) fn is_version(alloc: Global, text: &Value) -> Result<Value, EvalError>
-    ensures { (d : _) → Gives result (spec.call_with d function.IsSemver text.now) }
+    ensures { Gives result (spec.is_version_of text.now) }
 {
     let text = text_in(text)?;
     match read_version(alloc, text) {
