@@ -1,12 +1,13 @@
-ghost use Rattle.std.specs.Prelude.{◌≡◌, [], ◌++◌, IfOk, OnOk, option_map, option_copied};
+ghost use Rattle.std.specs.Prelude.{◌≡◌, ◌+◌, [], ◌++◌, nat_le, SomeIff, IfOk, OnOk, option_map, option_copied};
 ghost use Rattle.cel_value.specs.declared.value.Single.TheVariants as single;
-ghost use Rattle.std.specs.List.{list_any};
+ghost use Rattle.std.specs.List.{list_all, list_any};
 ghost use Rattle.std.specs.Str.{bytes_eq};
-ghost use Rattle.std.specs.Map.{keys_of};
-ghost use Rattle.cel_value.specs.Device.{Device, IsWithinLimits};
+ghost use Rattle.std.specs.Map.{keys_of, values_of};
+ghost use Rattle.cel_value.specs.Device.{Device, IsWithinLimits, within_limits, is_short_name, is_short_text, is_short_value};
 ghost use Rattle.cel_value.specs.Lookups.{at_name, full_name, has_domain, with_new, domains_from, domains_of, ids_in, ids_of};
 
 use crate::Single;
+use crate::functions::char_count;
 use cel_tree::Facet;
 use dra_values::{Duplicate, Seq, Table, Text};
 use object_fields::QualName;
@@ -14,10 +15,24 @@ use quantity::Quantity;
 use std::alloc::{AllocError, Global};
 use std::marker::Model;
 
+/// The most bytes of a driver's name.
+const DRIVER_MOST: usize = 63;
+
+/// The most bytes of a domain.
+const DOMAIN_MOST: usize = 63;
+
+/// The most bytes of an id.
+const ID_MOST: usize = 32;
+
+/// The most characters of an attribute's text.
+const CHARS_MOST: usize = 64;
+
+/// The most attributes and capacities together.
+const TOGETHER_MOST: usize = 32;
+
 /// The device that a selector is about, within the limits of the API reference of
 /// `resource.k8s.io/v1`: the driver and each domain have at most 63 bytes, each id at most 32, each
-/// text and version of an attribute at most 64 characters, and attributes and capacities together
-/// are at most 32.
+/// text of an attribute at most 64 characters, and attributes and capacities together are at most 32.
 #[derive(Drop)]
 pub struct DeviceEnv {
     driver: Text,
@@ -52,6 +67,23 @@ impl DeviceEnv {
             driver,
             attributes,
             capacity,
+        }
+    }
+
+    /// The same, or None where a limit is broken.
+    pub fn checked(
+        driver: Text,
+        attributes: Table<QualName, Single>,
+        capacity: Table<QualName, Quantity>,
+    ) -> Option<DeviceEnv>
+        ensures { SomeIff result
+            (IsWithinLimits (record { driver = driver; attributes = attributes; capacity = capacity }))
+            (record { driver = driver; attributes = attributes; capacity = capacity }) }
+    {
+        if keeps_limits(&driver, &attributes, &capacity) {
+            Some(DeviceEnv::new(driver, attributes, capacity))
+        } else {
+            None
         }
     }
 
@@ -134,6 +166,69 @@ impl DeviceEnv {
             Facet::Capacities => ids(alloc, &self.capacity, domain),
         }
     }
+}
+
+fn keeps_limits(
+    driver: &Text,
+    attributes: &Table<QualName, Single>,
+    capacity: &Table<QualName, Quantity>,
+) -> bool
+    ensures { result
+        ≡ within_limits (record { driver = driver.now; attributes = attributes.now; capacity = capacity.now }) }
+{
+    driver.as_str().len() <= DRIVER_MOST
+        && (names_are_short(attributes)
+            && (values_are_short(attributes)
+                && (names_are_short(capacity) && are_few(attributes.len(), capacity.len()))))
+}
+
+fn are_few(attributes: usize, capacities: usize) -> bool
+    ensures { result ≡ nat_le (attributes + capacities) 32 }
+{
+    attributes <= TOGETHER_MOST && capacities <= TOGETHER_MOST - attributes
+}
+
+fn names_are_short<V>(table: &Table<QualName, V>) -> bool
+    ensures { result ≡ list_all is_short_name (keys_of table.now) }
+{
+    for (name, _) in table.as_map() {
+        if !is_short_name(name) {
+            return false;
+        }
+    }
+    true
+}
+
+fn is_short_name(name: &QualName) -> bool
+    ensures { result ≡ is_short_name name.now }
+{
+    name.domain.as_str().len() <= DOMAIN_MOST && name.id.as_str().len() <= ID_MOST
+}
+
+fn values_are_short(table: &Table<QualName, Single>) -> bool
+    ensures { result ≡ list_all is_short_value (values_of table.now) }
+{
+    for (_, value) in table.as_map() {
+        if !is_short_value(value) {
+            return false;
+        }
+    }
+    true
+}
+
+fn is_short_value(value: &Single) -> bool
+    ensures { result ≡ is_short_value value.now }
+{
+    match value {
+        Single::Text(text) => is_short_text(text.as_str()),
+        _ => true,
+    }
+}
+
+fn is_short_text(text: &str) -> bool
+    ensures { result ≡ is_short_text text.now }
+{
+    char_count(text) <= CHARS_MOST
 }
 
 fn copied(alloc: Global, found: Option<&Single>) -> Result<Option<Single>, AllocError>

@@ -135,7 +135,7 @@ fn size(alloc: Global, device: &DeviceEnv, value: &Value) -> Result<Value, EvalE
     }
 }
 
-fn char_count(text: &str) -> usize
+pub(crate) fn char_count(text: &str) -> usize
     ensures { result ≡ length (chars text.now) }
 {
     text.chars().count()

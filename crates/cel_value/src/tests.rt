@@ -57,7 +57,8 @@ fn device(alloc: Global) -> Result<DeviceEnv, Fail> {
     let memory = Quantity::parse(b"40Gi")?;
     capacity.insert(name(alloc, "gpu.example.com", "memory")?, memory)?;
     let driver = Text::from_str(alloc, "gpu.example.com")?;
-    Ok(DeviceEnv::new(driver, attributes, capacity))
+    let device = DeviceEnv::checked(driver, attributes, capacity);
+    Ok(device.ok_or(EvalError::OutOfRange)?)
 }
 
 /// A value of each kind: null, true, 1, "a", a quantity, a version, [1], {1: null}, the attributes'
@@ -77,6 +78,12 @@ fn samples(alloc: Global) -> Result<Vec<Value>, Fail> {
     values.push(Value::Map(map))?;
     values.push(Value::Domains(Facet::Attributes))?;
     values.push(Value::Entries(Facet::Attributes, domain))?;
+    Ok(values)
+}
+
+fn alone(alloc: Global, value: Value) -> Result<Vec<Value>, AllocError> {
+    let mut values = Vec::new(alloc);
+    values.push(value)?;
     Ok(values)
 }
 
@@ -387,7 +394,7 @@ fn functions_have_answers(rt: HostRuntime) -> Result<(), Fail> {
     ];
     for (function, argument, expected) in rows {
         let argument = text(alloc, argument)?;
-        let answer = call(alloc, &device, function, [argument].as_slice());
+        let answer = call(alloc, &device, function, &alone(alloc, argument)?);
         assert_eq!(rt; shown(alloc, answer)?.as_str(), expected);
     }
     let rows = [
@@ -404,7 +411,7 @@ fn functions_have_answers(rt: HostRuntime) -> Result<(), Fail> {
     for (function, object, argument, expected) in rows {
         let object = text(alloc, object)?;
         let argument = text(alloc, argument)?;
-        let answer = method(alloc, &device, function, &object, [argument].as_slice());
+        let answer = method(alloc, &device, function, &object, &alone(alloc, argument)?);
         assert_eq!(rt; letter(answer), expected);
     }
     Ok(())
@@ -416,7 +423,7 @@ fn sizes_are_counted(rt: HostRuntime) -> Result<(), Fail> {
     let device = device(alloc)?;
     let mut sizes = String::new(alloc);
     for value in samples(alloc)? {
-        let answer = method(alloc, &device, Function::Size, &value, [].as_slice());
+        let answer = method(alloc, &device, Function::Size, &value, &Vec::new(alloc));
         sizes.push_str(shown(alloc, answer)?.as_str())?;
         sizes.push(' ')?;
     }
@@ -448,7 +455,7 @@ fn quantities_have_methods(rt: HostRuntime) -> Result<(), Fail> {
     ];
     for (function, object, expected) in rows {
         let object = quantity(alloc, object)?;
-        let answer = method(alloc, &device, function, &object, [].as_slice());
+        let answer = method(alloc, &device, function, &object, &Vec::new(alloc));
         assert_eq!(rt; shown(alloc, answer)?.as_str(), expected);
     }
     let rows = [
@@ -475,17 +482,17 @@ fn quantities_have_methods(rt: HostRuntime) -> Result<(), Fail> {
     for (function, object, argument, expected) in rows {
         let object = quantity(alloc, object)?;
         let argument = quantity(alloc, argument)?;
-        let answer = method(alloc, &device, function, &object, [argument].as_slice());
+        let answer = method(alloc, &device, function, &object, &alone(alloc, argument)?);
         assert_eq!(rt; shown(alloc, answer)?.as_str(), expected);
     }
     let one = quantity(alloc, "1")?;
-    let least = [Value::int(i64::MIN)];
-    let answer = method(alloc, &device, Function::Add, &one, least.as_slice());
+    let least = alone(alloc, Value::int(i64::MIN))?;
+    let answer = method(alloc, &device, Function::Add, &one, &least);
     assert_eq!(rt;
         shown(alloc, answer)?.as_str(),
         "Single(Quantity(Quantity { nanos: -9223372036854775807000000000 }))"
     );
-    let answer = method(alloc, &device, Function::Sub, &one, least.as_slice());
+    let answer = method(alloc, &device, Function::Sub, &one, &least);
     assert_eq!(rt; shown(alloc, answer)?.as_str(), "Overflow");
     Ok(())
 }
@@ -502,7 +509,7 @@ fn versions_have_methods(rt: HostRuntime) -> Result<(), Fail> {
         (Function::Sign, "NoOverload"),
     ];
     for (function, expected) in rows {
-        let answer = method(alloc, &device, function, &object, [].as_slice());
+        let answer = method(alloc, &device, function, &object, &Vec::new(alloc));
         assert_eq!(rt; shown(alloc, answer)?.as_str(), expected);
     }
     let rows = [
@@ -521,7 +528,7 @@ fn versions_have_methods(rt: HostRuntime) -> Result<(), Fail> {
             &device,
             Function::CompareTo,
             &left,
-            [right].as_slice(),
+            &alone(alloc, right)?,
         );
         assert_eq!(rt; shown(alloc, answer)?.as_str(), expected);
     }
