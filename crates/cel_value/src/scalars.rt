@@ -11,12 +11,14 @@ use dra_values::{Duplicate, Table};
 use std::alloc::{AllocError, Global};
 
 impl Value {
+    /// A truth value.
     pub fn bool(truth: bool) -> Value
         ensures { result ≡ spec.truth truth }
     {
         Value::Single(Single::Bool(truth))
     }
 
+    /// A whole number.
     pub fn int(number: i64) -> Value
         ensures { result ≡ spec.int number }
     {
