@@ -1,5 +1,5 @@
 -- Whole numbers of 64 bits in 128 bits: nothing is lost on the way, nor by one product or quotient.
-use Rattle.std.proofs.Common.{◌≡◌, ℕ, zero, suc, ◌+◌, ◌*◌, ◌/◌, ◌^◌, ◌<◌, ◌≤◌, ℤ, pos, negsuc, neg_ℤ, ◌*ℤ◌, int_div, int_rem, unsigned_abs, FitsSigned, to_z, of_z, w64, Bool, true, false, refl, ap, ◌∙◌, sym, arith, rules}
+use Rattle.std.proofs.Common.{◌≡◌, ℕ, zero, suc, ◌/◌, ◌^◌, ◌≤◌, ℤ, pos, negsuc, neg_ℤ, ◌*ℤ◌, int_div, unsigned_abs, FitsSigned, to_z, of_z, w64, false, refl, ap, ◌∙◌, arith, rules}
 use Rattle.std.proofs.Math.Facts.{sfits_widen}
 use Rattle.std.proofs.Math.Nat.{div-le_self}
 use Rattle.std.proofs.lemmas.Int.{to_z-of_z, fits_signed_mul, fits_signed_from_abs}

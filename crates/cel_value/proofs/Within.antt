@@ -1,5 +1,5 @@
 -- Where a text is looked for in another, from one byte to the next.
-use Rattle.std.proofs.Common.{◌≡◌, ℕ, suc, ◌+◌, ◌-◌, ◌<◌, List, ◌∷◌, length, take, drop, get_or, drop-cons, Bool, false, ap, sym, ◌∙◌, add-one, arith}
+use Rattle.std.proofs.Common.{◌≡◌, ℕ, suc, ◌+◌, ◌-◌, ◌<◌, List, ◌∷◌, length, take, drop, get_or, drop-cons, false, ap, sym, ◌∙◌, add-one}
 use Rattle.std.proofs.lemmas.List.{take_rest}
 use Rattle.cel_value.specs.Functions.{begins, contains}
 

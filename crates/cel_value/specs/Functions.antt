@@ -1,5 +1,5 @@
 -- What each function means on values. A call that no row names is NoOverload.
-use Rattle.std.specs.Prelude.{ℕ, length, take, drop, ℤ, pos, neg_ℤ, ◌+ℤ◌, ◌-ℤ◌, ◌*ℤ◌, int_div, int_rem, int_le, nat_eq, List, [], ◌∷◌, Bool, true, false, ◌&&◌, ◌||◌, is_ok, Result, Ok, Err, if◌then◌else◌}
+use Rattle.std.specs.Prelude.{ℕ, length, ℤ, pos, neg_ℤ, ◌+ℤ◌, ◌-ℤ◌, ◌*ℤ◌, int_div, int_rem, int_le, nat_eq, List, [], ◌∷◌, Bool, ◌&&◌, ◌||◌, is_ok, Result, Ok, Err, if◌then◌else◌}
 use Rattle.std.specs.Str.{chars}
 use Rattle.std.specs.List.{starts_with, ends_with}
 use Rattle.std.specs.Ordering.{int_cmp, int_eq, is_lt, is_gt}

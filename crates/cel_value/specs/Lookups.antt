@@ -1,5 +1,5 @@
 -- What stands in a device, in a list and in a map.
-use Rattle.std.specs.Prelude.{ℕ, ℤ, pos, negsuc, nat_eq, List, [], ◌∷◌, ◌++◌, map, filter, Bool, true, false, is_some, option_map, slice_get, Option, Some, None, Result, Ok, Err, if◌then◌else◌, codes}
+use Rattle.std.specs.Prelude.{ℕ, ℤ, pos, negsuc, List, [], ◌∷◌, ◌++◌, map, Bool, is_some, option_map, slice_get, Option, Some, None, Result, Ok, Err, if◌then◌else◌, codes}
 use Rattle.std.specs.Str.{bytes_eq}
 use Rattle.std.specs.List.{list_any}
 use Rattle.std.specs.BTreeMap.{is_at}
@@ -7,7 +7,7 @@ use Rattle.std.specs.Map.{lookup, keys_of}
 use Rattle.std.specs.Ordering.{int_cmp, nat_cmp, bool_cmp, ordering_then}
 use Rattle.std.specs.Cmp.Lexicographic.{slice_cmp}
 use Rattle.std.specs.declared.cmp.Ordering.{Ordering}
-use Rattle.std.specs.declared.cmp.Ordering.TheVariants.{Less, Equal, Greater}
+use Rattle.std.specs.declared.cmp.Ordering.TheVariants.{Less, Greater}
 use Rattle.object_fields.specs.declared.qualified.QualName.{QualName}
 use Rattle.cel_tree.specs.declared.types.Facet.{Facet}
 use Rattle.cel_tree.specs.declared.types.Facet.TheVariants.{Attributes, Capacities}

@@ -1,5 +1,5 @@
 -- What values are: answers and errors, truth, weight, elements as keys and keys as values.
-use Rattle.std.specs.Prelude.{◌≡◌, ℕ, ◌+◌, ◌-◌, ◌^◌, length, sum_by, ℤ, pos, neg_ℤ, int_le, int_lt, ◌&&◌, List, [], ◌∷◌, Bool, true, false, Result, Ok, Err, if◌then◌else◌}
+use Rattle.std.specs.Prelude.{◌≡◌, ℕ, ◌+◌, ◌-◌, ◌^◌, length, sum_by, ℤ, pos, neg_ℤ, int_le, int_lt, ◌&&◌, List, Bool, Result, Ok, Err, if◌then◌else◌}
 use Rattle.cel_tree.specs.Ast.{Constant, Null, Truth, Whole, Bytes}
 use Rattle.cel_value.specs.declared.error.EvalError.{EvalError}
 use Rattle.cel_value.specs.declared.error.EvalError.TheVariants.{NoKey, NoOverload, Overflow, DivByZero, OutOfRange, BadConversion, Memory}

@@ -1,4 +1,4 @@
-use Rattle.std.proofs.Common.{rules, ◌∙◌}
+use Rattle.std.proofs.Common.{◌∙◌}
 use Rattle.cel_value.proofs.Keys.{found_same}
 use Rattle.cel_value.proofs.lookups.at_key.Goals as goal
 

@@ -1,4 +1,4 @@
-use Rattle.std.proofs.Common.{rules, ◌∙◌, ap}
+use Rattle.std.proofs.Common.{◌∙◌, ap}
 use Rattle.std.specs.Prelude.{is_some}
 use Rattle.cel_value.proofs.Keys.{found_same}
 use Rattle.cel_value.proofs.lookups.has_key.Goals as goal

@@ -1,4 +1,4 @@
-use Rattle.std.proofs.Common.{rules, ◌∙◌, ap, Ok}
+use Rattle.std.proofs.Common.{◌∙◌, ap, Ok}
 use Rattle.cel_value.proofs.Keys.{entries_same}
 use Rattle.cel_value.proofs.operators.same.Goals as goal
 
