@@ -1,0 +1,105 @@
+-- What was gathered of the front of a list, with what is read of the rest.
+use Rattle.std.proofs.Common.{◌≡◌, ℕ, ◌+◌, ◌<◌, List, [], ◌∷◌, ◌++◌, Bool, true, false, length, drop, get_or, map, arith, refl, ap, sym, ◌∙◌, append_assoc}
+use Rattle.std.proofs.lemmas.List.{drop_more}
+use Rattle.std.specs.Prelude.{Result, Ok, Err}
+use Rattle.std.specs.BTreeMap.{insert_entry}
+use Rattle.std.specs.declared.cmp.Ordering.{Ordering}
+use Rattle.cel_tree.specs.declared.tree.Tree.{Tree}
+use Rattle.cel_tree.specs.declared.tree.Entry.{Entry}
+use Rattle.cel_tree.specs.Ast.{Ast, Asts, End, More, Entries, NoEntry, Pair, tree_view, entry_view, asts_of, entries_of}
+use Rattle.cel_value.specs.declared.value.Single.{Single}
+use Rattle.cel_value.specs.declared.value.Key.{Key}
+use Rattle.cel_value.specs.declared.value.Key.TheVariants as key
+use Rattle.cel_value.specs.contracts.value.KeyOrd as key_ord
+use Rattle.cel_value.specs.declared.value.Value.{Value}
+use Rattle.cel_value.specs.declared.error.EvalError.{EvalError}
+use Rattle.cel_value.specs.Device.{Device}
+use Rattle.cel_value.specs.Values.{◌>>=◌}
+use Rattle.cel_value.specs.Lookups.{key_cmp}
+use Rattle.cel_meaning.specs.Folds.{as_single, as_key}
+use Rattle.cel_meaning.specs.Steps.{behind}
+use Rattle.cel_meaning.specs.Meaning.{Bindings, means, items_of}
+use Rattle.cel_meaning.specs.Meaning as meaning
+use Rattle.cel_meaning.specs.Cost.{cost, items_steps, entries_steps}
+
+-- items in front of those that are read
+abbrev pub behind_all : {A : Type 0} → List A → Result (List A) EvalError → Result (List A) EvalError
+behind_all xs rest = rest >>= λ ys. Ok (xs ++ ys)
+
+behind-more : {A : Type 0} (xs : List A) (x : A) (r : Result (List A) EvalError) → behind_all (xs ++ x ∷ []) r ≡ behind_all xs (r >>= λ ys. Ok (x ∷ ys))
+behind-more xs x (Ok ys) = ap Ok (append_assoc xs (x ∷ []) ys)
+behind-more xs x (Err e) = refl
+
+-- the list of trees, or of entries, from a place on
+pub rest_at : (xs : List Tree) (i : ℕ) (t : Tree) → t ≡ get_or xs i t → i < length xs → asts_of (map tree_view (drop i xs)) ≡ More (tree_view t) (asts_of (map tree_view (drop (i + 1) xs)))
+rest_at xs i t e h = ap (λ (ys : List Tree). asts_of (map tree_view ys)) (drop_more xs i t h ∙ ap (λ u. u ∷ drop (i + 1) xs) (sym e))
+
+pub entries_at : (xs : List Entry) (i : ℕ) (t : Entry) → t ≡ get_or xs i t → i < length xs →
+    entries_of (map entry_view (drop i xs)) ≡ Pair (tree_view t.key) (tree_view t.value) (entries_of (map entry_view (drop (i + 1) xs)))
+entries_at xs i t e h = ap (λ (ys : List Entry). entries_of (map entry_view ys)) (drop_more xs i t h ∙ ap (λ u. u ∷ drop (i + 1) xs) (sym e))
+
+-- ---- the items of a list literal
+
+pub items-step : (device : Device) (names : Bindings) (xs : List Tree) (i : ℕ) (t : Tree) (front front' : List Single) (x : Single) (whole : Result (List Single) EvalError) →
+    t ≡ get_or xs i t → i < length xs → as_single (means device names (tree_view t)) ≡ Ok x → front' ≡ front ++ x ∷ [] →
+    behind_all front (items_of device names (asts_of (map tree_view (drop i xs)))) ≡ whole →
+    behind_all front' (items_of device names (asts_of (map tree_view (drop (i + 1) xs)))) ≡ whole
+items-step device names xs i t front front' x whole e h found put w =
+    let rest : Result (List Single) EvalError = items_of device names (asts_of (map tree_view (drop (i + 1) xs))) in
+    ap (λ (f : List Single). behind_all f rest) put
+    ∙ behind-more front x rest
+    ∙ ap (λ (r : Result Single EvalError). behind_all front (r >>= λ y. rest >>= λ ys. Ok (y ∷ ys))) (sym found)
+    ∙ ap (λ ts. behind_all front (items_of device names ts)) (sym (rest_at xs i t e h)) ∙ w
+
+pub items-count : (device : Device) (names : Bindings) (xs : List Tree) (i : ℕ) (t : Tree) (x : Single) (old new whole : ℕ) →
+    t ≡ get_or xs i t → i < length xs → as_single (means device names (tree_view t)) ≡ Ok x → new ≡ old + cost device names (tree_view t) →
+    old + items_steps device names (asts_of (map tree_view (drop i xs))) ≡ whole →
+    new + items_steps device names (asts_of (map tree_view (drop (i + 1) xs))) ≡ whole
+items-count device names xs i t x old new whole e h found rose w =
+    let n : ℕ = items_steps device names (asts_of (map tree_view (drop (i + 1) xs))) in
+    let at : items_steps device names (asts_of (map tree_view (drop i xs))) ≡ cost device names (tree_view t) + n =
+    ap (λ ts. items_steps device names ts) (rest_at xs i t e h)
+    ∙ ap (λ (r : Result Single EvalError). cost device names (tree_view t) + behind r (λ y. n)) found in
+    omega arith
+
+-- ---- the entries of a map literal
+
+-- the order of keys that Rust derives is that of the definition
+key_order : (k l : Key) → (key_ord.TheImpl.cmp-value).it k l ≡ key_cmp k l
+key_order (key.Int m) (key.Int n) = refl
+key_order (key.Int m) (key.Bool b) = refl
+key_order (key.Int m) (key.Text t) = refl
+key_order (key.Bool a) (key.Int n) = refl
+key_order (key.Bool a) (key.Bool b) = refl
+key_order (key.Bool a) (key.Text t) = refl
+key_order (key.Text s) (key.Int n) = refl
+key_order (key.Text s) (key.Bool b) = refl
+key_order (key.Text s) (key.Text t) = refl
+
+put-in-order : (table : List (Key × Single)) (k : Key) (x : Single) → insert_entry ((key_ord.TheImpl.cmp-value).it) table k x ≡ insert_entry key_cmp table k x
+put-in-order table k x = λ i. insert_entry (λ (a b : Key). key_order a b i) table k x
+
+pub entries-step : (device : Device) (names : Bindings) (xs : List Entry) (i : ℕ) (t : Entry) (table table' : List (Key × Single)) (k : Key) (x : Single) (whole : Result (List (Key × Single)) EvalError) →
+    t ≡ get_or xs i t → i < length xs → as_key (means device names (tree_view t.key)) ≡ Ok k → as_single (means device names (tree_view t.value)) ≡ Ok x →
+    table' ≡ insert_entry ((key_ord.TheImpl.cmp-value).it) table k x →
+    meaning.entries_of device names table (entries_of (map entry_view (drop i xs))) ≡ whole →
+    meaning.entries_of device names table' (entries_of (map entry_view (drop (i + 1) xs))) ≡ whole
+entries-step device names xs i t table table' k x whole e h keyed found put w =
+    let rest : Entries = entries_of (map entry_view (drop (i + 1) xs)) in
+    ap (λ (f : List (Key × Single)). meaning.entries_of device names f rest) (put ∙ put-in-order table k x)
+    ∙ ap (λ (r : Result Single EvalError). r >>= λ y. meaning.entries_of device names (insert_entry key_cmp table k y) rest) (sym found)
+    ∙ ap (λ (r : Result Key EvalError). r >>= λ q. as_single (means device names (tree_view t.value)) >>= λ y. meaning.entries_of device names (insert_entry key_cmp table q y) rest) (sym keyed)
+    ∙ ap (λ es. meaning.entries_of device names table es) (sym (entries_at xs i t e h)) ∙ w
+
+pub entries-count : (device : Device) (names : Bindings) (xs : List Entry) (i : ℕ) (t : Entry) (k : Key) (x : Single) (old mid new whole : ℕ) →
+    t ≡ get_or xs i t → i < length xs → as_key (means device names (tree_view t.key)) ≡ Ok k → as_single (means device names (tree_view t.value)) ≡ Ok x →
+    mid ≡ old + cost device names (tree_view t.key) → new ≡ mid + cost device names (tree_view t.value) →
+    old + entries_steps device names (entries_of (map entry_view (drop i xs))) ≡ whole →
+    new + entries_steps device names (entries_of (map entry_view (drop (i + 1) xs))) ≡ whole
+entries-count device names xs i t k x old mid new whole e h keyed found rose again w =
+    let n : ℕ = entries_steps device names (entries_of (map entry_view (drop (i + 1) xs))) in
+    let at : entries_steps device names (entries_of (map entry_view (drop i xs))) ≡ cost device names (tree_view t.key) + (cost device names (tree_view t.value) + n) =
+    ap (λ es. entries_steps device names es) (entries_at xs i t e h)
+    ∙ ap (λ (r : Result Key EvalError). cost device names (tree_view t.key) + behind r (λ q. cost device names (tree_view t.value) + behind (as_single (means device names (tree_view t.value))) (λ y. n))) keyed
+    ∙ ap (λ (r : Result Single EvalError). cost device names (tree_view t.key) + (cost device names (tree_view t.value) + behind r (λ y. n))) found in
+    omega arith

@@ -1,0 +1,5 @@
+pub mod Bodies
+pub mod Folding
+pub mod Fronts
+pub mod Methods
+pub mod Stops

@@ -1,0 +1,82 @@
+ghost use Rattle.std.specs.Prelude.{◌≡◌, option_map, option_copied};
+ghost use Rattle.cel_tree.specs.Ast.{tree_view};
+ghost use Rattle.cel_tree.specs.Typing.{is_ident, is_bind, variable_of};
+ghost use Rattle.cel_meaning.specs.Meaning.{look_up, is_device, named};
+ghost use Rattle.cel_value.specs.Values.{Gives};
+ghost use Rattle.cel_eval.specs.Answers.{bindings};
+
+use cel_tree::{Kind, Tree};
+use cel_value::{EvalError, Value};
+use dra_values::Duplicate;
+use std::alloc::Global;
+
+/// The names that are bound with their values, the innermost first. Takes no memory of its own.
+#[derive(Clone, Copy)]
+pub enum Scope<'a> {
+    Top,
+    Bound(&'a str, &'a Value, &'a Scope<'a>),
+}
+
+impl<'a> Scope<'a> {
+    /// The value of the innermost that is bound by the name.
+    pub fn find(&self, name: &str) -> Option<&'a Value>
+        ensures { option_copied result ≡ look_up name.now (bindings self.now) }
+    {
+        match self {
+            Scope::Top => None,
+            Scope::Bound(bound, value, outer) => {
+                if *bound == name {
+                    Some(value)
+                } else {
+                    outer.find(name)
+                }
+            }
+        }
+    }
+
+    /// What a name means alone, copied. `device` means nothing alone.
+    pub fn value_of(&self, alloc: Global, name: &str) -> Result<Value, EvalError>
+        ensures { Gives result (named (look_up name.now (bindings self.now))) }
+    {
+        match self.find(name) {
+            Some(value) => match value.duplicate(alloc) {
+                Ok(value) => Ok(value),
+                Err(_) => Err(EvalError::Memory),
+            },
+            None => Err(EvalError::NoOverload),
+        }
+    }
+
+    /// Whether the tree is `device`, where no bound name hides it.
+    pub fn is_device(&self, tree: &Tree) -> bool
+        ensures { result ≡ is_device (bindings self.now) (tree_view tree.now) }
+    {
+        is_ident(tree, "device") && self.find("device").is_none()
+    }
+}
+
+fn is_ident(tree: &Tree, name: &str) -> bool
+    ensures { result ≡ is_ident name.now (tree_view tree.now) }
+{
+    match &tree.kind {
+        Kind::Ident(ident) => ident.as_str() == name,
+        _ => false,
+    }
+}
+
+/// Whether a method is `cel.bind`.
+pub fn is_bind(object: &Tree, function: &str) -> bool
+    ensures { result ≡ is_bind (tree_view object.now) function.now }
+{
+    is_ident(object, "cel") && function == "bind"
+}
+
+/// The variable of a macro: an identifier.
+pub fn variable_of(tree: &Tree) -> Option<&str>
+    ensures { option_map (λ x. x.now) result ≡ variable_of (tree_view tree.now) }
+{
+    match &tree.kind {
+        Kind::Ident(name) => Some(name.as_str()),
+        _ => None,
+    }
+}
