@@ -1,13 +1,21 @@
-ghost use Rattle.std.specs.Prelude.{◌≡◌, ◌≤◌};
+ghost use Rattle.std.specs.Prelude.{◌≡◌, ◌≢◌, ◌≤◌, [], IfOk};
 ghost use Rattle.cel_tree.specs.Ast.{tree_view};
 ghost use Rattle.cel_tree.specs.Estimate.{Estimate};
+ghost use Rattle.cel_value.specs.declared.error.EvalError.TheVariants.{Memory};
+ghost use Rattle.cel_meaning.specs.Cost.{cost};
+ghost use Rattle.device_match.specs.declared.verdict.Cause.TheVariants.{Error};
+ghost use Rattle.device_match.specs.declared.verdict.Verdict.TheVariants.{Fault};
 ghost use Rattle.device_match.specs.Compiles.{Compiles, Checks, priced_of};
+ghost use Rattle.device_match.specs.Matches.{match_of};
 
+use crate::verdict::{Cause, Verdict, verdict_of};
 use cel_check::{CheckError, check};
 use cel_cost::estimate;
+use cel_eval::{Steps, eval};
 use cel_parse::{ParseError, parse};
 use cel_tree::{Checked, Tree};
-use std::alloc::Global;
+use cel_value::{DeviceEnv, EvalError};
+use std::alloc::{AllocError, Global};
 use std::marker::Model;
 use thiserror::Error;
 
@@ -64,6 +72,22 @@ impl Compiled {
             Ok(tree) => selector(tree),
             Err(ParseError::Memory) => Err(CompileError::Memory),
             Err(error) => Err(CompileError::Parse(error)),
+        }
+    }
+
+    /// What the selector says of a device: Yes exactly where it is true, No exactly where it is false,
+    /// and else Fault with the error or with NotBool. The one error is want of memory, and no Fault
+    /// has it. The evaluation takes at most 1,000,000 steps.
+    pub fn matches(&self, alloc: Global, device: &DeviceEnv) -> Result<Verdict, AllocError>
+        ensures verdict { IfOk result (λ v. v ≡ match_of device.now self.now.tree) }
+        ensures no_memory { IfOk result (λ v. v ≢ Fault (Error Memory)) }
+        ensures bounded { cost device.now [] self.now.tree ≤ 1000000 }
+    {
+        let mut steps = Steps { count: 0 };
+        match eval(alloc, device, self.tree(), &mut steps) {
+            Ok(value) => Ok(verdict_of(&value)),
+            Err(EvalError::Memory) => Err(AllocError),
+            Err(error) => Ok(Verdict::Fault(Cause::Error(error))),
         }
     }
 

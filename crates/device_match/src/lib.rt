@@ -1,10 +1,14 @@
 //! Selectors of devices: texts that were compiled, with a bound on the steps of their evaluation
-//! (CELDeviceSelector of the Kubernetes API reference).
+//! (CELDeviceSelector of the Kubernetes API reference), and what they say of a device.
 #![tactic(auto)]
 
 mod compiled;
+mod verdict;
 
 pub use compiled::{CompileError, Compiled, MOST_STEPS};
+pub use verdict::{Cause, Verdict};
 
 #[cfg(test)]
 mod tests;
+#[cfg(test)]
+mod verdict_tests;

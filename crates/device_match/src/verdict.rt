@@ -1,0 +1,38 @@
+ghost use Rattle.std.specs.Prelude.{◌≡◌, Ok};
+ghost use Rattle.device_match.specs.Matches as spec;
+
+use cel_value::{EvalError, Single, Value};
+use thiserror::Error;
+
+/// What a selector says of a device.
+#[derive(Clone, Copy, Debug, PartialEq, Eq, Drop)]
+pub enum Verdict {
+    /// It is true of the device.
+    Yes,
+    /// It is false of the device.
+    No,
+    /// It is neither.
+    Fault(Cause),
+}
+
+/// Why a selector is neither true nor false of a device.
+#[derive(Clone, Copy, Debug, PartialEq, Eq, Drop, Error)]
+pub enum Cause {
+    /// It has no value on the device. The error is never Memory.
+    #[error(transparent)]
+    Error(EvalError),
+    /// It has a value on the device other than true and false, as an expression of type dyn may.
+    #[error("neither true nor false")]
+    NotBool,
+}
+
+/// The verdict by the value of a selector.
+pub(crate) fn verdict_of(value: &Value) -> Verdict
+    ensures { result ≡ spec.verdict_of (Ok value.now) }
+{
+    match value {
+        Value::Single(Single::Bool(true)) => Verdict::Yes,
+        Value::Single(Single::Bool(false)) => Verdict::No,
+        _ => Verdict::Fault(Cause::NotBool),
+    }
+}
