@@ -117,7 +117,7 @@ module _ (most : ℕ) (e : Span) where
   pub whole_fault : (ts : List Lexeme) (s : Span) → reading most e ts begun ≡ Fault s → Unfit e ts s
   whole_fault ts s f = fault_sound [] ts begun s start (λ more. refl) f
 
-fits : (most : ℕ) (u : Ast) → nat_le (depth u) most ≡ true → Shallow u (depth u) ≡ cut most u
+pub fits : (most : ℕ) (u : Ast) → nat_le (depth u) most ≡ true → Shallow u (depth u) ≡ cut most u
 unfolding cut
 fits most u h = sym (ap (λ (b : Bool). if b then Shallow u (depth u) else Deep) h)
 
@@ -125,7 +125,7 @@ fits_not : (most : ℕ) (u : Ast) → nat_le (depth u) most ≡ false → Deep �
 unfolding cut
 fits_not most u h = sym (ap (λ (b : Bool). if b then Shallow u (depth u) else Deep) h)
 
-is_le : (n m : ℕ) → n ≤ m → nat_le n m ≡ true
+pub is_le : (n m : ℕ) → n ≤ m → nat_le n m ≡ true
 is_le n m h = grind (arith, nat_tests)
 
 le_is : (n m : ℕ) → nat_le n m ≡ true → n ≤ m

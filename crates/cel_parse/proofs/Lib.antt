@@ -7,3 +7,4 @@ pub mod Behind
 pub mod Viable
 pub mod Exact
 pub mod Lexing
+pub mod OfGrammar

@@ -4,3 +4,4 @@ pub mod Operands
 pub mod Steps
 pub mod Answer
 pub mod Text
+pub mod Trees

@@ -12,7 +12,7 @@ mod step;
 mod text;
 mod value;
 
-pub use run::{ParseError, has_one_tree, parse_tokens};
+pub use run::{ParseError, has_one_tree, parse_tokens, trees_are_of_the_grammar};
 pub use text::{MOST_BYTES, parse};
 
 #[cfg(test)]

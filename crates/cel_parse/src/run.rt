@@ -1,9 +1,11 @@
-ghost use Rattle.std.specs.Prelude.{◌≡◌, List, IfOk, map};
-ghost use Rattle.cel_lex.specs.Tokens.{Lexeme, lexeme};
-ghost use Rattle.cel_tree.specs.Ast.{Ast};
+ghost use Rattle.std.specs.Prelude.{◌≡◌, ◌≤◌, ℕ, nat_lt, false, List, length, None, Some, IfOk, map};
+ghost use Rattle.cel_lex.specs.Tokens.{Lexeme, lexeme, lex_of};
+ghost use Rattle.cel_tree.specs.Ast.{Ast, depth};
 ghost use Rattle.cel_parse.specs.Steps.{reading, begun, reading_of};
 ghost use Rattle.cel_parse.specs.Grammar.{Has};
 ghost use Rattle.cel_parse.specs.Answer.{Parsed};
+ghost use Rattle.cel_parse.specs.Text.{left_out, is_crowded};
+ghost use Rattle.cel_parse.specs.Trees.{Tells, tree_of, tree_read};
 
 use crate::part::Part;
 use crate::state::{Due, Mode, Stack};
@@ -62,7 +64,8 @@ fn read(alloc: Global, tokens: &[Token], end: Span) -> Result<Result<Part, Span>
 /// that no expression begins with the tokens up to and with it, or at the end of the text.
 #[tactic(auto, using(crate::proofs::Exact::parses))]
 pub fn parse_tokens(alloc: Global, tokens: &[Token], end: usize) -> Result<Tree, ParseError>
-    ensures { Parsed (record { start = end; end = end }) (map lexeme tokens.now) result }
+    ensures answer { Parsed (record { start = end; end = end }) (map lexeme tokens.now) result }
+    ensures trees { Tells (tree_read (reading 64 (record { start = end; end = end }) (map lexeme tokens.now) begun)) result }
 {
     let end = Span { start: end, end };
     match read(alloc, tokens, end) {
@@ -72,6 +75,16 @@ pub fn parse_tokens(alloc: Global, tokens: &[Token], end: usize) -> Result<Tree,
         Err(_) => Err(ParseError::Memory),
     }
 }
+
+/// The tree of a text is the one that the grammar gives its tokens, and a text that is short, of whose
+/// tokens none is left out and at most 64 brackets stand open, and whose tokens have a tree of at most
+/// 64 levels, has that tree.
+pub fn trees_are_of_the_grammar()
+    ensures tree { (text : List ℕ) (t : Ast) → tree_of text ≡ Some t → Has 0 (lex_of text).tokens t }
+    ensures every { (text : List ℕ) (t : Ast) → nat_lt 10240 (length text) ≡ false → (lex_of text).error ≡ None →
+        left_out None (lex_of text).tokens ≡ None → is_crowded 0 (lex_of text).tokens ≡ false →
+        Has 0 (lex_of text).tokens t → depth t ≤ 64 → tree_of text ≡ Some t }
+{}
 
 /// A list of tokens has at most one tree.
 pub fn has_one_tree()

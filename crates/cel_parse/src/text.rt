@@ -1,6 +1,7 @@
 ghost use Rattle.std.specs.Prelude.{◌≡◌, ◌≤◌, map, length, option_map, None};
 ghost use Rattle.cel_lex.specs.Tokens.{lexeme, lex_of};
 ghost use Rattle.cel_parse.specs.Text.{Parses, Lexes, Scanned, is_optional, is_leading, is_name, is_left_out, left_out, open_at, is_crowded};
+ghost use Rattle.cel_parse.specs.Trees.{Tells, tree_in, tree_of};
 
 use crate::run::{ParseError, parse_tokens};
 use crate::step::span_of;
@@ -20,8 +21,10 @@ const MOST_OPEN: usize = 64;
 /// profile leaves out; Deep, where more than 64 brackets of any kind stand open at one token;
 /// Unexpected, at the first token such that no expression begins with the tokens up to and with it,
 /// or at the end of the text; Deep, where the tree is more than 64 levels deep.
+#[tactic(auto, unfolding(crate::specs::Trees::tree_of))]
 pub fn parse(alloc: Global, text: &str) -> Result<Tree, ParseError>
-    ensures { Parses text.now result }
+    ensures answer { Parses text.now result }
+    ensures trees { Tells (tree_of text.now) result }
 {
     if text.len() > MOST_BYTES {
         return Err(ParseError::Long);
@@ -31,7 +34,8 @@ pub fn parse(alloc: Global, text: &str) -> Result<Tree, ParseError>
 }
 
 fn parse_read(alloc: Global, tokens: &[Token], end: usize) -> Result<Tree, ParseError>
-    ensures { Scanned (record { start = end; end = end }) (map lexeme tokens.now) result }
+    ensures answer { Scanned (record { start = end; end = end }) (map lexeme tokens.now) result }
+    ensures trees { Tells (tree_in (record { start = end; end = end }) (map lexeme tokens.now)) result }
 {
     if let Some(span) = find_left_out(tokens) {
         return Err(ParseError::NotSupported(span));
