@@ -1,1 +1,4 @@
 pub mod Given
+pub mod Matched
+pub mod Deciding
+pub mod Valued

@@ -1,2 +1,5 @@
 pub mod Compiles
 pub mod Matches
+pub mod Selectors
+pub mod Devices
+pub mod Match

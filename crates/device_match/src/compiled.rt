@@ -1,4 +1,4 @@
-ghost use Rattle.std.specs.Prelude.{◌≡◌, ◌≢◌, ◌≤◌, [], IfOk};
+ghost use Rattle.std.specs.Prelude.{◌≡◌, ◌≢◌, ◌≤◌, [], IfOk, Some};
 ghost use Rattle.cel_tree.specs.Ast.{tree_view};
 ghost use Rattle.cel_tree.specs.Estimate.{Estimate};
 ghost use Rattle.cel_value.specs.declared.error.EvalError.TheVariants.{Memory};
@@ -7,6 +7,7 @@ ghost use Rattle.device_match.specs.declared.verdict.Cause.TheVariants.{Error};
 ghost use Rattle.device_match.specs.declared.verdict.Verdict.TheVariants.{Fault};
 ghost use Rattle.device_match.specs.Compiles.{Compiles, Checks, priced_of};
 ghost use Rattle.device_match.specs.Matches.{match_of};
+ghost use Rattle.device_match.specs.Selectors.{Stands, cheap, selector_in, selector_of};
 
 use crate::verdict::{Cause, Verdict, verdict_of};
 use cel_check::{CheckError, check};
@@ -64,9 +65,10 @@ impl Compiled {
     /// The errors come in this order: Parse, where the text is no expression; Check, where the
     /// expression has no type or one that a selector can't have; CostTooHigh, with the estimate,
     /// where that is over 1,000,000.
-    #[tactic(auto, using(crate::proofs::Given::given))]
+    #[tactic(auto, using(crate::proofs::Given::given, crate::proofs::Given::stood, crate::proofs::Given::refused))]
     pub fn compile(alloc: Global, text: &str) -> Result<Compiled, CompileError>
-        ensures { Compiles text.now result }
+        ensures answer { Compiles text.now result }
+        ensures stands { Stands (selector_of text.now) result }
     {
         match parse(alloc, text) {
             Ok(tree) => selector(tree),
@@ -102,7 +104,8 @@ impl Compiled {
 
 /// The tree as a selector.
 fn selector(tree: Tree) -> Result<Compiled, CompileError>
-    ensures { Checks (tree_view tree) result }
+    ensures answer { Checks (tree_view tree) result }
+    ensures stands { Stands (selector_in (Some (tree_view tree))) result }
 {
     match check(tree) {
         Ok(tree) => priced(tree),
@@ -113,7 +116,8 @@ fn selector(tree: Tree) -> Result<Compiled, CompileError>
 
 /// The checked tree as a selector, unless it may take too many steps.
 fn priced(tree: Checked) -> Result<Compiled, CompileError>
-    ensures { result ≡ priced_of tree }
+    ensures answer { result ≡ priced_of tree }
+    ensures stands { Stands (cheap tree) result }
 {
     let steps = estimate(&tree);
     if steps > MOST_STEPS {

@@ -3,11 +3,21 @@
 #![tactic(auto)]
 
 mod compiled;
+mod device;
+mod matching;
+mod selector;
 mod verdict;
 
 pub use compiled::{CompileError, Compiled, MOST_STEPS};
+pub use device::device_env;
+pub use matching::{Match, match_both};
+pub use selector::DeviceSelector;
 pub use verdict::{Cause, Verdict};
 
+#[cfg(test)]
+mod device_tests;
+#[cfg(test)]
+mod matching_tests;
 #[cfg(test)]
 mod tests;
 #[cfg(test)]

@@ -74,7 +74,7 @@ fn name(alloc: Global, id: &str) -> Result<QualName, AllocError> {
 }
 
 /// A device as the driver of NVIDIA lists it.
-fn nvidia(alloc: Global) -> Result<DeviceEnv, Fail> {
+pub(crate) fn nvidia(alloc: Global) -> Result<DeviceEnv, Fail> {
     let product = Text::from_str(alloc, "NVIDIA A100-SXM4-40GB")?;
     let capability = semver::Version::parse(alloc, "8.0.0")?;
     let mut attributes = Table::new(alloc);
