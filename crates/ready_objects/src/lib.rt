@@ -1,0 +1,13 @@
+//! Classes and claims whose selectors are compiled.
+#![tactic(auto)]
+
+mod claim;
+mod class;
+mod compile;
+mod laws;
+#[cfg(test)]
+mod tests;
+
+pub use claim::ReadyClaim;
+pub use class::ReadyClass;
+pub use laws::selectors_decide;
