@@ -1,5 +1,5 @@
 -- What each change leaves of the devices that claims hold.
-use Rattle.std.proofs.Common.{ℕ, zero, suc, ◌<◌, ◌≡◌, ◌≢◌, ◌∙◌, ◌⊎◌, inl, inr, ⊎_elim, get_or, List, [], ◌∷◌, ◌++◌, Bool, true, false, true≢false, cond, ◌||◌, Option, None, Some, length, refl, sym, ap, subst, arith, drop}
+use Rattle.std.proofs.Common.{ℕ, zero, suc, ◌<◌, ◌≡◌, ◌≢◌, ◌∙◌, ◌⊎◌, inl, inr, ⊎_elim, get_or, List, [], ◌∷◌, ◌++◌, Bool, true, false, true≢false, cond, ◌||◌, Option, None, Some, map, length, refl, sym, ap, subst, arith, drop}
 use Rattle.std.specs.List.{Contains, flat_map, slice_get}
 use Rattle.std.specs.Map.{lookup, set_value}
 use Rattle.std.specs.Option.{option_map, option_map_or}
@@ -28,9 +28,9 @@ use Rattle.std.proofs.lemmas.Bool.{and_from}
 use Rattle.std.specs.List.{list_any}
 use Rattle.std.specs.Cmp.Lexicographic.{texts_ties}
 use Rattle.alloc_rules.specs.State.{as_published, created, empty_state, IsAbsent, with_bound, with_grant, with_grants, with_object, with_reserved, with_written, written_by}
-use Rattle.alloc_rules.specs.Pools.{devices_held, held, held_by}
+use Rattle.alloc_rules.specs.Pools.{devices_held, held, held_by, id_in}
 use Rattle.alloc_rules.specs.Claims.{add_ungranted, add_wanted, claim_keys, first_places, wanted, wanted_of}
-use Rattle.alloc_rules.specs.Rules.{grants_for, results_for}
+use Rattle.alloc_rules.specs.Rules.{ids_of, grants_for, results_for}
 use Rattle.alloc_rules.specs.Plans.{Holds}
 use Rattle.alloc_rules.specs.Held.{HeldOnce}
 use Rattle.alloc_rules.proofs.Picked.{Contains-from_get}
@@ -399,15 +399,28 @@ once_written place pod claim s h = once_same s (with_written place pod claim s) 
 pub once_bound : (pod : Key) (node : List ℕ) (s : State) → HeldOnce s → HeldOnce (with_bound pod node s)
 once_bound pod node s h = once_same s (with_bound pod node s) h refl
 
+-- what a map has at a place is made of what stands there
+mapped_at : {X Y : Type 0} (f : X → Y) (xs : List X) (i : ℕ) (y : Y) → slice_get (map f xs) i ≡ Some y → (x : X) × (slice_get xs i ≡ Some x) × (f x ≡ y)
+mapped_at f [] i y e = absurd (cc)
+mapped_at f (x ∷ xs) zero y e = let same : f x ≡ y = cc in (x, refl, same)
+mapped_at f (x ∷ xs) (suc i) y e = mapped_at f xs i y e
+
 pub once_reserved : (s : State) (job : ℕ) (pod : Key) (plan : Plan) → Holds s pod plan → HeldOnce s → HeldOnce (with_reserved job pod plan s)
 unfolding held wanted
 once_reserved s job pod plan holds h =
     let a = holds.allocation in
     let ks = first_places [] (claim_keys holds.state.pod.object) in
     let cs = wanted_of s ks in
-    let free : Disjoint a.devices (held_in s.claims) = λ d c g. a.exclusive c.0 d (slice_get-get_or a.devices c.0 d c.1 ∙ ap (λ (w : DeviceId). Some w) c.2) g in
-    let after : Apart (held_in (with_grants plan.node pod (grants_for cs a.devices) s.claims)) =
-    grants_apart plan.node pod cs a.devices s.claims (each_wanted s ks) (apart_wanted s (claim_keys holds.state.pod.object) []) (apart_of s h) (apart_from a.devices a.distinct) free in
+    let ids = ids_of a.devices in
+    let differ : (i j : ℕ) (d e : DeviceId) → i < j → slice_get ids i ≡ Some d → slice_get ids j ≡ Some e → d ≢ e = λ i j d e under f g same.
+    let x = mapped_at id_in a.devices i d f in
+    let y = mapped_at id_in a.devices j e g in
+    a.distinct i j x.0 y.0 under x.1 y.1 (x.2 ∙ same ∙ sym y.2) in
+    let free : Disjoint ids (held_in s.claims) = λ d c g.
+    let x = mapped_at id_in a.devices c.0 d (slice_get-get_or ids c.0 d c.1 ∙ ap (λ (w : DeviceId). Some w) c.2) in
+    a.exclusive c.0 x.0 x.1 (subst (λ (w : DeviceId). Contains (held_in s.claims) w) (sym x.2) g) in
+    let after : Apart (held_in (with_grants plan.node pod (grants_for cs ids) s.claims)) =
+    grants_apart plan.node pod cs ids s.claims (each_wanted s ks) (apart_wanted s (claim_keys holds.state.pod.object) []) (apart_of s h) (apart_from ids differ) free in
     once_from (with_reserved job pod plan s) (subst (λ (gs : List Grant). Apart (held_in (with_grants plan.node pod gs s.claims))) (sym a.in_order) after)
 
 -- ---- what it says of two claims

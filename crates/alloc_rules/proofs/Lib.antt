@@ -10,3 +10,5 @@ pub mod Wanted
 pub mod Bridge
 pub mod Decided
 pub mod Holding
+pub mod Faults
+pub mod Matched

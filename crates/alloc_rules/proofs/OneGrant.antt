@@ -1,11 +1,10 @@
 -- How many claims a true plan grants.
-use Rattle.std.proofs.Common.{ℕ, ◌≤◌, ◌+◌, ◌≡◌, ◌∙◌, List, [], ◌∷◌, Bool, true, false, cond, ◌&&◌, Option, None, Some, map, length, refl, sym, ap, arith, drop}
+use Rattle.std.proofs.Common.{ℕ, ◌≤◌, ◌+◌, ◌≡◌, ◌∙◌, List, [], ◌∷◌, Bool, true, false, cond, Option, None, Some, length, refl, sym, ap, arith, drop}
 use Rattle.std.specs.List.{list_any}
 use Rattle.std.proofs.lemmas.Bool.{and_parts}
 use Rattle.object_fields.specs.declared.key.Key.{Key}
 use Rattle.object_fields.specs.declared.key.DeviceId.{DeviceId}
 use Rattle.api_claim.specs.declared.types.ResourceClaim.{ResourceClaim}
-use Rattle.api_cluster.specs.declared.types.Pod.{Pod}
 use Rattle.alloc_rules.specs.declared.state.State.{State}
 use Rattle.alloc_rules.specs.declared.state.PodState.{PodState}
 use Rattle.alloc_rules.specs.declared.state.ClaimState.{ClaimState}
@@ -14,7 +13,7 @@ use Rattle.alloc_rules.specs.declared.plan.Plan.{Plan}
 use Rattle.alloc_rules.specs.Names.{key_eq, at_key}
 use Rattle.alloc_rules.specs.Pools.{devices_on}
 use Rattle.alloc_rules.specs.Claims.{claim_keys, first_places, add_ungranted, add_wanted, wanted_of, wanted, is_idle, claims_built, pod_built, schedule_built}
-use Rattle.alloc_rules.specs.Rules.{devices_picked, grants_for}
+use Rattle.alloc_rules.specs.Rules.{devices_picked, grants_for, ids_of}
 use Rattle.alloc_rules.specs.Plans.{PlanTrue}
 
 cond_le : (b : Bool) (xs ys : List Key) (n : ℕ) → length xs ≤ n → length ys ≤ n → length (cond b xs ys) ≤ n
@@ -62,4 +61,4 @@ pub one_grant : (s : State) (pod : Key) (plan : Plan) → PlanTrue s pod plan �
 one_grant s pod plan t =
     let le = wanted_le s pod t.state t.idle.there t.built in
     let len = ap length t.grants in
-    omega (arith, le, len, grants_len (wanted s t.state.pod.object) (devices_picked (devices_on s plan.node) t.item.positions))
+    omega (arith, le, len, grants_len (wanted s t.state.pod.object) (ids_of (devices_picked (devices_on s plan.node) t.item.positions)))

@@ -4,7 +4,7 @@ use Rattle.std.specs.List.{AllByRecursion, Contains, find, slice_get}
 use Rattle.std.proofs.lemmas.Option.{slice_get_within, get_or_from_slice_get, slice_get_read}
 use Rattle.std.proofs.lemmas.List.Folds.{find_at}
 use Rattle.std.specs.List.{position_or_len}
-use Rattle.object_fields.specs.declared.key.DeviceId.{DeviceId}
+use Rattle.alloc_rules.specs.Pools.{Offered}
 use Rattle.alloc_rules.specs.Rules.{add_device, devices_picked}
 
 pub there : {X : Type 0} (xs : List X) (i : ℕ) → i < length xs → (x : X) × (slice_get xs i ≡ Some x)
@@ -22,10 +22,10 @@ pub recursion_from_gets : {X : Type 0} (P : X → Type 0) (xs : List X) → ((i 
 recursion_from_gets P [] h = tt
 recursion_from_gets P (x ∷ xs) h = (h 0 x refl, recursion_from_gets P xs (λ i y e. h (suc i) y e))
 
-pub picked_cons : (ds : List DeviceId) (x : ℕ) (xs : List ℕ) (d : DeviceId) → slice_get ds x ≡ Some d → devices_picked ds (x ∷ xs) ≡ d ∷ devices_picked ds xs
+pub picked_cons : (ds : List Offered) (x : ℕ) (xs : List ℕ) (d : Offered) → slice_get ds x ≡ Some d → devices_picked ds (x ∷ xs) ≡ d ∷ devices_picked ds xs
 picked_cons ds x xs d e = ap (λ o. add_device o (devices_picked ds xs)) e
 
-pub length_picked : (ds : List DeviceId) (l : List ℕ) → AllByRecursion (λ x. x < length ds) l → length (devices_picked ds l) ≡ length l
+pub length_picked : (ds : List Offered) (l : List ℕ) → AllByRecursion (λ x. x < length ds) l → length (devices_picked ds l) ≡ length l
 length_picked ds [] h = refl
 length_picked ds (x ∷ xs) h =
     let t = there ds x h.0 in
@@ -34,7 +34,7 @@ length_picked ds (x ∷ xs) h =
     omega (arith, e, r)
 
 -- a device that was picked stands at its position
-pub picked_at : (ds : List DeviceId) (l : List ℕ) → AllByRecursion (λ x. x < length ds) l → (i : ℕ) (d : DeviceId) → slice_get (devices_picked ds l) i ≡ Some d → (i < length l) × (slice_get ds (get_or l i 0) ≡ Some d)
+pub picked_at : (ds : List Offered) (l : List ℕ) → AllByRecursion (λ x. x < length ds) l → (i : ℕ) (d : Offered) → slice_get (devices_picked ds l) i ≡ Some d → (i < length l) × (slice_get ds (get_or l i 0) ≡ Some d)
 picked_at ds [] h i d e = absurd (cc)
 picked_at ds (x ∷ xs) h zero d e =
     let t = there ds x h.0 in
@@ -47,7 +47,7 @@ picked_at ds (x ∷ xs) h (suc i) d e =
     (omega (arith, r.0), r.1)
 
 -- devices of a list have positions there
-pub positions_of : (ds devices : List DeviceId) → AllByRecursion (Contains ds) devices → (l : List ℕ) × AllByRecursion (λ x. x < length ds) l × (devices_picked ds l ≡ devices)
+pub positions_of : (ds devices : List Offered) → AllByRecursion (Contains ds) devices → (l : List ℕ) × AllByRecursion (λ x. x < length ds) l × (devices_picked ds l ≡ devices)
 positions_of ds [] h = ([], tt, refl)
 positions_of ds (d ∷ rest) h =
     let r = positions_of ds rest h.1 in

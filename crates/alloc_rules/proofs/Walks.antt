@@ -12,7 +12,7 @@ use Rattle.alloc_rules.specs.declared.plan.Plan.{Plan}
 use Rattle.alloc_rules.specs.Names.{at_name}
 use Rattle.alloc_rules.specs.Pools.{devices_on}
 use Rattle.alloc_rules.specs.Claims.{wanted}
-use Rattle.alloc_rules.specs.Rules.{devices_picked, grants_for, outcome_on, problem_of, walk_on}
+use Rattle.alloc_rules.specs.Rules.{devices_picked, grants_for, ids_of, outcome_on, problem_of, walk_on}
 use Rattle.alloc_rules.specs.Allocation.{IsAllocation}
 use Rattle.alloc_rules.specs.Plans.{Holds, IsUnsat, PlanTrue}
 use Rattle.alloc_rules.proofs.Names.{there_by_name}
@@ -36,7 +36,7 @@ abbrev pub Unfaulteds : Type 0
 Unfaulteds = (p : Problem) (b : ℕ) (x : Item) → outcome b (walk p) ≡ Unsat → Contains (walk p) x → x.mark ≡ Fault → ⊥
 
 pub full_on : Fulls → (s : State) (pod : Pod) (node : List ℕ) (x : Item) → IsSome (at_name s.nodes node) → Contains (walk_on s pod node) x → x.mark ≡ Full
-    → IsAllocation s (wanted s pod) node x.choice (grants_for (wanted s pod) (devices_picked (devices_on s node) x.positions))
+    → IsAllocation s (wanted s pod) node x.choice (grants_for (wanted s pod) (ids_of (devices_picked (devices_on s node) x.positions)))
 unfolding walk_on
 full_on law s pod node x there i m = allocation_from_filling s (wanted s pod) node x.choice x.positions there (law (problem_of s (wanted s pod) node) x i m)
 

@@ -3,40 +3,66 @@ use Rattle.std.specs.Prelude.{ℕ, List, [], ◌∷◌, Bool, true, false, ◌&&
 use Rattle.std.specs.Map.{keys_of}
 use Rattle.object_fields.specs.declared.key.DeviceId.{DeviceId}
 use Rattle.object_fields.specs.declared.key.Key.{Key}
-use Rattle.api_claim.specs.declared.types.DeviceRequest.{DeviceRequest}
+use Rattle.alloc_rules.specs.declared.candidates.Candidate.{Candidate}
 use Rattle.alloc_rules.specs.declared.fit.Fit.{Fit}
 use Rattle.alloc_rules.specs.declared.fit.Fit.TheVariants as fit
 use Rattle.alloc_rules.specs.declared.fit.NodeFit.{NodeFit}
+use Rattle.alloc_rules.specs.declared.plan.Cause.{Cause}
 use Rattle.alloc_rules.specs.declared.plan.Cause.TheVariants as cause
 use Rattle.alloc_rules.specs.declared.plan.Passed.{Passed}
 use Rattle.alloc_rules.specs.declared.plan.Plan.{Plan}
+use Rattle.alloc_rules.specs.declared.plan.SelectorFault.{SelectorFault}
 use Rattle.alloc_rules.specs.declared.state.State.{State}
 use Rattle.alloc_rules.specs.declared.state.PodState.{PodState}
 use Rattle.alloc_rules.specs.Names.{at_key}
-use Rattle.alloc_rules.specs.Pools.{devices_on, is_free}
+use Rattle.alloc_rules.specs.Pools.{Offered, devices_on, id_in, is_free}
 use Rattle.alloc_rules.specs.Claims.{Slot, known_of, slots_of, wanted}
-use Rattle.alloc_rules.specs.Rules.{grants_for, is_met}
+use Rattle.alloc_rules.specs.Candidates.{fault_from, may_take}
+use Rattle.alloc_rules.specs.Match.{fault_at, first_some, is_met}
+use Rattle.alloc_rules.specs.Rules.{grants_for}
 
--- the request of the one result that is due, if one is
-abbrev pub request_due : List Slot → Option DeviceRequest
-request_due [] = None
-request_due (slot ∷ slots) = Some slot.request
+-- the one result that is due, if one is
+abbrev pub slot_due : List Slot → Option Slot
+slot_due [] = None
+slot_due (slot ∷ slots) = Some slot
 
-abbrev pub fit_with : Option DeviceId → Fit
+abbrev pub fit_with : Option Offered → Fit
 fit_with None = fit.Unsat
-fit_with (Some d) = fit.Device d
+fit_with (Some d) = fit.Device (id_in d)
 
--- the first device of the node that meets the request and that no claim holds
-abbrev pub fit_on : State → Option DeviceRequest → List ℕ → Fit
+abbrev pub may_stand : State → Slot → Offered → Bool
+may_stand s slot d = is_met s slot.request d && is_free s (id_in d)
+
+-- the first fault, or else the first device that meets the request and that no claim holds
+abbrev pub fit_by : State → Slot → List Offered → Option SelectorFault → Fit
+fit_by s slot devices (Some fault) = fit.Fault fault
+fit_by s slot devices None = fit_with (find (may_stand s slot) devices)
+
+abbrev pub fit_among : State → Slot → List Offered → Fit
+fit_among s slot devices = fit_by s slot devices (first_some (fault_at s slot) devices)
+
+-- the same from the candidates of a node
+abbrev pub fit_taken : Option Candidate → Fit
+fit_taken None = fit.Unsat
+fit_taken (Some c) = fit.Device c.device
+
+abbrev pub fit_or : State → List Candidate → Option SelectorFault → Fit
+fit_or s candidates (Some fault) = fit.Fault fault
+fit_or s candidates None = fit_taken (find (may_take s) candidates)
+
+abbrev pub fit_from : State → Key → List ℕ → List Candidate → Fit
+fit_from s claim request candidates = fit_or s candidates (first_some (fault_from claim request) candidates)
+
+abbrev pub fit_on : State → Option Slot → List ℕ → Fit
 fit_on s None node = fit.Nothing
-fit_on s (Some r) node = fit_with (find (λ d. is_met s r && is_free s d) (devices_on s node))
+fit_on s (Some slot) node = fit_among s slot (devices_on s node)
 
-abbrev pub node_fit : State → Option DeviceRequest → List ℕ → NodeFit
-node_fit s r node = record { node = node; fit = fit_on s r node }
+abbrev pub node_fit : State → Option Slot → List ℕ → NodeFit
+node_fit s slot node = record { node = node; fit = fit_on s slot node }
 
 -- what the pod finds on each node, in the order of names
 abbrev pub fits_for : State → PodState → List NodeFit
-fits_for s p = map (node_fit s (request_due (slots_of (wanted s p.pod.object)))) (keys_of s.nodes)
+fits_for s p = map (node_fit s (slot_due (slots_of (wanted s p.pod.object)))) (keys_of s.nodes)
 
 abbrev pub fits_by : State → Option PodState → List NodeFit
 fits_by s None = []
@@ -50,13 +76,21 @@ abbrev pub is_fit : Fit → Bool
 is_fit fit.Nothing = true
 is_fit (fit.Device d) = true
 is_fit fit.Unsat = false
+is_fit (fit.Fault fault) = false
 
 -- the node may be taken
 abbrev pub is_found : NodeFit → Bool
 is_found f = is_fit f.fit
 
+-- why a node isn't taken
+abbrev pub cause_of : Fit → Cause
+cause_of fit.Nothing = cause.Unsat
+cause_of (fit.Device d) = cause.Unsat
+cause_of fit.Unsat = cause.Unsat
+cause_of (fit.Fault fault) = cause.Fault fault
+
 abbrev pub pass : NodeFit → Passed
-pass f = record { node = f.node; cause = cause.Unsat }
+pass f = record { node = f.node; cause = cause_of f.fit }
 
 -- the nodes before the first that may be taken
 abbrev pub passed_over : List NodeFit → List Passed
@@ -67,6 +101,7 @@ abbrev pub devices_for : Fit → List DeviceId
 devices_for fit.Nothing = []
 devices_for (fit.Device d) = d ∷ []
 devices_for fit.Unsat = []
+devices_for (fit.Fault fault) = []
 
 -- the plan that takes one of the fits
 unfoldable pub plan_with : State → PodState → ℕ → List NodeFit → NodeFit → Plan

@@ -1,8 +1,12 @@
 pub mod Names
 pub mod Plain
+pub mod Ready
 pub mod State
 pub mod Pools
 pub mod Claims
+pub mod Match
+pub mod Candidates
+pub mod Faults
 pub mod Rules
 pub mod Allocation
 pub mod Plans

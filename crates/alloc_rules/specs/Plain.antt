@@ -12,7 +12,6 @@ use Rattle.api_claim.specs.declared.types.DeviceRequest.{DeviceRequest}
 use Rattle.api_claim.specs.declared.types.RequestKind.{RequestKind}
 use Rattle.api_claim.specs.declared.types.RequestKind.TheVariants.{Exactly, FirstAvailable}
 use Rattle.api_claim.specs.declared.types.ResourceClaim.{ResourceClaim}
-use Rattle.api_cluster.specs.declared.types.DeviceClass.{DeviceClass}
 
 -- ---- slices
 
@@ -27,33 +26,27 @@ abbrev pub named_node : SliceNodes → Option (List ℕ)
 named_node (slice.Nodes nodes) = node_named nodes
 named_node slice.PerDevice = None
 
--- ---- classes
-
--- each device is of the class
-abbrev pub is_plain_class : DeviceClass → Bool
-is_plain_class c = length c.selectors == 0
-
 -- ---- claims
 
 abbrev pub is_one : AllocationMode → Bool
 is_one (mode.ExactCount n) = n == 1
 is_one mode.All = false
 
--- the class, where one device of it is asked for, and any
-abbrev pub class_asked : DeviceAsk → Option (List ℕ)
-class_asked ask = if is_one ask.mode && (length ask.selectors == 0) then Some ask.class else None
+-- where one device is asked for
+abbrev pub one_asked : DeviceAsk → Option DeviceAsk
+one_asked ask = if is_one ask.mode then Some ask else None
 
-abbrev pub class_of_kind : RequestKind → Option (List ℕ)
-class_of_kind (Exactly r) = if r.admin then None else class_asked r.ask
-class_of_kind (FirstAvailable rs) = None
+abbrev pub asked_by_kind : RequestKind → Option DeviceAsk
+asked_by_kind (Exactly r) = if r.admin then None else one_asked r.ask
+asked_by_kind (FirstAvailable rs) = None
 
--- the class of a request for exactly one device, which is any of its class, without admin access
-abbrev pub plain_class : DeviceRequest → Option (List ℕ)
-plain_class r = class_of_kind r.kind
+-- what a request for exactly one device without admin access asks for
+abbrev pub plain_ask : DeviceRequest → Option DeviceAsk
+plain_ask r = asked_by_kind r.kind
 
 abbrev pub is_one_plain : List DeviceRequest → Bool
 is_one_plain [] = false
-is_one_plain (r ∷ []) = is_some (plain_class r)
+is_one_plain (r ∷ []) = is_some (plain_ask r)
 is_one_plain (r ∷ q ∷ rs) = false
 
 -- one such request, and no constraints

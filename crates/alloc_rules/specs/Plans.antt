@@ -13,11 +13,13 @@ use Rattle.alloc_rules.specs.declared.plan.Cause.TheVariants as cause
 use Rattle.alloc_rules.specs.declared.plan.Grant.{Grant}
 use Rattle.alloc_rules.specs.declared.plan.Passed.{Passed}
 use Rattle.alloc_rules.specs.declared.plan.Plan.{Plan}
+use Rattle.alloc_rules.specs.declared.plan.SelectorFault.{SelectorFault}
 use Rattle.alloc_rules.specs.declared.plan.Verdict.{Verdict}
 use Rattle.alloc_rules.specs.Names.{text_eq, at_key}
 use Rattle.alloc_rules.specs.Pools.{devices_on}
 use Rattle.alloc_rules.specs.Claims.{known_of, schedule_built, wanted}
-use Rattle.alloc_rules.specs.Rules.{devices_picked, grants_for, outcome_on, walk_on}
+use Rattle.alloc_rules.specs.Match.{fault_for}
+use Rattle.alloc_rules.specs.Rules.{devices_picked, grants_for, ids_of, outcome_on, walk_on}
 use Rattle.alloc_rules.specs.Allocation.{IsAllocation}
 
 -- the node has no allocation for the pod, and its walk has no fault
@@ -25,12 +27,21 @@ pub record IsUnsat (s : State) (pod : Pod) (node : List ℕ) : Type 0 where
   pub none : (choice : List ℕ) (grants : List Grant) → IsAllocation s (wanted s pod) node choice grants → ⊥
   pub unfaulted : (x : Item) → Contains (walk_on s pod node) x → x.mark ≡ Fault → ⊥
 
+-- a search of the node within the budget ends at a fault, and this is its place
+pub record IsFault (s : State) (pod : Pod) (budget : ℕ) (node : List ℕ) (fault : SelectorFault) : Type 0 where
+  pub item : Item
+  pub found : outcome_on s pod node budget ≡ Ended item
+  pub ends_so : item.mark ≡ Fault
+  pub place : fault_for s (wanted s pod) node item.choice ≡ Some fault
+
 abbrev pub CauseTrue : State → Pod → List ℕ → Cause → Type 0
 CauseTrue s pod node cause.Unsat = IsUnsat s pod node
+CauseTrue s pod node (cause.Fault fault) = (budget : ℕ) × IsFault s pod budget node fault
 
 -- the cause is what a search answers within the budget
 abbrev pub CauseBy : State → Pod → ℕ → List ℕ → Cause → Type 0
 CauseBy s pod budget node cause.Unsat = outcome_on s pod node budget ≡ Unsat
+CauseBy s pod budget node (cause.Fault fault) = IsFault s pod budget node fault
 
 abbrev pub nodes_of : List Passed → List (List ℕ)
 nodes_of ps = map (λ p. p.node) ps
@@ -56,7 +67,7 @@ pub record PlanTrue (s : State) (pod : Key) (plan : Plan) : Type 0 where
   pub item : Item
   pub first : find ends (walk_on s state.pod.object plan.node) ≡ Some item
   pub full : item.mark ≡ Full
-  pub grants : plan.grants ≡ grants_for (wanted s state.pod.object) (devices_picked (devices_on s plan.node) item.positions)
+  pub grants : plan.grants ≡ grants_for (wanted s state.pod.object) (ids_of (devices_picked (devices_on s plan.node) item.positions))
   pub joins : plan.joins ≡ []
   pub known : plan.known ≡ known_of s state
 

@@ -89,21 +89,32 @@ used_places s = placed s.slices s.slices []
 abbrev pub id_of : ResourceSlice → Device → DeviceId
 id_of x d = record { driver = x.driver; pool = x.pool.name; device = d.name }
 
+-- a device that a slice offers
+pub record Offered : Type 0 where
+  pub slice : ResourceSlice
+  pub device : Device
+
+abbrev pub offered_by : ResourceSlice → Device → Offered
+offered_by x d = record { slice = x; device = d }
+
+abbrev pub id_in : Offered → DeviceId
+id_in o = id_of o.slice o.device
+
 -- the slice names the node
 abbrev pub is_on : Option (List ℕ) → List ℕ → Bool
 is_on None node = false
 is_on (Some n) node = text_eq n node
 
-abbrev pub ids_for : List ℕ → Option (Stored ResourceSlice) → List DeviceId
-ids_for node None = []
-ids_for node (Some e) = if is_on (named_node e.object.nodes) node then map (id_of e.object) e.object.devices else []
+abbrev pub offered_for : List ℕ → Option (Stored ResourceSlice) → List Offered
+offered_for node None = []
+offered_for node (Some e) = if is_on (named_node e.object.nodes) node then map (offered_by e.object) e.object.devices else []
 
 -- the devices of the slice at a place, where it is visible to the node
-abbrev pub devices_at : State → List ℕ → SlicePlace → List DeviceId
-devices_at s node p = ids_for node (at_name s.slices p.slice)
+abbrev pub devices_at : State → List ℕ → SlicePlace → List Offered
+devices_at s node p = offered_for node (at_name s.slices p.slice)
 
 -- all devices visible to the node in usable pools, in order
-unfoldable pub devices_on : State → List ℕ → List DeviceId
+unfoldable pub devices_on : State → List ℕ → List Offered
 devices_on s node = flat_map (devices_at s node) (used_places s)
 
 -- the devices of results without admin access

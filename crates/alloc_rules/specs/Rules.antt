@@ -1,48 +1,34 @@
 -- Which devices may stand for which results, and the search's problem.
 use Rattle.std.specs.Prelude.{ℕ, List, [], ◌∷◌, ◌++◌, Bool, true, false, not, ◌&&◌, Option, None, Some, map, length, drop, slice_get}
 use Rattle.std.specs.List.{list_any}
-use Rattle.walk.specs.Walk.{Problem, Item, Open, walk}
+use Rattle.walk.specs.Walk.{Problem, Item, Shape, Faulty, Open, walk}
 use Rattle.walk.specs.Outcome.{Outcome, outcome}
 use Rattle.object_fields.specs.declared.key.DeviceId.{DeviceId}
 use Rattle.api_claim.specs.declared.types.ResourceClaim.{ResourceClaim}
 use Rattle.api_claim.specs.declared.types.DeviceRequest.{DeviceRequest}
-use Rattle.api_cluster.specs.declared.types.DeviceClass.{DeviceClass}
 use Rattle.api_cluster.specs.declared.types.Pod.{Pod}
 use Rattle.alloc_rules.specs.declared.state.State.{State}
-use Rattle.alloc_rules.specs.declared.state.Stored.{Stored}
 use Rattle.alloc_rules.specs.declared.plan.Grant.{Grant}
 use Rattle.alloc_rules.specs.declared.plan.DeviceResult.{DeviceResult}
-use Rattle.alloc_rules.specs.Names.{device_eq, at_name}
-use Rattle.alloc_rules.specs.Plain.{is_plain_class, plain_class}
-use Rattle.alloc_rules.specs.Pools.{devices_on, is_free}
+use Rattle.alloc_rules.specs.declared.plan.SelectorFault.{SelectorFault}
+use Rattle.alloc_rules.specs.Names.{device_eq}
+use Rattle.alloc_rules.specs.Pools.{Offered, devices_on, id_in, is_free}
 use Rattle.alloc_rules.specs.Claims.{Slot, slots_of, wanted}
-
--- the class is there, and each device is of it
-abbrev pub is_class : Option (Stored DeviceClass) → Bool
-is_class None = false
-is_class (Some c) = is_plain_class c.object
-
-abbrev pub has_class : State → Option (List ℕ) → Bool
-has_class s None = false
-has_class s (Some name) = is_class (at_name s.classes name)
-
--- the request is for any device of a class that is there; each device then meets it
-abbrev pub is_met : State → DeviceRequest → Bool
-is_met s r = has_class s (plain_class r)
+use Rattle.alloc_rules.specs.Match.{fault_for, is_met}
 
 -- the device meets the slot's request, and no claim holds it
-abbrev pub fits : State → Option DeviceId → Option Slot → Bool
+abbrev pub fits : State → Option Offered → Option Slot → Bool
 fits s None slot = false
 fits s (Some d) None = false
-fits s (Some d) (Some slot) = is_met s slot.request && is_free s d
+fits s (Some d) (Some slot) = is_met s slot.request d && is_free s (id_in d)
 
-abbrev pub same_device : Option DeviceId → Option DeviceId → Bool
+abbrev pub same_device : Option Offered → Option Offered → Bool
 same_device None b = false
 same_device (Some a) None = false
-same_device (Some a) (Some b) = device_eq a b
+same_device (Some a) (Some b) = device_eq (id_in a) (id_in b)
 
 -- the device at a position may stand for the next slot, after the positions before it
-abbrev pub stands : State → List DeviceId → List Slot → List ℕ → ℕ → Bool
+abbrev pub stands : State → List Offered → List Slot → List ℕ → ℕ → Bool
 stands s devices slots before x =
     fits s (slice_get devices x) (slice_get slots (length before)) && not (list_any (λ y. same_device (slice_get devices y) (slice_get devices x)) before)
 
@@ -52,18 +38,23 @@ each_after test before [] = true
 each_after test before (x ∷ xs) = test before x && each_after test (before ++ x ∷ []) xs
 
 -- the devices at the positions may stand for the first slots
-unfoldable pub is_good : State → List DeviceId → List Slot → List ℕ → Bool
+unfoldable pub is_good : State → List Offered → List Slot → List ℕ → Bool
 is_good s devices slots l = each_after (stands s devices slots) [] l
 
 -- the one way in which a request with `exactly` is met
 abbrev pub one_option : Slot → ℕ
 one_option slot = 1
 
+-- a request that gives a fault on a device makes the choice faulty
+abbrev pub shape_by : Option SelectorFault → ℕ → Shape
+shape_by (Some fault) slots = Faulty
+shape_by None slots = Open slots
+
 unfoldable pub problem_of : State → List ResourceClaim → List ℕ → Problem
 problem_of s claims node = record {
   options = map one_option (slots_of claims);
   devices = length (devices_on s node);
-  shape = λ c. Open (length (slots_of claims));
+  shape = λ c. shape_by (fault_for s claims node c) (length (slots_of claims));
   good = λ c l. is_good s (devices_on s node) (slots_of claims) l;
 }
 
@@ -75,14 +66,17 @@ walk_on s pod node = walk (problem_of s (wanted s pod) node)
 unfoldable pub outcome_on : State → Pod → List ℕ → ℕ → Outcome
 outcome_on s pod node budget = outcome budget (walk_on s pod node)
 
-abbrev pub add_device : Option DeviceId → List DeviceId → List DeviceId
+abbrev pub add_device : Option Offered → List Offered → List Offered
 add_device None ds = ds
 add_device (Some d) ds = d ∷ ds
 
 -- the devices at the positions
-abbrev pub devices_picked : List DeviceId → List ℕ → List DeviceId
+abbrev pub devices_picked : List Offered → List ℕ → List Offered
 devices_picked devices [] = []
 devices_picked devices (x ∷ xs) = add_device (slice_get devices x) (devices_picked devices xs)
+
+abbrev pub ids_of : List Offered → List DeviceId
+ids_of ds = map id_in ds
 
 abbrev pub results_for : List DeviceRequest → List DeviceId → List DeviceResult
 results_for [] ds = []

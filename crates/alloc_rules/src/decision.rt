@@ -2,7 +2,7 @@ ghost use Rattle.std.specs.Prelude.{◌≡◌, [], ◌∷◌, true, false, find,
 ghost use Rattle.alloc_rules.specs.Names.{at_key};
 ghost use Rattle.alloc_rules.specs.Claims.{add_known, add_wanted, claim_built, claim_keys, claims_built, first_places, known_claim, known_claims, known_of, schedule_built, wanted};
 ghost use Rattle.alloc_rules.specs.Rules.{grants_for, results_for};
-ghost use Rattle.alloc_rules.specs.Fits.{devices_for, fits_for, is_found, passed_over, plan_with};
+ghost use Rattle.alloc_rules.specs.Fits.{cause_of, devices_for, fits_for, is_found, pass, passed_over, plan_with};
 ghost use Rattle.alloc_rules.specs.Decisions.{IsDecision, decision_among};
 
 use crate::fit::{fits_of_pod, key_of_claim};
@@ -22,13 +22,14 @@ use std::alloc::{AllocError, Global};
 pub enum Decision {
     /// To take the pod and grant its claim by this plan.
     Reserve(Plan),
-    /// No node has an allocation for it.
-    Unsatisfiable(Verdict),
+    /// No node is taken for it: each has no allocation, or a selector's fault.
+    Judge(Verdict),
 }
 
 /// Decides on a pod of the form that is built: it takes the first node by name that has an
-/// allocation, with the first device there, or says of each node that it has none. `at` is how many
-/// entries stood in the history whose state this is. `AllocError` comes only where memory runs out.
+/// allocation, with the first device there, or says of each node that it has none, or where a
+/// selector's fault is. `at` is how many entries stood in the history whose state this is.
+/// `AllocError` comes only where memory runs out.
 pub fn decide(alloc: Global, state: &State, pod: &Key, at: u64) -> Result<Decision, AllocError>
     requires { schedule_built state.now pod.now ≡ true }
     ensures { IfOk result (IsDecision state.now pod.now at) }
@@ -64,7 +65,7 @@ fn decide_among(
         Some(found) => Ok(Decision::Reserve(plan(alloc, state, pod, at, fits, found)?)),
         None => {
             let nodes = passed_over(alloc, fits)?;
-            Ok(Decision::Unsatisfiable(Verdict { at, nodes }))
+            Ok(Decision::Judge(Verdict { at, nodes }))
         }
     }
 }
@@ -74,7 +75,7 @@ fn is_found(fit: &NodeFit) -> bool
 {
     match fit.fit {
         Fit::Nothing | Fit::Device(_) => true,
-        Fit::Unsat => false,
+        Fit::Unsat | Fit::Fault(_) => false,
     }
 }
 
@@ -83,6 +84,26 @@ fn first_found(fits: &[NodeFit]) -> Option<&NodeFit>
     ensures { option_copied result ≡ find is_found fits.now }
 {
     fits.iter().find(|fit| is_found(fit))
+}
+
+/// Why a node isn't taken.
+fn cause_of(alloc: Global, fit: &Fit) -> Result<Cause, AllocError>
+    ensures { IfOk result (λ cause. cause ≡ cause_of fit.now) }
+{
+    match fit {
+        Fit::Nothing | Fit::Device(_) | Fit::Unsat => Ok(Cause::Unsat),
+        Fit::Fault(fault) => Ok(Cause::Fault(fault.copy(alloc)?)),
+    }
+}
+
+fn pass(alloc: Global, fit: &NodeFit) -> Result<Passed, AllocError>
+    ensures { IfOk result (λ passed. passed ≡ pass fit.now) }
+{
+    let node = fit.node.copy(alloc)?;
+    Ok(Passed {
+        node,
+        cause: cause_of(alloc, &fit.fit)?,
+    })
 }
 
 /// The nodes before the first that may be taken.
@@ -94,11 +115,7 @@ fn passed_over(alloc: Global, fits: &[NodeFit]) -> Result<Seq<Passed>, AllocErro
         if is_found(fit) {
             return Ok(passed);
         }
-        let node = fit.node.copy(alloc)?;
-        passed.push(Passed {
-            node,
-            cause: Cause::Unsat,
-        })?;
+        passed.push(pass(alloc, fit)?)?;
     }
     Ok(passed)
 }
@@ -143,7 +160,12 @@ fn grants_at(alloc: Global, state: &State, key: &Key, fit: &Fit) -> Result<Seq<G
 {
     match state.claims.get(key) {
         None => Ok(Seq::empty(alloc)),
-        Some(claim) => one_grant(alloc, key, claim.claim.object.requests.as_slice(), fit),
+        Some(claim) => one_grant(
+            alloc,
+            key,
+            claim.claim.object.claim().requests.as_slice(),
+            fit,
+        ),
     }
 }
 
@@ -172,7 +194,7 @@ fn results(
     ensures { IfOk result (λ results. results ≡ results_for requests.now (devices_for fit.now)) }
 {
     match fit {
-        Fit::Nothing | Fit::Unsat => Ok(Seq::empty(alloc)),
+        Fit::Nothing | Fit::Unsat | Fit::Fault(_) => Ok(Seq::empty(alloc)),
         Fit::Device(device) => device_results(alloc, requests, device),
     }
 }

@@ -1,22 +1,27 @@
-ghost use Rattle.std.specs.Prelude.{◌≡◌, [], ◌≤◌, ◌&&◌, true, IfOk, find, length, map, option_copied, Some};
+ghost use Rattle.std.specs.Prelude.{◌≡◌, [], ◌∷◌, ◌≤◌, true, IfOk, length, map, option_copied, None, Some};
 ghost use Rattle.std.specs.Option.{option_to_list};
 ghost use Rattle.std.specs.Map.{keys_of};
 ghost use Rattle.alloc_rules.specs.Names.{at_key};
 ghost use Rattle.alloc_rules.specs.Pools.{used_places};
-ghost use Rattle.alloc_rules.specs.Claims.{add_wanted, claim_built, claim_keys, claims_built, schedule_built, slots_of, wanted};
-ghost use Rattle.alloc_rules.specs.Rules.{has_class, is_met};
-ghost use Rattle.alloc_rules.specs.Fits.{fit_on, fits_for, fits_of, node_fit, request_due};
+ghost use Rattle.ready_objects.specs.Ready.{claim_selectors};
+ghost use Rattle.alloc_rules.specs.Plain.{is_plain_claim, plain_ask};
+ghost use Rattle.alloc_rules.specs.Pools.{devices_on};
+ghost use Rattle.alloc_rules.specs.Candidates.{candidate_by};
+ghost use Rattle.alloc_rules.specs.Claims.{add_wanted, claim_built, claim_keys, claims_built, schedule_built, slots_of};
+ghost use Rattle.alloc_rules.specs.Fits.{fit_from, fit_on, fits_for, fits_of, node_fit, slot_due};
 
-use crate::free::first_free_on;
+use crate::candidates::{Candidate, candidates_on, fault_among, first_free};
 use crate::order::SlicePlace;
-use crate::plain::{is_plain_class, plain_class};
+use crate::plain::plain_ask;
 use crate::pool::places_in_use;
 use crate::state::claim_key;
-use crate::{PodState, State};
-use api_claim::DeviceRequest;
+use crate::{PodState, SelectorFault, State};
+use api_claim::{DeviceAsk, DeviceRequest};
 use api_cluster::Pod;
+use device_match::DeviceSelector;
 use dra_values::{Seq, Text};
 use object_fields::{DeviceId, Key};
+use ready_objects::ReadyClaim;
 use std::alloc::{AllocError, Global};
 use std::collections::BTreeSet;
 
@@ -29,6 +34,8 @@ pub enum Fit {
     Device(DeviceId),
     /// The node has no such device.
     Unsat,
+    /// The request is neither true nor false of a device of the node, and this is the first such.
+    Fault(SelectorFault),
 }
 
 /// A node with what it has for a pod.
@@ -55,9 +62,10 @@ pub fn fits_of_pod(alloc: Global, state: &State, pod: &PodState) -> Result<Seq<N
     requires { claims_built state.now (claim_keys pod.now.pod.object) ≡ true }
     ensures { IfOk result (λ fits. fits ≡ fits_for state.now pod.now) }
 {
-    let request = request_of(alloc, state, &pod.pod.object)?;
-    let places = places_in_use(alloc, state)?;
-    fits_with(alloc, state, &places, request)
+    match key_of_claim(alloc, &pod.pod.object)? {
+        None => fits_of_none(alloc, state),
+        Some(key) => fits_at(alloc, state, &key),
+    }
 }
 
 /// The key of the pod's claim, if it has one.
@@ -71,100 +79,114 @@ pub fn key_of_claim(alloc: Global, pod: &Pod) -> Result<Option<Key>, AllocError>
     }
 }
 
-/// The request of the pod's claim, if it has one.
-fn request_of<'a>(
-    alloc: Global,
-    state: &'a State,
-    pod: &Pod,
-) -> Result<Option<&'a DeviceRequest>, AllocError>
-    requires { claims_built state.now (claim_keys pod.now) ≡ true }
-    ensures { IfOk result (λ request. option_copied request ≡ request_due (slots_of (wanted state.now pod.now))) }
+/// Each node, for a pod that wants no device.
+fn fits_of_none(alloc: Global, state: &State) -> Result<Seq<NodeFit>, AllocError>
+    ensures { IfOk result (λ fits. fits ≡ map (node_fit state.now None) (keys_of state.now.nodes)) }
 {
-    match key_of_claim(alloc, pod)? {
-        None => Ok(None),
-        Some(key) => Ok(request_at(state, &key)),
+    let mut fits = Seq::empty(alloc);
+    for (name, _) in state.nodes.as_map() {
+        let node = name.copy(alloc)?;
+        fits.push(NodeFit {
+            node,
+            fit: Fit::Nothing,
+        })?;
     }
+    Ok(fits)
 }
 
-fn request_at<'a>(state: &'a State, key: &Key) -> Option<&'a DeviceRequest>
+/// What each node has for the one claim of a pod.
+fn fits_at(alloc: Global, state: &State, key: &Key) -> Result<Seq<NodeFit>, AllocError>
     requires { claim_built (at_key state.now.claims key.now) ≡ true }
-    ensures { option_copied result ≡ request_due (slots_of (add_wanted key.now (at_key state.now.claims key.now) [])) }
+    ensures { IfOk result (λ fits. fits ≡ map (node_fit state.now (slot_due (slots_of (add_wanted key.now (at_key state.now.claims key.now) [])))) (keys_of state.now.nodes)) }
 {
     match state.claims.get(key) {
-        None => None,
-        Some(claim) => claim.claim.object.requests.as_slice().first(),
+        None => unreachable!(),
+        Some(claim) => fits_of_claim(alloc, state, key, &claim.claim.object),
     }
 }
 
-fn has_class(state: &State, name: &Text) -> bool
-    ensures { result ≡ has_class state.now (Some name.now) }
+/// The compiled selectors of the one request of a plain claim.
+fn own_selectors(claim: &ReadyClaim) -> &[DeviceSelector]
+    requires { is_plain_claim claim.now ≡ true }
+    ensures { (result.now ∷ []) ∷ [] ≡ claim_selectors claim.now }
 {
-    match state.classes.get(name) {
-        None => false,
-        Some(class) => is_plain_class(&class.object),
-    }
+    claim.selectors()[0].as_slice()[0].as_slice()
 }
 
-fn is_met(state: &State, request: &DeviceRequest) -> bool
-    ensures { result ≡ is_met state.now request.now }
-{
-    match plain_class(request) {
-        None => false,
-        Some(class) => has_class(state, class),
-    }
-}
-
-/// The first device of the node for the request, where these are the places in use.
-fn device_fit(
+fn fits_of_claim(
     alloc: Global,
     state: &State,
-    places: &BTreeSet<SlicePlace>,
-    request: &DeviceRequest,
-    node: &Text,
-) -> Result<Fit, AllocError>
-    requires { places.now.keys ≡ used_places state.now }
-    ensures { IfOk result (λ fit. fit ≡ fit_on state.now (Some request.now) node.now) }
+    key: &Key,
+    claim: &ReadyClaim,
+) -> Result<Seq<NodeFit>, AllocError>
+    requires { is_plain_claim claim.now ≡ true }
+    ensures { IfOk result (λ fits. fits ≡ map (node_fit state.now (slot_due (slots_of (record claim.now { key = key.now } ∷ [])))) (keys_of state.now.nodes)) }
 {
-    if !is_met(state, request) {
-        return Ok(Fit::Unsat);
+    let request = &claim.claim().requests.as_slice()[0];
+    match plain_ask(request) {
+        None => unreachable!(),
+        Some(ask) => fits_of_ask(alloc, state, key, request, ask, own_selectors(claim)),
     }
-    match first_free_on(alloc, state, places, node)? {
-        None => Ok(Fit::Unsat),
-        Some(device) => Ok(Fit::Device(device)),
+}
+
+/// What each node has for a request, in the order of their names; its own selectors are compiled.
+fn fits_of_ask(
+    alloc: Global,
+    state: &State,
+    key: &Key,
+    request: &DeviceRequest,
+    ask: &DeviceAsk,
+    own: &[DeviceSelector],
+) -> Result<Seq<NodeFit>, AllocError>
+    requires ask { plain_ask request.now ≡ Some ask.now }
+    requires own { own.now ≡ ask.now.selectors }
+    ensures { IfOk result (λ fits. fits ≡ map (node_fit state.now (Some (record { claim = key.now; request = request.now }))) (keys_of state.now.nodes)) }
+{
+    let places = places_in_use(alloc, state)?;
+    let mut fits = Seq::empty(alloc);
+    for (name, _) in state.nodes.as_map() {
+        let fit = fit_on(alloc, state, &places, key, request, ask, own, name)?;
+        let node = name.copy(alloc)?;
+        fits.push(NodeFit { node, fit })?;
     }
+    Ok(fits)
 }
 
 fn fit_on(
     alloc: Global,
     state: &State,
     places: &BTreeSet<SlicePlace>,
-    request: Option<&DeviceRequest>,
+    key: &Key,
+    request: &DeviceRequest,
+    ask: &DeviceAsk,
+    own: &[DeviceSelector],
     node: &Text,
 ) -> Result<Fit, AllocError>
-    requires { places.now.keys ≡ used_places state.now }
-    ensures { IfOk result (λ fit. fit ≡ fit_on state.now (option_copied request.entry) node.now) }
+    requires places { places.now.keys ≡ used_places state.now }
+    requires ask { plain_ask request.now ≡ Some ask.now }
+    requires own { own.now ≡ ask.now.selectors }
+    ensures { IfOk result (λ fit. fit ≡ fit_on state.now (Some (record { claim = key.now; request = request.now })) node.now) }
 {
-    match request {
-        None => Ok(Fit::Nothing),
-        Some(request) => device_fit(alloc, state, places, request, node),
-    }
+    let class = state.classes.get(&ask.class);
+    let candidates = candidates_on(alloc, state, places, class, own, node)?;
+    fit_among(alloc, state, key, &request.name, &candidates)
 }
 
-/// What each node has for a request, in the order of their names.
-fn fits_with(
+/// The first fault among the devices of a node, or else the first that may be taken.
+fn fit_among(
     alloc: Global,
     state: &State,
-    places: &BTreeSet<SlicePlace>,
-    request: Option<&DeviceRequest>,
-) -> Result<Seq<NodeFit>, AllocError>
-    requires { places.now.keys ≡ used_places state.now }
-    ensures { IfOk result (λ fits. fits ≡ map (node_fit state.now (option_copied request.entry)) (keys_of state.now.nodes)) }
+    key: &Key,
+    request: &Text,
+    candidates: &[Candidate],
+) -> Result<Fit, AllocError>
+    ensures { IfOk result (λ fit. fit ≡ fit_from state.now key.now request.now candidates.now) }
 {
-    let mut fits = Seq::empty(alloc);
-    for (name, _) in state.nodes.as_map() {
-        let fit = fit_on(alloc, state, places, request, name)?;
-        let node = name.copy(alloc)?;
-        fits.push(NodeFit { node, fit })?;
+    if let Some(fault) = fault_among(alloc, key, request, candidates)? {
+        return Ok(Fit::Fault(fault));
     }
-    Ok(fits)
+    match first_free(state, candidates) {
+        None => Ok(Fit::Unsat),
+        Some(candidate) => Ok(Fit::Device(candidate.device.copy(alloc)?)),
+    }
 }

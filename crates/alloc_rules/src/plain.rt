@@ -2,7 +2,6 @@ ghost use Rattle.std.specs.Prelude.{◌≡◌, option_copied};
 ghost use Rattle.alloc_rules.specs.Plain as plain;
 
 use api_claim::{AllocationMode, DeviceAsk, DeviceRequest, RequestKind, ResourceClaim};
-use api_cluster::DeviceClass;
 use api_slice::{Nodes, SliceNodes};
 use dra_values::Text;
 
@@ -16,13 +15,6 @@ pub fn named_node(nodes: &SliceNodes) -> Option<&Text>
     }
 }
 
-/// Whether each device is of the class: it has no selectors.
-pub fn is_plain_class(class: &DeviceClass) -> bool
-    ensures { result ≡ plain.is_plain_class class.now }
-{
-    class.selectors.as_slice().is_empty()
-}
-
 fn is_one(mode: AllocationMode) -> bool
     ensures { result ≡ plain.is_one mode }
 {
@@ -32,28 +24,24 @@ fn is_one(mode: AllocationMode) -> bool
     }
 }
 
-/// The class, where one device of it is asked for, and any.
-fn class_asked(ask: &DeviceAsk) -> Option<&Text>
-    ensures { option_copied result ≡ plain.class_asked ask.now }
+/// What is asked for, where it is one device.
+fn one_asked(ask: &DeviceAsk) -> Option<&DeviceAsk>
+    ensures { option_copied result ≡ plain.one_asked ask.now }
 {
-    if is_one(ask.mode) && ask.selectors.as_slice().is_empty() {
-        Some(&ask.class)
-    } else {
-        None
-    }
+    if is_one(ask.mode) { Some(ask) } else { None }
 }
 
-/// The class of a request for exactly one device, which is any of its class, without admin access;
-/// None for a request of another form.
-pub fn plain_class(request: &DeviceRequest) -> Option<&Text>
-    ensures { option_copied result ≡ plain.plain_class request.now }
+/// What a request for exactly one device without admin access asks for; None for a request of another
+/// form.
+pub fn plain_ask(request: &DeviceRequest) -> Option<&DeviceAsk>
+    ensures { option_copied result ≡ plain.plain_ask request.now }
 {
     match &request.kind {
         RequestKind::Exactly(exactly) => {
             if exactly.admin {
                 None
             } else {
-                class_asked(&exactly.ask)
+                one_asked(&exactly.ask)
             }
         }
         RequestKind::FirstAvailable(_) => None,
@@ -64,13 +52,13 @@ fn is_one_plain(requests: &[DeviceRequest]) -> bool
     ensures { result ≡ plain.is_one_plain requests.now }
 {
     match requests {
-        [request] => plain_class(request).is_some(),
+        [request] => plain_ask(request).is_some(),
         _ => false,
     }
 }
 
-/// Whether the claim has one request, which is for exactly one device, any of its class, without
-/// admin access, and no constraints.
+/// Whether the claim has one request, which is for exactly one device, without admin access, and no
+/// constraints.
 pub fn is_plain_claim(claim: &ResourceClaim) -> bool
     ensures { result ≡ plain.is_plain_claim claim.now }
 {

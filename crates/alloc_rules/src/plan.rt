@@ -22,11 +22,25 @@ pub struct Grant {
     pub results: Seq<DeviceResult>,
 }
 
+/// A selector that is neither true nor false of a device of a node.
+#[derive(Drop)]
+pub struct SelectorFault {
+    pub claim: Key,
+    /// The name of the result that the request is due.
+    pub request: Text,
+    /// The selector's place among those of the class and then of the request, from 0.
+    pub selector: usize,
+    pub device: DeviceId,
+    pub cause: device_match::Cause,
+}
+
 /// Why a node wasn't taken.
 #[derive(Drop)]
 pub enum Cause {
     /// It has no allocation for the pod.
     Unsat,
+    /// The search of the node ended at a selector's fault.
+    Fault(SelectorFault),
 }
 
 /// A node that wasn't taken.
@@ -96,13 +110,29 @@ impl Duplicate for Grant {
     }
 }
 
+impl SelectorFault {
+    /// An equal fault.
+    pub fn copy(&self, alloc: Global) -> Result<SelectorFault, AllocError>
+        ensures { IfOk result (λ copy. copy ≡ self.now) }
+    {
+        Ok(SelectorFault {
+            claim: self.claim.copy(alloc)?,
+            request: self.request.copy(alloc)?,
+            selector: self.selector,
+            device: self.device.copy(alloc)?,
+            cause: self.cause,
+        })
+    }
+}
+
 impl Cause {
     /// An equal cause.
-    pub fn copy(&self) -> Cause
-        ensures { result ≡ self.now }
+    pub fn copy(&self, alloc: Global) -> Result<Cause, AllocError>
+        ensures { IfOk result (λ copy. copy ≡ self.now) }
     {
         match self {
-            Cause::Unsat => Cause::Unsat,
+            Cause::Unsat => Ok(Cause::Unsat),
+            Cause::Fault(fault) => Ok(Cause::Fault(fault.copy(alloc)?)),
         }
     }
 }
@@ -111,7 +141,7 @@ impl Duplicate for Passed {
     fn duplicate(&self, alloc: Global) -> Result<Passed, AllocError> {
         Ok(Passed {
             node: self.node.copy(alloc)?,
-            cause: self.cause.copy(),
+            cause: self.cause.copy(alloc)?,
         })
     }
 }

@@ -5,12 +5,12 @@ ghost use Rattle.alloc_rules.specs.State.{changed_at, with_phase, with_grant, wi
 
 use crate::plain::is_plain_claim;
 use crate::pool::{MOST_DEVICES, has_room};
-use crate::{DeviceResult, Grant, Object, Plan};
-use api_claim::ResourceClaim;
-use api_cluster::{DeviceClass, Node, Pod, PodResourceClaim};
+use crate::{DeviceResult, Grant, Kept, Object, Plan};
+use api_cluster::{Node, Pod, PodResourceClaim};
 use api_slice::ResourceSlice;
 use dra_values::{Seq, Table, Text};
 use object_fields::Key;
+use ready_objects::{ReadyClaim, ReadyClass};
 use std::alloc::{AllocError, Global};
 
 /// The most users that a claim may have.
@@ -46,7 +46,7 @@ pub enum Use {
 /// A claim with its grant and its users.
 #[derive(Drop)]
 pub struct ClaimState {
-    pub claim: Stored<ResourceClaim>,
+    pub claim: Stored<ReadyClaim>,
     pub grant: Option<Granted>,
     pub users: Table<Key, Use>,
 }
@@ -72,13 +72,14 @@ pub struct PodState {
 pub struct State {
     pub nodes: Table<Text, Stored<Node>>,
     pub slices: Table<Text, Stored<ResourceSlice>>,
-    pub classes: Table<Text, Stored<DeviceClass>>,
+    pub classes: Table<Text, Stored<ReadyClass>>,
     pub claims: Table<Key, ClaimState>,
     pub pods: Table<Key, PodState>,
 }
 
 impl State {
     ghost use Rattle.std.specs.Prelude.{◌≡◌, ◌↔◌, IsTrue, OnOk, OnErr};
+    ghost use Rattle.alloc_rules.specs.Ready.{object_of};
     ghost use Rattle.alloc_rules.specs.State.{empty_state, with_object, IsAbsent};
 
     /// The state in which nothing is there.
@@ -108,39 +109,36 @@ impl State {
     }
 
     /// Puts an object at its name, which the place creates.
-    pub fn put(&mut self, alloc: Global, place: u64, object: &Object) -> Result<(), AllocError>
-        ensures ok { OnOk result (self.new ≡ with_object place object.now self.old) }
+    pub fn put(&mut self, alloc: Global, place: u64, kept: Kept) -> Result<(), AllocError>
+        ensures ok { OnOk result (self.new ≡ with_object place (object_of kept) self.old) }
         ensures err { OnErr result (self.new ≡ self.old) }
     {
-        match object {
-            Object::Node(node) => {
+        match kept {
+            Kept::Node(node) => {
                 let name = node.name.copy(alloc)?;
-                self.nodes
-                    .insert(name, Stored::created(place, node.copy(alloc)?))
+                self.nodes.insert(name, Stored::created(place, node))
             }
-            Object::Slice(slice) => {
+            Kept::Slice(slice) => {
                 let name = slice.name.copy(alloc)?;
-                self.slices
-                    .insert(name, Stored::created(place, slice.copy(alloc)?))
+                self.slices.insert(name, Stored::created(place, slice))
             }
-            Object::Class(class) => {
-                let name = class.name.copy(alloc)?;
-                self.classes
-                    .insert(name, Stored::created(place, class.copy(alloc)?))
+            Kept::Class(class) => {
+                let name = class.class().name.copy(alloc)?;
+                self.classes.insert(name, Stored::created(place, class))
             }
-            Object::Claim(claim) => {
-                let key = claim.key.copy(alloc)?;
+            Kept::Claim(claim) => {
+                let key = claim.claim().key.copy(alloc)?;
                 let claim = ClaimState {
-                    claim: Stored::created(place, claim.copy(alloc)?),
+                    claim: Stored::created(place, claim),
                     grant: None,
                     users: Table::new(alloc),
                 };
                 self.claims.insert(key, claim)
             }
-            Object::Pod(pod) => {
+            Kept::Pod(pod) => {
                 let key = pod.key.copy(alloc)?;
                 let pod = PodState {
-                    pod: Stored::created(place, pod.copy(alloc)?),
+                    pod: Stored::created(place, pod),
                     phase: Phase::Idle,
                 };
                 self.pods.insert(key, pod)
@@ -371,7 +369,7 @@ fn claim_built(claim: Option<&ClaimState>) -> bool
         Some(state) => {
             state.grant.is_none()
                 && state.users.len() < MOST_USERS
-                && is_plain_claim(&state.claim.object)
+                && is_plain_claim(state.claim.object.claim())
         }
     }
 }

@@ -11,7 +11,7 @@ use Rattle.object_fields.specs.declared.error.FieldError.{FieldError}
 use Rattle.object_fields.specs.declared.key.Key.{Key}
 use Rattle.alloc_rules.specs.declared.object.Object.{Object}
 use Rattle.commands.specs.Documents.{document_of, object_kinds, row_of, text_at}
-use Rattle.commands.specs.Objects.{object_of}
+use Rattle.commands.specs.Objects.{ready_object}
 use Rattle.commands.specs.declared.document.ObjectKind.{ObjectKind}
 use Rattle.commands.specs.declared.document.Document.{Document}
 use Rattle.commands.specs.declared.document.Document.TheVariants as is
@@ -83,13 +83,14 @@ is_together d = passes are_together (list_at (codes "commands") d)
 
 -- ---- the commands
 
--- An object that reads is applied; one that doesn't is a command too, with the first error.
+-- An object that reads, and whose selectors compile, is applied; another is a command too, with the
+-- first error.
 abbrev pub applied : Result Object FieldError → Command
 applied (Ok object) = Apply object
 applied (Err e) = Invalid e
 
 abbrev pub apply_of : ObjectKind → Data → Command
-apply_of kind d = applied (object_of kind d)
+apply_of kind d = applied (ready_object kind d)
 
 -- the command that applies the object that a document is, whatever its fields; another applies none
 abbrev pub apply_in : Data → Option Document → Option Command

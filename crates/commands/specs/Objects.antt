@@ -10,6 +10,7 @@ use Rattle.api_cluster.specs.Nodes.{node_of}
 use Rattle.api_cluster.specs.Pods.{pod_of}
 use Rattle.alloc_rules.specs.declared.object.Object.{Object}
 use Rattle.alloc_rules.specs.declared.object.Object.TheVariants as object
+use Rattle.alloc_rules.specs.Ready.{ready_of}
 use Rattle.commands.specs.declared.document.ObjectKind.{ObjectKind}
 use Rattle.commands.specs.declared.document.ObjectKind.TheVariants.{ResourceSlice, DeviceClass, ResourceClaim, Node, Pod}
 
@@ -20,3 +21,8 @@ object_of DeviceClass d = class_of d >>= λ x. Ok (object.Class x)
 object_of ResourceClaim d = claim_of d >>= λ x. Ok (object.Claim x)
 object_of Node d = node_of d >>= λ x. Ok (object.Node x)
 object_of Pod d = pod_of d >>= λ x. Ok (object.Pod x)
+
+-- the object, where it reads and its selectors compile, or the first error: that of a field comes
+-- before those of the selectors
+abbrev pub ready_object : ObjectKind → Data → Result Object FieldError
+ready_object kind d = object_of kind d >>= ready_of

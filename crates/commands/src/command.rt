@@ -5,8 +5,8 @@ ghost use Rattle.commands.specs.Documents as documents;
 
 use crate::document::{Document, ObjectKind, document_of};
 use crate::fields::{has_key, is_delete, is_together, read_key};
-use crate::objects::read_object;
-use alloc_rules::Object;
+use crate::objects::read_ready;
+use alloc_rules::Ready;
 use dra_values::Seq;
 use object_fields::{FieldError, Key, Kind};
 use serde_json::Value;
@@ -17,8 +17,8 @@ use std::str;
 #[derive(Drop)]
 pub enum Command {
     /// Creates the object. The change of one that is there already is not built yet.
-    Apply(Object),
-    /// Applies an object whose fields have this first error.
+    Apply(Ready),
+    /// Applies an object whose fields, or else whose selectors, have this first error.
     Invalid(FieldError),
     /// Schedules the pod of that key.
     Schedule(Key),
@@ -144,8 +144,8 @@ fn apply_item(alloc: Global, value: &Value) -> Result<Option<Command>, AllocErro
 fn apply(alloc: Global, kind: ObjectKind, value: &Value) -> Result<Command, AllocError>
     ensures { IfOk result (λ c. c ≡ spec.apply_of kind (view value.now)) }
 {
-    match read_object(alloc, kind, value) {
-        Ok(object) => Ok(Command::Apply(object)),
+    match read_ready(alloc, kind, value) {
+        Ok(ready) => Ok(Command::Apply(ready)),
         Err(error) => {
             if error.kind == Kind::Memory {
                 Err(AllocError)

@@ -3,7 +3,7 @@ ghost use Rattle.object_fields.specs.Fields.{Reads};
 ghost use Rattle.commands.specs.Objects as spec;
 
 use crate::document::ObjectKind;
-use alloc_rules::Object;
+use alloc_rules::{Object, Ready};
 use api_claim::ResourceClaim;
 use api_cluster::{DeviceClass, Node, Pod};
 use api_slice::ResourceSlice;
@@ -11,8 +11,16 @@ use object_fields::FieldError;
 use serde_json::Value;
 use std::alloc::Global;
 
-/// Reads an object of that kind: the object, or the first error of its fields.
-pub fn read_object(alloc: Global, kind: ObjectKind, value: &Value) -> Result<Object, FieldError>
+/// Reads an object of that kind and compiles its selectors: the object, or the first error of its
+/// fields, or else of its selectors.
+pub fn read_ready(alloc: Global, kind: ObjectKind, value: &Value) -> Result<Ready, FieldError>
+    ensures { Reads result (spec.ready_object kind (view value.now)) }
+{
+    let object = read_object(alloc, kind, value)?;
+    Ready::of(alloc, object)
+}
+
+fn read_object(alloc: Global, kind: ObjectKind, value: &Value) -> Result<Object, FieldError>
     ensures { Reads result (spec.object_of kind (view value.now)) }
 {
     match kind {

@@ -18,6 +18,13 @@ apply Node n1|{"apiVersion":"v1","kind":"Node","metadata":{"name":"n1","labels":
 invalid WrongType metadata|{"apiVersion":"v1","kind":"Pod","metadata":7}
 invalid Missing metadata|{"apiVersion":"resource.k8s.io/v1","kind":"ResourceSlice","spec":[]}
 invalid Missing spec.selectors[0].cel|{"apiVersion":"resource.k8s.io/v1","kind":"DeviceClass","metadata":{"name":"gpu"},"spec":{"selectors":[{}]}}
+apply DeviceClass gpu|{"apiVersion":"resource.k8s.io/v1","kind":"DeviceClass","metadata":{"name":"gpu"},"spec":{"selectors":[{"cel":{"expression":"device.driver == 'gpu.example.com'"}},{"cel":{"expression":"true"}}]}}
+invalid Selector.Parse spec.selectors[0].cel.expression|{"apiVersion":"resource.k8s.io/v1","kind":"DeviceClass","metadata":{"name":"gpu"},"spec":{"selectors":[{"cel":{"expression":"1 +"}},{"cel":{"expression":"1"}}]}}
+invalid Selector.Check spec.selectors[1].cel.expression|{"apiVersion":"resource.k8s.io/v1","kind":"DeviceClass","metadata":{"name":"gpu"},"spec":{"selectors":[{"cel":{"expression":"true"}},{"cel":{"expression":"1"}},{"cel":{"expression":"1 +"}}]}}
+invalid Missing spec.selectors[1].cel|{"apiVersion":"resource.k8s.io/v1","kind":"DeviceClass","metadata":{"name":"gpu"},"spec":{"selectors":[{"cel":{"expression":"1 +"}},{}]}}
+invalid Selector.Check spec.devices.requests[0].exactly.selectors[0].cel.expression|{"apiVersion":"resource.k8s.io/v1","kind":"ResourceClaim","metadata":{"name":"c"},"spec":{"devices":{"requests":[{"name":"gpu","exactly":{"deviceClassName":"gpu","selectors":[{"cel":{"expression":"device.name == 'a'"}}]}}]}}}
+invalid Selector.Parse spec.devices.requests[1].firstAvailable[1].selectors[0].cel.expression|{"apiVersion":"resource.k8s.io/v1","kind":"ResourceClaim","metadata":{"name":"c"},"spec":{"devices":{"requests":[{"name":"gpu","exactly":{"deviceClassName":"gpu"}},{"name":"any","firstAvailable":[{"name":"a","deviceClassName":"gpu","selectors":[{"cel":{"expression":"true"}}]},{"name":"b","deviceClassName":"gpu","selectors":[{"cel":{"expression":")"}}]}]}]}}}
+invalid Unknown spec.devices.constraints[0].requests[0]|{"apiVersion":"resource.k8s.io/v1","kind":"ResourceClaim","metadata":{"name":"c"},"spec":{"devices":{"requests":[{"name":"gpu","exactly":{"deviceClassName":"gpu","selectors":[{"cel":{"expression":"1 +"}}]}}],"constraints":[{"requests":["other"],"matchAttribute":"gpu.example.com/model"}]}}}
 invalid Missing spec|{"apiVersion":"resource.k8s.io/v1","kind":"ResourceClaim","metadata":{"name":"c"}}
 no command|{"apiVersion":"v1","kind":"ResourceSlice","metadata":{"name":"s"}}
 no command|{"apiVersion":"resource.k8s.io/v1","kind":"Node","metadata":{"name":"n1"}}
@@ -118,7 +125,7 @@ fn command_text(alloc: Global, command: &Command) -> Result<String, AllocError> 
         Command::Invalid(error) => format!(in alloc; "invalid {error}"),
         Command::NotBuilt => String::from_str(alloc, "not built"),
         Command::Schedule(key) => format!(in alloc; "schedule {key}"),
-        Command::Apply(object) => object_text(alloc, object),
+        Command::Apply(ready) => object_text(alloc, ready.object()),
     }
 }
 
@@ -159,7 +166,7 @@ fn documents_are_commands_by_the_table(rt: HostRuntime) -> Result<(), Fail> {
             count = count.saturating_add(1);
         }
     }
-    assert_eq!(rt; count, 94);
+    assert_eq!(rt; count, 101);
     let no_text = b"{\"apiVersion\":\"dra.replay/v1\",\"kind\":\"Reopen\",\"of\":\"\xff\"}";
     assert_eq!(rt; asked(rt.alloc(), no_text)?.as_str(), "no command");
     Ok(())

@@ -15,6 +15,8 @@ use std::process::ExitCode;
 use stdio::{StdSink, StdSource};
 
 #[cfg(test)]
+mod rows;
+#[cfg(test)]
 mod tests;
 
 /// The words of this call after the program's name.

@@ -1,6 +1,7 @@
 ghost use Rattle.std.specs.Prelude.{◌<◌, ◌^◌};
 
 use super::*;
+use crate::rows;
 use dra_ports::{MemSink, MemSource, Source};
 use replay_core::replay;
 use std::alloc::Global;
@@ -33,10 +34,6 @@ const SPREAD: &str =
 const SPREAD_LINES: &str = "1 1 applied Node n1\n\
              2 2 applied Node n2\n\
              summary entries=2 commands=2 granted=0 bound=0\n";
-
-const CLASS_WITH_SELECTOR: &str =
-    r#"{"apiVersion":"resource.k8s.io/v1","kind":"DeviceClass","metadata":{"name":"gpu"},"spec":{"selectors":[{"cel":{"expression":"true"}}]}}
-"#;
 
 const SLICE_FOR_ALL_NODES: &str =
     r#"{"apiVersion":"resource.k8s.io/v1","kind":"ResourceSlice","metadata":{"name":"s"},"spec":{"driver":"gpu.example.com","allNodes":true,"pool":{"name":"n1","generation":1,"resourceSliceCount":1}}}
@@ -224,7 +221,6 @@ fn a_replay_stops_at_a_form_that_is_not_done(rt: HostRuntime) -> Result<(), Fail
     let alloc = rt.alloc();
     for document in [
         REOPEN,
-        CLASS_WITH_SELECTOR,
         SLICE_FOR_ALL_NODES,
         SLICE_WITH_COUNTERS,
         CLAIM_FOR_TWO,
@@ -282,6 +278,28 @@ fn an_object_that_does_not_read_is_denied(rt: HostRuntime) -> Result<(), Fail> {
             known(REFUSED_LINES)
         )?
     );
+    Ok(())
+}
+
+#[test]
+fn selectors_choose_devices(rt: HostRuntime) -> Result<(), Fail> {
+    for (script, written) in [
+        (rows::KUBECTL_LIST, rows::KUBECTL_LIST_LINES),
+        (rows::SELECTOR_FAULT, rows::SELECTOR_FAULT_LINES),
+        (rows::SELECTOR_WITH_HAS, rows::SELECTOR_WITH_HAS_LINES),
+        (rows::BAD_SELECTOR, rows::BAD_SELECTOR_LINES),
+        (rows::DEAR_SELECTOR, rows::DEAR_SELECTOR_LINES),
+        (rows::DOUBLED_ATTRIBUTE, rows::DOUBLED_ATTRIBUTE_LINES),
+        (rows::NEGATIVE_COUNT, rows::NEGATIVE_COUNT_LINES),
+        (rows::TOO_MANY_REQUESTS, rows::TOO_MANY_REQUESTS_LINES),
+        (rows::TAINTED_DEVICE, rows::TAINTED_DEVICE_LINES),
+    ] {
+        let script = known(script).as_bytes();
+        assert!(rt;
+            ends(&rt, script, 4096, (0, 0), Status::Done, known(written))?,
+            "{written}"
+        );
+    }
     Ok(())
 }
 

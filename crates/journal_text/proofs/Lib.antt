@@ -1,2 +1,3 @@
+pub mod FaultText
 mod Appended
 mod Printed

@@ -7,7 +7,13 @@ use Rattle.object_fields.specs.Words.{kind_word, path_text}
 use Rattle.alloc_rules.specs.declared.object.Object.{Object}
 use Rattle.alloc_rules.specs.declared.object.Object.TheVariants as object
 use Rattle.alloc_rules.specs.declared.plan.Cause.{Cause}
-use Rattle.alloc_rules.specs.declared.plan.Cause.TheVariants.{Unsat}
+use Rattle.alloc_rules.specs.declared.plan.Cause.TheVariants.{Unsat, Fault}
+use Rattle.alloc_rules.specs.declared.plan.SelectorFault.{SelectorFault}
+use Rattle.cel_value.specs.declared.error.EvalError.{EvalError}
+use Rattle.cel_value.specs.declared.error.EvalError.TheVariants.{NoKey, NoOverload, Overflow, DivByZero, OutOfRange, BadConversion, Memory}
+use Rattle.device_match.specs.declared.verdict.Cause as matched
+use Rattle.device_match.specs.declared.verdict.Cause.TheVariants as why
+use Rattle.ledger_core.specs.Headline.{has_fault}
 use Rattle.alloc_rules.specs.declared.plan.DeviceResult.{DeviceResult}
 use Rattle.alloc_rules.specs.declared.plan.Grant.{Grant}
 use Rattle.alloc_rules.specs.declared.plan.Passed.{Passed}
@@ -37,12 +43,35 @@ abbrev pub listed : {T : Type 0} → (T → List ℕ) → List T → List ℕ
 listed words [] = codes "-"
 listed words (x ∷ xs) = join_by words (codes ",") (x ∷ xs)
 
-abbrev pub cause_word : Cause → List ℕ
-cause_word Unsat = codes "unsat"
+-- why an expression has no value; want of memory stands in no entry
+abbrev pub error_word : EvalError → List ℕ
+error_word NoKey = codes "NoKey"
+error_word NoOverload = codes "NoOverload"
+error_word Overflow = codes "Overflow"
+error_word DivByZero = codes "DivByZero"
+error_word OutOfRange = codes "OutOfRange"
+error_word BadConversion = codes "BadConversion"
+error_word Memory = codes "Memory"
+
+-- why a selector is neither true nor false
+abbrev pub why_word : matched.Cause → List ℕ
+why_word (why.Error e) = error_word e
+why_word why.NotBool = codes "NotBool"
+
+-- a selector's fault: the claim, the request, the selector's place among the class's and then the
+-- request's, the device, and why
+abbrev pub fault_text : SelectorFault → List ℕ
+fault_text f =
+    codes "fault:" ++ key_text f.claim ++ codes ":" ++ f.request ++ codes ":" ++ decimal f.selector
+    ++ codes ":" ++ device_text f.device ++ codes ":" ++ why_word f.cause
+
+abbrev pub cause_text : Cause → List ℕ
+cause_text Unsat = codes "unsat"
+cause_text (Fault f) = fault_text f
 
 -- a node that wasn't taken, and why
 abbrev pub passed_text : Passed → List ℕ
-passed_text x = x.node ++ codes ":" ++ cause_word x.cause
+passed_text x = x.node ++ codes ":" ++ cause_text x.cause
 
 abbrev pub admin_mark : Bool → List ℕ
 admin_mark true = codes "!"
@@ -63,9 +92,13 @@ reserved_text pod plan =
     ++ codes " grants=" ++ listed grant_text plan.grants
     ++ codes " joins=" ++ listed key_text plan.joins
 
+-- `fault` where one node has a fault
+abbrev pub verdict_word : Verdict → List ℕ
+verdict_word verdict = if has_fault verdict then codes "fault" else codes "unsatisfiable"
+
 abbrev pub verdict_text : Key → Verdict → List ℕ
 verdict_text pod verdict =
-    codes "verdict " ++ key_text pod ++ codes " unsatisfiable at=" ++ decimal verdict.at
+    codes "verdict " ++ key_text pod ++ codes " " ++ verdict_word verdict ++ codes " at=" ++ decimal verdict.at
     ++ codes " nodes=" ++ listed passed_text verdict.nodes
 
 -- a refusal: of a document's fields the word of the error and its path, of too many devices how many

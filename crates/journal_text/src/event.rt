@@ -1,8 +1,9 @@
 ghost use Rattle.std.specs.Prelude.{◌≡◌, IfOk, string_bytes};
-ghost use Rattle.journal_text.specs.Journal.{denial_text, event_text, object_text, reserved_text, verdict_text};
+ghost use Rattle.journal_text.specs.Journal.{denial_text, event_text, object_text, reserved_text, verdict_text, verdict_word};
+ghost use Rattle.ledger_core.specs.Headline.{has_fault, is_fault};
 
 use crate::worded::listed;
-use alloc_rules::{MOST_DEVICES, Object, Plan, Verdict};
+use alloc_rules::{Cause, MOST_DEVICES, Object, Plan, Verdict};
 use ledger_core::{Denial, Event};
 use object_fields::Key;
 use std::alloc::{AllocError, Global};
@@ -36,10 +37,35 @@ fn verdict_text(alloc: Global, pod: &Key, verdict: &Verdict) -> Result<String, A
     ensures { IfOk result (λ s. string_bytes s ≡ verdict_text pod.now verdict.now) }
 {
     let nodes = listed(alloc, verdict.nodes.as_slice())?;
-    format!(in alloc;
-        "verdict {pod} unsatisfiable at={} nodes={nodes}",
-        verdict.at
-    )
+    let word = verdict_word(verdict);
+    format!(in alloc; "verdict {pod} {word} at={} nodes={nodes}", verdict.at)
+}
+
+/// `fault` where one node has a selector's fault.
+fn verdict_word(verdict: &Verdict) -> &'static str
+    ensures { result.now ≡ verdict_word verdict.now }
+{
+    if has_fault(verdict) {
+        "fault"
+    } else {
+        "unsatisfiable"
+    }
+}
+
+fn has_fault(verdict: &Verdict) -> bool
+    ensures { result ≡ has_fault verdict.now }
+{
+    let mut nodes = verdict.nodes.as_slice().iter();
+    nodes.any(|passed| is_fault(&passed.cause))
+}
+
+fn is_fault(cause: &Cause) -> bool
+    ensures { result ≡ is_fault cause.now }
+{
+    match cause {
+        Cause::Unsat => false,
+        Cause::Fault(_) => true,
+    }
 }
 
 fn denial_text(alloc: Global, denial: &Denial) -> Result<String, AllocError>

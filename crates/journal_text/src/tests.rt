@@ -1,8 +1,11 @@
 use crate::{line, line_is_one_line, lines, lines_of_more, summary};
-use alloc_rules::{Cause, DeviceResult, Grant, Known, Object, Passed, Plan, Verdict};
+use alloc_rules::{
+    Cause, DeviceResult, Grant, Known, Object, Passed, Plan, SelectorFault, Verdict,
+};
 use api_claim::ResourceClaim;
 use api_cluster::{DeviceClass, Node, Pod};
 use api_slice::{DriverName, Nodes, Pool, ResourceSlice, SliceNodes};
+use cel_value::EvalError;
 use dra_values::{Seq, Table, Text};
 use ledger_core::{Denial, Entry, Event, Ledger};
 use object_fields::{DeviceId, FieldError, Key, Kind, Path, Stage};
@@ -27,14 +30,18 @@ fn passed(alloc: Global, node: &str) -> Result<Passed, AllocError> {
     })
 }
 
-fn picked(alloc: Global, device: &str, admin: bool) -> Result<DeviceResult, AllocError> {
+fn device(alloc: Global, name: &str) -> Result<DeviceId, AllocError> {
+    Ok(DeviceId {
+        driver: text(alloc, "gpu.example.com")?,
+        pool: text(alloc, "n2")?,
+        device: text(alloc, name)?,
+    })
+}
+
+fn picked(alloc: Global, name: &str, admin: bool) -> Result<DeviceResult, AllocError> {
     Ok(DeviceResult {
         name: text(alloc, "gpu")?,
-        device: DeviceId {
-            driver: text(alloc, "gpu.example.com")?,
-            pool: text(alloc, "n2")?,
-            device: text(alloc, device)?,
-        },
+        device: device(alloc, name)?,
         admin,
     })
 }
@@ -244,6 +251,59 @@ fn schedules_have_lines(rt: HostRuntime) -> Result<(), Fail> {
     ];
     for (got, want) in &lines {
         assert_eq!(rt; got.as_slice(), want.as_bytes(), "{want}");
+    }
+    Ok(())
+}
+
+/// The node `n2`, whose search ended at a selector's fault.
+fn faulty(alloc: Global, cause: device_match::Cause) -> Result<Passed, AllocError> {
+    Ok(Passed {
+        node: text(alloc, "n2")?,
+        cause: Cause::Fault(SelectorFault {
+            claim: key(alloc, "c")?,
+            request: text(alloc, "gpu")?,
+            selector: 10,
+            device: device(alloc, "gpu-0")?,
+            cause,
+        }),
+    })
+}
+
+/// The line of a verdict whose second node has a fault.
+fn fault_line(alloc: Global, cause: device_match::Cause) -> Result<Vec<u8>, AllocError> {
+    let nodes = vec![in alloc; passed(alloc, "n1")?, faulty(alloc, cause)?]?;
+    shown(alloc, 12, 10, judged(alloc, nodes)?)
+}
+
+#[test]
+fn faults_have_words(rt: HostRuntime) -> Result<(), Fail> {
+    let alloc = rt.alloc();
+    for (cause, word) in [
+        (device_match::Cause::Error(EvalError::NoKey), "NoKey"),
+        (
+            device_match::Cause::Error(EvalError::NoOverload),
+            "NoOverload",
+        ),
+        (device_match::Cause::Error(EvalError::Overflow), "Overflow"),
+        (
+            device_match::Cause::Error(EvalError::DivByZero),
+            "DivByZero",
+        ),
+        (
+            device_match::Cause::Error(EvalError::OutOfRange),
+            "OutOfRange",
+        ),
+        (
+            device_match::Cause::Error(EvalError::BadConversion),
+            "BadConversion",
+        ),
+        (device_match::Cause::NotBool, "NotBool"),
+    ] {
+        let got = fault_line(alloc, cause)?;
+        let want = format!(in alloc;
+            "12 10 verdict default/q fault at=11 nodes=n1:unsat,n2:fault:default/c:gpu:10:gpu.example.com/n2/gpu-0:{word}\n"
+        )?;
+        assert_eq!(rt; got.as_slice(), want.as_bytes(), "{word}");
     }
     Ok(())
 }

@@ -1,9 +1,10 @@
 ghost use Rattle.std.specs.Prelude.{◌≡◌, ◌++◌, OnOk, IfOk, List, ℕ, string_bytes, codes};
 ghost use Rattle.std.specs.List.{flat_map, join_by};
 ghost use Rattle.object_fields.specs.Keys.{key_text};
-ghost use Rattle.journal_text.specs.Journal.{admin_mark, cause_word, grant_text, listed, passed_text, result_text};
+ghost use Rattle.journal_text.specs.Journal.{admin_mark, cause_text, error_word, fault_text, grant_text, listed, passed_text, result_text, why_word};
 
-use alloc_rules::{Cause, DeviceResult, Grant, Passed};
+use alloc_rules::{Cause, DeviceResult, Grant, Passed, SelectorFault};
+use cel_value::EvalError;
 use object_fields::Key;
 use std::alloc::{AllocError, Global};
 use std::fmt::Write;
@@ -25,11 +26,55 @@ impl Worded for Key {
     }
 }
 
-fn cause_word(cause: &Cause) -> &'static str
-    ensures { result.now ≡ cause_word cause.now }
+fn error_word(error: EvalError) -> &'static str
+    ensures { result.now ≡ error_word error }
 {
-    match cause {
-        Cause::Unsat => "unsat",
+    match error {
+        EvalError::NoKey => "NoKey",
+        EvalError::NoOverload => "NoOverload",
+        EvalError::Overflow => "Overflow",
+        EvalError::DivByZero => "DivByZero",
+        EvalError::OutOfRange => "OutOfRange",
+        EvalError::BadConversion => "BadConversion",
+        EvalError::Memory => "Memory",
+    }
+}
+
+fn why_word(why: device_match::Cause) -> &'static str
+    ensures { result.now ≡ why_word why }
+{
+    match why {
+        device_match::Cause::Error(error) => error_word(error),
+        device_match::Cause::NotBool => "NotBool",
+    }
+}
+
+/// As `fault:claim:request:i:device:error`.
+impl Worded for SelectorFault {
+    ghost words = { fault_text };
+
+    fn push_to(&self, out: &mut String) -> Result<(), AllocError> {
+        write!(
+            out,
+            "fault:{}:{}:{}:{}:{}",
+            self.claim,
+            self.request,
+            self.selector,
+            self.device,
+            why_word(self.cause)
+        )
+    }
+}
+
+/// As `unsat`, or as the fault.
+impl Worded for Cause {
+    ghost words = { cause_text };
+
+    fn push_to(&self, out: &mut String) -> Result<(), AllocError> {
+        match self {
+            Cause::Unsat => Ok(out.push_str("unsat")?),
+            Cause::Fault(fault) => fault.push_to(out),
+        }
     }
 }
 
@@ -38,7 +83,8 @@ impl Worded for Passed {
     ghost words = { passed_text };
 
     fn push_to(&self, out: &mut String) -> Result<(), AllocError> {
-        write!(out, "{}:{}", self.node, cause_word(&self.cause))
+        write!(out, "{}:", self.node)?;
+        self.cause.push_to(out)
     }
 }
 

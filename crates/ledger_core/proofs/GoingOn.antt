@@ -27,7 +27,7 @@ use Rattle.alloc_rules.specs.Names.{text_cmp, key_cmp, at_key}
 use Rattle.alloc_rules.specs.State.{changed_at, with_grants, with_phase, with_reserved, with_written, written_by}
 use Rattle.alloc_rules.specs.Pools.{devices_on}
 use Rattle.alloc_rules.specs.Claims.{claim_keys, first_places, is_idle, claim_built, claims_built, pod_built, schedule_built, wanted, wanted_of, add_wanted, add_ungranted}
-use Rattle.alloc_rules.specs.Rules.{devices_picked, grants_for, results_for}
+use Rattle.alloc_rules.specs.Rules.{devices_picked, grants_for, ids_of, results_for}
 use Rattle.alloc_rules.specs.Plans.{PlanTrue}
 use Rattle.ledger_core.specs.Entry.{GoesOn, MayBind, MayWrite, IsTaken, claims_of, has_written, is_written, use_in, version_by, version_of}
 
@@ -139,5 +139,5 @@ unfolding schedule_built wanted
 goes_on s pod plan job t =
     let p = t.state in
     let built : pod_built s (Some p) ≡ true = sym (ap (pod_built s) t.idle.there) ∙ t.built in
-    goes_on_by s pod plan job p (devices_picked (devices_on s plan.node) t.item.positions) (claim_keys p.pod.object) t.idle.there refl
+    goes_on_by s pod plan job p (ids_of (devices_picked (devices_on s plan.node) t.item.positions)) (claim_keys p.pod.object) t.idle.there refl
     (and_parts (is_idle p.phase) (claims_built s (claim_keys p.pod.object)) built).1 t.grants

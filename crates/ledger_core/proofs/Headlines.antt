@@ -1,11 +1,11 @@
 -- What a legal history says of each of its entries.
-use Rattle.std.proofs.Common.{ℕ, ◌≡◌, ◌∙◌, List, [], ◌∷◌, ◌++◌, true, sym, subst, append_assoc, append-nil}
-use Rattle.std.specs.List.{All, Contains}
+use Rattle.std.proofs.Common.{ℕ, ◌≡◌, ◌∙◌, List, [], ◌∷◌, ◌++◌, Bool, true, false, ◌||◌, refl, sym, subst, append_assoc, append-nil}
+use Rattle.std.specs.List.{All, AllByRecursion, Contains, list_any}
 use Rattle.std.specs.Map.{keys_of}
 use Rattle.std.specs.Option.{IsSome}
 use Rattle.std.specs.Ordering.{eq_by_cmp}
 use Rattle.std.specs.Cmp.Lexicographic.{same_text, texts_ties}
-use Rattle.std.proofs.lemmas.List.Elements.{All-contains, All-map, All-weaker}
+use Rattle.std.proofs.lemmas.List.Elements.{All-contains, All-from_recursion, All-map, recursion_from_All}
 use Rattle.std.proofs.lemmas.Map.Views.{Contains-keys_from_lookup}
 use Rattle.object_fields.specs.declared.key.Key.{Key}
 use Rattle.api_cluster.specs.declared.types.Pod.{Pod}
@@ -24,7 +24,7 @@ use Rattle.ledger_core.specs.declared.entry.Denial.{Denial}
 use Rattle.ledger_core.specs.declared.entry.Entry.{Entry}
 use Rattle.ledger_core.specs.declared.entry.Event.TheVariants.{Reserved, Judged, Denied}
 use Rattle.ledger_core.specs.History.{state_at, state_of, MayReserve, MayJudge, MayDeny, Step, LegalAfter, Legal}
-use Rattle.ledger_core.specs.Headline.{IsGrantOf, IsVerdictOf}
+use Rattle.ledger_core.specs.Headline.{IsGrantOf, IsVerdictOf, has_fault, is_fault}
 use Rattle.ledger_core.proofs.Histories.{state_of-more}
 
 step_after : (before front : List Entry) (e : Entry) (back : List Entry) → LegalAfter before (front ++ e ∷ back) → Step (before ++ front) e
@@ -56,15 +56,30 @@ grant_of before pod plan may =
 pub grant_at : (front back : List Entry) (job : ℕ) (pod : Key) (plan : Plan) → Legal (front ++ record { job = job; event = Reserved pod plan } ∷ back) → IsGrantOf front pod plan
 grant_at front back job pod plan legal = grant_of front pod plan (step_at front (record { job = job; event = Reserved pod plan }) back legal).stands
 
-unsat_by : (s : State) (pod : Pod) (node : List ℕ) (c : Cause) → CauseTrue s pod node c → IsUnsat s pod node
-unsat_by s pod node cause.Unsat h = h
+unsat_by : (s : State) (pod : Pod) (node : List ℕ) (c : Cause) → is_fault c ≡ false → CauseTrue s pod node c → IsUnsat s pod node
+unsat_by s pod node cause.Unsat e h = h
+unsat_by s pod node (cause.Fault fault) e h = absurd (cc)
 
--- each of the nodes that the verdict names has none
-unsat_among : (s : State) (pod : Pod) (ps : List Passed) (node : List ℕ) → All (λ p. CauseTrue s pod p.node p.cause) ps → Contains (nodes_of ps) node → IsUnsat s pod node
-unsat_among s pod ps node causes among =
+-- a node that has no fault has none
+unsat_at : (s : State) (pod : Pod) (ps : List Passed) (p : Passed) → All (λ p. CauseTrue s pod p.node p.cause) ps → Contains ps p → is_fault p.cause ≡ false → IsUnsat s pod p.node
+unsat_at s pod ps p causes among e = unsat_by s pod p.node p.cause e (All-contains (λ (q : Passed). CauseTrue s pod q.node q.cause) ps p causes among)
+
+neither : (b c : Bool) → (b || c) ≡ false → (b ≡ false) × (c ≡ false)
+neither true c e = absurd (cc)
+neither false c e = (refl, e)
+
+all_unsat : (s : State) (pod : Pod) (ps : List Passed) → AllByRecursion (λ p. CauseTrue s pod p.node p.cause) ps → list_any (λ p. is_fault p.cause) ps ≡ false → AllByRecursion (λ p. IsUnsat s pod p.node) ps
+all_unsat s pod [] h e = tt
+all_unsat s pod (p ∷ ps) h e =
+    let n = neither (is_fault p.cause) (list_any (λ q. is_fault q.cause) ps) e in
+    (unsat_by s pod p.node p.cause n.0 h.0, all_unsat s pod ps h.1 n.1)
+
+-- each of the nodes that a verdict without faults names has none
+unsat_among : (s : State) (pod : Pod) (ps : List Passed) (node : List ℕ) → All (λ p. CauseTrue s pod p.node p.cause) ps → list_any (λ p. is_fault p.cause) ps ≡ false → Contains (nodes_of ps) node → IsUnsat s pod node
+unsat_among s pod ps node causes e among =
     All-contains (λ (n : List ℕ). IsUnsat s pod n) (nodes_of ps) node
     (All-map (λ (n : List ℕ). IsUnsat s pod n) (λ (p : Passed). p.node) ps
-    (All-weaker (λ (p : Passed). CauseTrue s pod p.node p.cause) (λ (p : Passed). IsUnsat s pod p.node) (λ p h. unsat_by s pod p.node p.cause h) ps causes))
+    (All-from_recursion (λ (p : Passed). IsUnsat s pod p.node) ps (all_unsat s pod ps (recursion_from_All (λ (p : Passed). CauseTrue s pod p.node p.cause) ps causes) e)))
     among
 
 same_by_cmp : (a b : List ℕ) → eq_by_cmp text_cmp a b ≡ true → a ≡ b
@@ -74,12 +89,12 @@ same_by_cmp a b e = same_text a b (sym (texts_ties a b ∙ e))
 known_by_name : {V : Type 0} (table : List (List ℕ × V)) (name : List ℕ) → IsSome (at_name table name) → Contains (keys_of table) name
 known_by_name table name there = Contains-keys_from_lookup same_by_cmp name table there
 
-verdict_none : (s : State) (pod : Key) (verdict : Verdict) (t : VerdictTrue s pod verdict) (node choice : List ℕ) (grants : List Grant)
+verdict_none : (s : State) (pod : Key) (verdict : Verdict) (t : VerdictTrue s pod verdict) → has_fault verdict ≡ false → (node choice : List ℕ) (grants : List Grant)
     → IsAllocation s (wanted s t.state.pod.object) node choice grants → ⊥
-verdict_none s pod verdict t node choice grants a =
+verdict_none s pod verdict t e node choice grants a =
     let among : Contains (nodes_of verdict.nodes) node =
     subst (λ (names : List (List ℕ)). Contains names node) (sym t.nodes) (known_by_name s.nodes node a.node_known) in
-    (unsat_among s t.state.pod.object verdict.nodes node t.causes among).none choice grants a
+    (unsat_among s t.state.pod.object verdict.nodes node t.causes e among).none choice grants a
 
 verdict_of : (before : List Entry) (pod : Key) (verdict : Verdict) → MayJudge before pod verdict → IsVerdictOf before pod verdict
 verdict_of before pod verdict may =
@@ -87,6 +102,7 @@ verdict_of before pod verdict may =
       at = may.at;
       state = may.true_then.state;
       there = may.true_then.idle.there;
+      unsat = λ p choice grants among e a. (unsat_at (state_at before verdict.at) may.true_then.state.pod.object verdict.nodes p may.true_then.causes among e).none choice grants a;
       none = verdict_none (state_at before verdict.at) pod verdict may.true_then;
     }
 

@@ -6,6 +6,7 @@ use Rattle.alloc_rules.specs.declared.object.Object.{Object}
 use Rattle.alloc_rules.specs.declared.state.State.{State}
 use Rattle.alloc_rules.specs.declared.plan.Plan.{Plan}
 use Rattle.alloc_rules.specs.declared.plan.Verdict.{Verdict}
+use Rattle.alloc_rules.specs.Ready.{IsReady}
 use Rattle.alloc_rules.specs.State.{empty_state, IsAbsent}
 use Rattle.alloc_rules.specs.Plans.{PlanTrue, Holds, VerdictTrue}
 use Rattle.ledger_core.specs.declared.entry.Denial.{Denial}
@@ -43,8 +44,9 @@ stand_from job st n (e ∷ es) = stand_from job (if e.job == job then stand_afte
 unfoldable pub stand_of : List Entry → ℕ → Stand
 stand_of h job = stand_from job Fresh 0 h
 
--- the object isn't there, and there is room for it
+-- the object's selectors compile, it isn't there, and there is room for it
 pub record MayCreate (s : State) (object : Object) : Type 0 where
+  pub valid : IsReady object
   pub absent : IsAbsent s object
   pub room : has_room s object ≡ true
 

@@ -1,5 +1,6 @@
 ghost use Rattle.std.specs.Prelude.{◌≡◌, ◌≤◌, ◌<◌, ◌^◌, ◌+◌, ◌-◌, [], length, ℕ, List, true, IfOk, OnOk, OnErr, IsErrOf, vec_len, option_copied, if◌then◌else◌, ◌==◌};
 ghost use Rattle.std.specs.Vec.{vec_capacity};
+ghost use Rattle.alloc_rules.specs.Ready.{object_of};
 ghost use Rattle.alloc_rules.specs.State.{with_object, with_reserved, IsAbsent};
 ghost use Rattle.alloc_rules.specs.Plans.{PlanTrue, VerdictTrue};
 ghost use Rattle.ledger_core.specs.declared.entry.Denial.TheVariants.{Invalid};
@@ -10,7 +11,9 @@ ghost use Rattle.ledger_core.specs.History.{entry_at, state_of, stand_of, Legal,
 
 use crate::room::make_room;
 use crate::{Denial, Entry, Event, LedgerError, Outcome, Stand};
-use alloc_rules::{Object, Phase, Plan, State, Verdict, grants_at_most_one, plan_holds};
+use alloc_rules::{
+    Kept, Object, Phase, Plan, Ready, ReadyParts, State, Verdict, grants_at_most_one, plan_holds,
+};
 use dra_values::Text;
 use object_fields::{FieldError, Key, Kind};
 use std::alloc::{AllocError, Global};
@@ -96,24 +99,24 @@ impl Ledger {
         stand_in(&self.entries, job)
     }
 
-    /// Creates an object that isn't there. Where all slices with it would have more than 65,536
-    /// devices, the command is refused: the entry is a denial that carries the object, and the state
+    /// Creates an object that isn't there, whose selectors are compiled. Where all slices with it would
+    /// have more than 65,536 devices, the command is refused: the entry is a denial that carries the object, and the state
     /// stays as it was. `Full` comes where the history has its limit of entries, and `Memory` only
     /// where memory runs out; then nothing changed.
-    pub fn apply(&mut self, alloc: Global, job: u64, object: Object) -> Result<Done, LedgerError>
-        requires stand { allows (stand_of self.old.entries job) (Applied object) ≡ true }
-        requires absent { IsAbsent (state_of self.old.entries) object }
-        ensures ok { OnOk result (self.new ≡ appended self.old job (creation (state_of self.old.entries) object)) }
+    pub fn apply(&mut self, alloc: Global, job: u64, ready: Ready) -> Result<Done, LedgerError>
+        requires stand { allows (stand_of self.old.entries job) (Applied ready) ≡ true }
+        requires absent { IsAbsent (state_of self.old.entries) ready }
+        ensures ok { OnOk result (self.new ≡ appended self.old job (creation (state_of self.old.entries) ready)) }
         ensures place { IfOk result (λ done. done.place ≡ length self.new.entries) }
-        ensures outcome { IfOk result (λ done. done.outcome ≡ outcome_of (creation (state_of self.old.entries) object)) }
+        ensures outcome { IfOk result (λ done. done.outcome ≡ outcome_of (creation (state_of self.old.entries) ready)) }
         ensures legal { Legal self.new.entries }
         ensures full { (n : ℕ) → IsErrOf result (LedgerError.Full n) → (length self.old.entries ≡ n) × (self.old.limit ≤ n) }
         ensures err { OnErr result (self.new ≡ self.old) }
     {
-        if has_room(&self.state, &object) {
-            self.create(alloc, job, object)
+        if has_room(&self.state, ready.object()) {
+            self.create(alloc, job, ready)
         } else {
-            self.refuse(job, Denial::Devices(object))
+            self.refuse(job, Denial::Devices(ready.into_parts().object))
         }
     }
 
@@ -266,23 +269,18 @@ impl Ledger {
 
 impl Ledger {
     /// Creates an object that there is room for.
-    fn create(&mut self, alloc: Global, job: u64, object: Object) -> Result<Done, LedgerError>
-        requires stand { allows (stand_of self.old.entries job) (Applied object) ≡ true }
-        requires created { MayCreate (state_of self.old.entries) object }
-        ensures ok { OnOk result (self.new ≡ appended self.old job (Applied object)) }
+    fn create(&mut self, alloc: Global, job: u64, ready: Ready) -> Result<Done, LedgerError>
+        requires stand { allows (stand_of self.old.entries job) (Applied ready) ≡ true }
+        requires created { MayCreate (state_of self.old.entries) ready }
+        ensures ok { OnOk result (self.new ≡ appended self.old job (Applied ready)) }
         ensures place { IfOk result (λ done. done.place ≡ length self.new.entries) }
         ensures outcome { IfOk result (λ done. done.outcome ≡ Outcome.Made) }
         ensures legal { Legal self.new.entries }
         ensures full { (n : ℕ) → IsErrOf result (LedgerError.Full n) → (length self.old.entries ≡ n) × (self.old.limit ≤ n) }
         ensures err { OnErr result (self.new ≡ self.old) }
     {
-        let place = put_object(
-            alloc,
-            &mut self.entries,
-            &mut self.state,
-            self.limit,
-            &object,
-        )?;
+        let ReadyParts { object, kept } = ready.into_parts();
+        let place = put_object(alloc, &mut self.entries, &mut self.state, self.limit, kept)?;
         self.entries.push_reserved(Entry {
             job,
             event: Event::Applied(object),
@@ -332,19 +330,19 @@ fn put_object(
     entries: &mut Vec<Entry>,
     state: &mut State,
     limit: u64,
-    object: &Object,
+    kept: Kept,
 ) -> Result<u64, LedgerError>
     requires { limit < 2 ^ 48 }
     ensures entries { entries.new.items ≡ entries.old.items }
     ensures room { OnOk result (vec_len entries.new < vec_capacity entries.new) }
     ensures within { OnOk result (length entries.old.items < limit) }
     ensures place { IfOk result (λ place. place ≡ length entries.old.items + 1) }
-    ensures ok { OnOk result (state.new ≡ with_object (length entries.old.items + 1) object.now state.old) }
+    ensures ok { OnOk result (state.new ≡ with_object (length entries.old.items + 1) (object_of kept) state.old) }
     ensures full { (n : ℕ) → IsErrOf result (LedgerError.Full n) → (length entries.old.items ≡ n) × (limit ≤ n) }
     ensures err { OnErr result (state.new ≡ state.old) }
 {
     let place = make_room(entries, limit)?;
-    state.put(alloc, place, object)?;
+    state.put(alloc, place, kept)?;
     Ok(place)
 }
 

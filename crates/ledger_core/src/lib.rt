@@ -8,6 +8,7 @@ mod laws;
 mod ledger;
 mod room;
 
+pub use alloc_rules::Ready;
 pub use entry::{Denial, Entry, Event, Outcome, Stand};
 pub use error::LedgerError;
 pub use headline::{

@@ -1,5 +1,5 @@
 use crate::{
-    Denial, Done, Event, Ledger, LedgerError, Outcome, Stand, denials_change_nothing,
+    Denial, Done, Event, Ledger, LedgerError, Outcome, Ready, Stand, denials_change_nothing,
     histories_grow, reserved_goes_on,
 };
 use alloc_rules::Object;
@@ -17,9 +17,21 @@ fn apply(
     job: u64,
     object: Object,
 ) -> Result<Option<Done>, LedgerError> {
+    match Ready::of(alloc, object) {
+        Ok(ready) => apply_ready(alloc, ledger, job, ready),
+        Err(_) => Ok(None),
+    }
+}
+
+fn apply_ready(
+    alloc: Global,
+    ledger: &mut Ledger,
+    job: u64,
+    ready: Ready,
+) -> Result<Option<Done>, LedgerError> {
     match ledger.stand(job) {
-        Stand::Fresh if ledger.state().is_absent(&object) => {
-            Ok(Some(ledger.apply(alloc, job, object)?))
+        Stand::Fresh if ledger.state().is_absent(ready.object()) => {
+            Ok(Some(ledger.apply(alloc, job, ready)?))
         }
         _ => Ok(None),
     }

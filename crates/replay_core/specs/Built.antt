@@ -7,7 +7,7 @@ use Rattle.alloc_rules.specs.declared.object.Object.{Object}
 use Rattle.alloc_rules.specs.declared.object.Object.TheVariants as object
 use Rattle.alloc_rules.specs.declared.state.State.{State}
 use Rattle.alloc_rules.specs.Names.{at_name, at_key}
-use Rattle.alloc_rules.specs.Plain.{is_plain_claim, is_plain_class, named_node}
+use Rattle.alloc_rules.specs.Plain.{is_plain_claim, named_node}
 use Rattle.alloc_rules.specs.Pools.{slices_of}
 use Rattle.alloc_rules.specs.Claims.{schedule_built}
 use Rattle.commands.specs.declared.command.Command.{Command}
@@ -36,7 +36,7 @@ slice_built s x = is_plain_slice x && ((x.pool.slices == 1) && (length (slices_o
 abbrev pub object_built : State → Object → Bool
 object_built s (object.Node x) = true
 object_built s (object.Slice x) = slice_built s x
-object_built s (object.Class x) = is_plain_class x
+object_built s (object.Class x) = true
 object_built s (object.Claim x) = is_plain_claim x
 object_built s (object.Pod x) = true
 

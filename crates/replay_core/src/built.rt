@@ -3,7 +3,7 @@ ghost use Rattle.std.specs.List.{list_all};
 ghost use Rattle.alloc_rules.specs.Pools.{slices_of};
 ghost use Rattle.replay_core.specs.Built.{draws_nothing, is_built, is_new, is_plain_slice, object_built, slice_built};
 
-use alloc_rules::{Object, State, is_plain_claim, is_plain_class, named_node};
+use alloc_rules::{Object, State, is_plain_claim, named_node};
 use api_slice::{Device, ResourceSlice};
 use commands::Command;
 use std::alloc::{AllocError, Global};
@@ -14,7 +14,9 @@ pub fn is_built(alloc: Global, state: &State, command: &Command) -> Result<bool,
     ensures { IfOk result (λ built. built ≡ is_built state.now command.now) }
 {
     match command {
-        Command::Apply(object) => Ok(is_new(state, object) && object_built(state, object)),
+        Command::Apply(ready) => {
+            Ok(is_new(state, ready.object()) && object_built(state, ready.object()))
+        }
         Command::Invalid(_) => Ok(true),
         Command::Schedule(pod) => state.may_schedule(alloc, pod),
         Command::NotBuilt => Ok(false),
@@ -38,9 +40,8 @@ fn object_built(state: &State, object: &Object) -> bool
 {
     match object {
         Object::Slice(slice) => slice_built(state, slice),
-        Object::Class(class) => is_plain_class(class),
         Object::Claim(claim) => is_plain_claim(claim),
-        Object::Node(_) | Object::Pod(_) => true,
+        Object::Node(_) | Object::Class(_) | Object::Pod(_) => true,
     }
 }
 

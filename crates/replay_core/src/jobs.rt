@@ -1,6 +1,6 @@
 ghost use Rattle.std.specs.Prelude.{◌≡◌, ◌≤◌, ◌<◌, ◌∷◌, [], ℕ, List, true, false, length, IfOk, OnOk, OnErr, IsErrOf};
 ghost use Rattle.alloc_rules.specs.Claims.{claim_keys, claims_built, first_places, schedule_built};
-ghost use Rattle.alloc_rules.specs.Decisions.{IsReserve, IsUnsatisfiable};
+ghost use Rattle.alloc_rules.specs.Decisions.{IsReserve, IsJudge};
 ghost use Rattle.object_fields.specs.declared.key.Key.{Key};
 ghost use Rattle.ledger_core.specs.declared.entry.Stand.TheVariants.{Fresh, Reserved, Ended};
 ghost use Rattle.ledger_core.specs.History.{state_of, stand_of};
@@ -11,7 +11,7 @@ ghost use Rattle.replay_core.specs.Claims.{keys_at};
 
 use crate::Stop;
 use crate::built::is_built;
-use alloc_rules::{Decision, Object, Plan, State, Verdict, decide};
+use alloc_rules::{Decision, Plan, Ready, State, Verdict, decide};
 use api_cluster::{Pod, PodResourceClaim};
 use commands::Command;
 use dra_values::Seq;
@@ -59,7 +59,7 @@ fn do_built(
     ensures full { (n : ℕ) → IsErrOf result (LedgerError.Full n) → IsFull ledger.new n }
 {
     match command {
-        Command::Apply(object) => apply(alloc, ledger, job, object),
+        Command::Apply(ready) => apply(alloc, ledger, job, ready),
         Command::Invalid(error) => deny(ledger, job, error),
         Command::Schedule(pod) => schedule(alloc, ledger, job, &pod),
         Command::NotBuilt => unreachable!(),
@@ -67,15 +67,15 @@ fn do_built(
 }
 
 /// Applies an object that is of a form that is done.
-fn apply(alloc: Global, ledger: &mut Ledger, job: u64, object: Object) -> Result<(), LedgerError>
+fn apply(alloc: Global, ledger: &mut Ledger, job: u64, ready: Ready) -> Result<(), LedgerError>
     requires fresh { stand_of ledger.old.entries job ≡ Fresh }
-    requires built { is_built (state_of ledger.old.entries) (Apply object) ≡ true }
-    ensures ran { OnOk result ((budget attempts : ℕ) → 2 ≤ budget → 0 < attempts → Ran job (Apply object) budget attempts ledger.old ledger.new) }
-    ensures begun { OnErr result ((budget attempts : ℕ) → 2 ≤ budget → 0 < attempts → Begun job (Apply object) budget attempts ledger.old ledger.new) }
+    requires built { is_built (state_of ledger.old.entries) (Apply ready) ≡ true }
+    ensures ran { OnOk result ((budget attempts : ℕ) → 2 ≤ budget → 0 < attempts → Ran job (Apply ready) budget attempts ledger.old ledger.new) }
+    ensures begun { OnErr result ((budget attempts : ℕ) → 2 ≤ budget → 0 < attempts → Begun job (Apply ready) budget attempts ledger.old ledger.new) }
     ensures full { (n : ℕ) → IsErrOf result (LedgerError.Full n) → IsFull ledger.new n }
 {
     histories_grow();
-    ledger.apply(alloc, job, object)?;
+    ledger.apply(alloc, job, ready)?;
     Ok(())
 }
 
@@ -102,7 +102,7 @@ fn schedule(alloc: Global, ledger: &mut Ledger, job: u64, pod: &Key) -> Result<(
     let at = ledger.len();
     match decide(alloc, ledger.state(), pod, at)? {
         Decision::Reserve(plan) => carry_out(alloc, ledger, job, pod, &plan),
-        Decision::Unsatisfiable(verdict) => judge(alloc, ledger, job, pod, verdict),
+        Decision::Judge(verdict) => judge(alloc, ledger, job, pod, verdict),
     }
 }
 
@@ -115,7 +115,7 @@ fn judge(
     verdict: Verdict,
 ) -> Result<(), LedgerError>
     requires fresh { stand_of ledger.old.entries job ≡ Fresh }
-    requires verdict { IsUnsatisfiable (state_of ledger.old.entries) pod.now (length ledger.old.entries) verdict }
+    requires verdict { IsJudge (state_of ledger.old.entries) pod.now (length ledger.old.entries) verdict }
     ensures ran { OnOk result ((budget attempts : ℕ) → 2 ≤ budget → 0 < attempts → Ran job (Schedule pod.now) budget attempts ledger.old ledger.new) }
     ensures begun { OnErr result ((budget attempts : ℕ) → 2 ≤ budget → 0 < attempts → Begun job (Schedule pod.now) budget attempts ledger.old ledger.new) }
     ensures full { (n : ℕ) → IsErrOf result (LedgerError.Full n) → IsFull ledger.new n }

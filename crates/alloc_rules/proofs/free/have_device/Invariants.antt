@@ -1,9 +1,9 @@
 use Rattle.std.proofs.Common.{◌≡◌, drop}
 use Rattle.std.specs.List.{list_any}
 use Rattle.alloc_rules.specs.Names.{device_eq}
-use Rattle.alloc_rules.specs.Pools.{devices_held, id_of}
+use Rattle.alloc_rules.specs.Pools.{devices_held}
 use Rattle.alloc_rules.proofs.free.have_device.Given as goal
 
 abbrev pub invariant-loop-picked : goal.invariant-loop-picked
 invariant-loop-picked l =
-    list_any (λ h. device_eq h (id_of l.slice l.device)) (devices_held (drop l.picked-index l.results)) ≡ list_any (λ h. device_eq h (id_of l.slice l.device)) (devices_held l.results)
+    list_any (λ h. device_eq h l.device) (devices_held (drop l.picked-index l.results)) ≡ list_any (λ h. device_eq h l.device) (devices_held l.results)

@@ -7,15 +7,15 @@ use Rattle.replay_core.proofs.JobSteps.{begun_on_err, ran_first}
 use Rattle.replay_core.proofs.jobs.apply.Goals as goal
 
 pub apply-requires-clause-absent : goal.apply-requires-clause-absent
-apply-requires-clause-absent c = built_absent (state_of c.args.ledger.now.entries) c.args.object c.requires.built
+apply-requires-clause-absent c = built_absent (state_of c.args.ledger.now.entries) c.args.ready c.requires.built
 
 pub returns-in_err-apply-clause-begun : goal.returns-in_err-apply-clause-begun
-returns-in_err-apply-clause-begun c = begun_on_err c.from_residual.result c.args.job (Apply c.args.object) c.args.ledger.now c.apply.new.self c.in_err-apply.ensures.err c.requires.fresh
+returns-in_err-apply-clause-begun c = begun_on_err c.from_residual.result c.args.job (Apply c.args.ready) c.args.ledger.now c.apply.new.self c.in_err-apply.ensures.err c.requires.fresh
 
 pub returns-clause-ran : goal.returns-clause-ran
 returns-clause-ran c = λ budget attempts two some.
     let h = c.args.ledger.now.entries in
     let s = state_of h in
-    let x = c.args.object in
+    let x = c.args.ready in
     ran_first c.histories_grow.ensures.stand c.args.job (Apply x) budget attempts c.args.ledger.now c.apply.new.self (creation s x) c.in_ok-apply.ensures.ok (creation_of s x)
     (creation_searched s h c.args.job (length h) budget x) (creation_ends s (length h + 1) x) some

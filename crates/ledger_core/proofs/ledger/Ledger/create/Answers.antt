@@ -1,6 +1,9 @@
-use Rattle.std.proofs.Common.{subst, sym}
+use Rattle.std.proofs.Common.{◌≡◌, ◌∙◌, ◌+◌, length, subst, sym, ap}
+use Rattle.alloc_rules.specs.declared.object.Object.{Object}
+use Rattle.alloc_rules.specs.State.{with_object}
 use Rattle.ledger_core.specs.declared.entry.Entry.{Entry}
 use Rattle.ledger_core.specs.declared.entry.Event.TheVariants.{Applied}
+use Rattle.ledger_core.specs.Entry.{after}
 use Rattle.ledger_core.specs.Ledger.{History}
 use Rattle.ledger_core.specs.History.{Step}
 use Rattle.ledger_core.proofs.Histories.{IsKept-more}
@@ -8,10 +11,13 @@ use Rattle.ledger_core.proofs.ledger.Ledger.create.Goals as goal
 
 pub invariant_of-self-2 : goal.invariant_of-self-2
 invariant_of-self-2 c =
-    let e : Entry = record { job = c.args.job; event = Applied c.args.object } in
+    let parts = c.into_parts-object.ensures in
+    let e : Entry = record { job = c.args.job; event = Applied c.args.ready } in
     let step = subst (λ (h : History). Step h.entries e) (sym c.self.view_is) (record { allowed = c.requires.stand; stands = c.requires.created }) in
-    let made = c.in_ok-place.ensures in
-    rw (c.push_reserved.ensures.items, c.put_object.ensures.entries) (IsKept-more _ e _ _ _ c.self.invariant step made.within made.ok)
+    let placed = c.in_ok-place.ensures in
+    let made : c.put_object.new.state ≡ after (length c.self.inside.entries.items + 1) c.args.job (Applied c.args.ready) c.self.inside.state =
+    placed.ok ∙ ap (λ (x : Object). with_object (length c.self.inside.entries.items + 1) x c.self.inside.state) parts.kept.same in
+    rw (c.push_reserved.ensures.items, c.put_object.ensures.entries, parts.object) (IsKept-more _ e _ _ _ c.self.invariant step placed.within made)
 
 pub returns-clause-legal : goal.returns-clause-legal
 returns-clause-legal c = (invariant_of-self-2 c).legal
