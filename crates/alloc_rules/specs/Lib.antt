@@ -1,5 +1,6 @@
 pub mod Names
 pub mod Plain
+pub mod Limits
 pub mod Ready
 pub mod State
 pub mod Pools

@@ -2,6 +2,7 @@
 use Rattle.std.specs.Prelude.{◌≡◌, Result, Ok, Err}
 use Rattle.object_fields.specs.Fields.{UnlessMemory, ◌>>=◌}
 use Rattle.object_fields.specs.declared.error.FieldError.{FieldError}
+use Rattle.alloc_rules.specs.Limits.{ObjectKept}
 use Rattle.alloc_rules.specs.declared.kept.Kept.{Kept}
 use Rattle.alloc_rules.specs.declared.kept.Kept.TheVariants as kept
 use Rattle.alloc_rules.specs.declared.object.Object.{Object}
@@ -24,16 +25,17 @@ object_of (kept.Class x) = object.Class x
 object_of (kept.Claim x) = object.Claim x
 object_of (kept.Pod x) = object.Pod x
 
--- each selector of the object compiles
+-- each selector of the object compiles, and the object keeps its limits
 pub record IsReady (x : Object) : Type 0 where
   pub ready : ready_of x ≡ Ok x
-
--- What is kept of an object is the object, where its selectors compile, unless memory ran out.
-abbrev pub Keeps : Object → Result Kept FieldError → Type 0
-Keeps x (Ok kept) = (object_of kept ≡ x) × (ready_of x ≡ Ok x)
-Keeps x (Err e) = UnlessMemory e.kind (ready_of x ≡ Err e)
+  pub limits : ObjectKept x
 
 -- an object, and the same as the state keeps it
 pub record ArePart (x : Object) (kept : Kept) : Type 0 where
   pub same : object_of kept ≡ x
   pub ready : IsReady x
+
+-- What is kept of an object is the object, where its selectors compile, unless memory ran out.
+abbrev pub Keeps : Object → Result Kept FieldError → Type 0
+Keeps x (Ok kept) = ArePart x kept
+Keeps x (Err e) = UnlessMemory e.kind (ready_of x ≡ Err e)

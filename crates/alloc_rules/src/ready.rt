@@ -5,7 +5,8 @@ ghost use Rattle.alloc_rules.specs.Ready.{ArePart, IsReady, Keeps, ready_of};
 
 use crate::{Kept, Object};
 use api_claim::ResourceClaim;
-use api_cluster::DeviceClass;
+use api_cluster::{DeviceClass, Node, Pod};
+use api_slice::ResourceSlice;
 use object_fields::{FieldError, or_memory};
 use ready_objects::{ReadyClaim, ReadyClass};
 use std::alloc::Global;
@@ -72,17 +73,39 @@ fn keep(alloc: Global, object: &Object) -> Result<Kept, FieldError>
     ensures { Keeps object.now result }
 {
     match object {
-        Object::Node(node) => Ok(Kept::Node(or_memory(alloc, node.copy(alloc))?)),
-        Object::Slice(slice) => Ok(Kept::Slice(or_memory(alloc, slice.copy(alloc))?)),
+        Object::Node(node) => keep_node(alloc, node),
+        Object::Slice(slice) => keep_slice(alloc, slice),
         Object::Class(class) => keep_class(alloc, class),
         Object::Claim(claim) => keep_claim(alloc, claim),
-        Object::Pod(pod) => Ok(Kept::Pod(or_memory(alloc, pod.copy(alloc))?)),
+        Object::Pod(pod) => keep_pod(alloc, pod),
     }
+}
+
+fn keep_node(alloc: Global, node: &Node) -> Result<Kept, FieldError>
+    ensures { Keeps (object.Node node.now) result }
+{
+    node.keeps_limits();
+    Ok(Kept::Node(or_memory(alloc, node.copy(alloc))?))
+}
+
+fn keep_slice(alloc: Global, slice: &ResourceSlice) -> Result<Kept, FieldError>
+    ensures { Keeps (object.Slice slice.now) result }
+{
+    slice.keeps_limits();
+    Ok(Kept::Slice(or_memory(alloc, slice.copy(alloc))?))
+}
+
+fn keep_pod(alloc: Global, pod: &Pod) -> Result<Kept, FieldError>
+    ensures { Keeps (object.Pod pod.now) result }
+{
+    pod.keeps_limits();
+    Ok(Kept::Pod(or_memory(alloc, pod.copy(alloc))?))
 }
 
 fn keep_class(alloc: Global, class: &DeviceClass) -> Result<Kept, FieldError>
     ensures { Keeps (object.Class class.now) result }
 {
+    class.keeps_limits();
     let class = or_memory(alloc, class.copy(alloc))?;
     Ok(Kept::Class(ReadyClass::of(alloc, class)?))
 }
@@ -90,6 +113,7 @@ fn keep_class(alloc: Global, class: &DeviceClass) -> Result<Kept, FieldError>
 fn keep_claim(alloc: Global, claim: &ResourceClaim) -> Result<Kept, FieldError>
     ensures { Keeps (object.Claim claim.now) result }
 {
+    claim.keeps_limits();
     let claim = or_memory(alloc, claim.copy(alloc))?;
     Ok(Kept::Claim(ReadyClaim::of(alloc, claim)?))
 }

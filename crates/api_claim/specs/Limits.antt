@@ -9,19 +9,18 @@ use Rattle.object_fields.specs.Selectors.{selectors_most}
 use Rattle.object_fields.specs.declared.meta.Scope.TheVariants.{Namespaced}
 use Rattle.object_fields.specs.declared.qualified.QualName.{QualName}
 use Rattle.api_claim.specs.Constraints.{constraints_most}
+use Rattle.api_claim.specs.Fields.{ClaimFields, StatusFields}
 use Rattle.api_claim.specs.Lists.{has_text}
 use Rattle.api_claim.specs.Requests.{all_names, requests_most, subrequests_most}
 use Rattle.api_claim.specs.Status.{results_most}
 use Rattle.api_claim.specs.declared.types.AllocationMode.{AllocationMode}
 use Rattle.api_claim.specs.declared.types.AllocationMode.TheVariants.{ExactCount, All}
-use Rattle.api_claim.specs.declared.types.ClaimStatus.{ClaimStatus}
 use Rattle.api_claim.specs.declared.types.DeviceAsk.{DeviceAsk}
 use Rattle.api_claim.specs.declared.types.DeviceConstraint.{DeviceConstraint}
 use Rattle.api_claim.specs.declared.types.DeviceRequest.{DeviceRequest}
 use Rattle.api_claim.specs.declared.types.DeviceSubRequest.{DeviceSubRequest}
 use Rattle.api_claim.specs.declared.types.RequestKind.{RequestKind}
 use Rattle.api_claim.specs.declared.types.RequestKind.TheVariants as kind
-use Rattle.api_claim.specs.declared.types.ResourceClaim.{ResourceClaim}
 
 -- each of them
 abbrev pub EachOf : {A : Type 0} → (A → Type 0) → List A → Type 0
@@ -77,13 +76,13 @@ pub record ConstraintsKept (names : List (List ℕ)) (constraints : List DeviceC
   pub few : length constraints ≤ constraints_most
   pub each_known : EachOf (ConstraintKept names) constraints
 
-pub record ClaimKept (claim : ResourceClaim) : Type 0 where
+pub record ClaimKept (claim : ClaimFields) : Type 0 where
   pub key : KeyKept Namespaced claim.key
   pub version : VersionKept claim.version
   pub requests : RequestsKept claim.requests
   pub constraints : ConstraintsKept (all_names claim.requests) claim.constraints
 
-pub record StatusKept (status : ClaimStatus) : Type 0 where
+pub record StatusKept (status : StatusFields) : Type 0 where
   pub version : VersionKept status.version
   pub some : 1 ≤ length status.results
   pub few : length status.results ≤ results_most

@@ -4,6 +4,7 @@ ghost use Rattle.object_fields.specs.Fields.{Gives, Reads};
 ghost use Rattle.api_claim.specs.Claims as fields;
 
 use crate::constraints::read_constraints;
+use crate::laws::limits_are_kept;
 use crate::requests::{all_names, read_requests};
 use crate::types::{DeviceConstraint, DeviceRequest, ResourceClaim};
 use dra_values::Seq;
@@ -49,6 +50,7 @@ impl ResourceClaim {
     {
         let meta = ObjectMeta::read(alloc, value, Scope::Namespaced)?;
         let devices = read_devices(alloc, value)?;
+        limits_are_kept();
         Ok(ResourceClaim {
             key: meta.key,
             version: meta.version,

@@ -5,6 +5,7 @@ ghost use Rattle.object_fields.specs.Fields.{Reads};
 ghost use Rattle.api_claim.specs.Status as fields;
 
 use crate::asks::read_admin;
+use crate::laws::limits_are_kept;
 use crate::lists::{has_some, some_items};
 use crate::types::{ClaimStatus, StatusResult};
 use dra_values::{Seq, Text};
@@ -45,6 +46,7 @@ impl ClaimStatus {
     {
         let meta = ObjectMeta::read(alloc, value, Scope::Namespaced)?;
         let allocation = read_status(alloc, value)?;
+        limits_are_kept();
         Ok(ClaimStatus {
             version: meta.version,
             node: allocation.node,

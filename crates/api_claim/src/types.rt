@@ -1,8 +1,10 @@
 ghost use Rattle.std.specs.Prelude.{◌≡◌, IfOk};
+ghost use Rattle.api_claim.specs.Limits.{ClaimKept, StatusKept};
 
 use dra_values::{Duplicate, Seq, Text};
 use object_fields::{DeviceId, Key, QualName};
 use std::alloc::{AllocError, Global};
+use std::marker::Model;
 
 /// A ResourceClaim of `resource.k8s.io/v1`.
 #[derive(Drop)]
@@ -100,7 +102,39 @@ pub struct StatusResult {
     pub admin: bool,
 }
 
+impl Model for ResourceClaim {
+    ghost use Rattle.api_claim.specs.Fields.{ClaimFields};
+
+    ghost Value = { ClaimFields };
+
+    ghost view = { λ c. record { key = c.key; version = c.version; requests = c.requests; constraints = c.constraints } };
+
+    ghost use Rattle.api_claim.specs.Limits.{ClaimKept};
+
+    ghost invariant = { λ c. ClaimKept (record { key = c.key; version = c.version; requests = c.requests; constraints = c.constraints }) };
+}
+
+impl Model for ClaimStatus {
+    ghost use Rattle.api_claim.specs.Fields.{StatusFields};
+
+    ghost Value = { StatusFields };
+
+    ghost view = { λ s. record { version = s.version; node = s.node; results = s.results } };
+
+    ghost use Rattle.api_claim.specs.Limits.{StatusKept};
+
+    ghost invariant = { λ s. StatusKept (record { version = s.version; node = s.node; results = s.results }) };
+}
+
 impl ResourceClaim {
+    /// Each claim keeps the limits and name rules of the API reference of `resource.k8s.io/v1`. Takes
+    /// no memory.
+    pub fn keeps_limits(&self)
+        ensures { ClaimKept self.now }
+    {
+        let _ = &self.key;
+    }
+
     /// An equal claim.
     pub fn copy(&self, alloc: Global) -> Result<ResourceClaim, AllocError>
         ensures { IfOk result (λ copy. copy ≡ self.now) }
@@ -172,6 +206,13 @@ impl Duplicate for DeviceConstraint {
 }
 
 impl ClaimStatus {
+    /// Each status keeps the limits of the API reference of `resource.k8s.io/v1`. Takes no memory.
+    pub fn keeps_limits(&self)
+        ensures { StatusKept self.now }
+    {
+        let _ = &self.node;
+    }
+
     /// An equal status.
     pub fn copy(&self, alloc: Global) -> Result<ClaimStatus, AllocError>
         ensures { IfOk result (λ copy. copy ≡ self.now) }

@@ -12,7 +12,7 @@ use Rattle.object_fields.specs.declared.meta.Scope.{Scope}
 use Rattle.object_fields.specs.declared.meta.Scope.TheVariants.{Namespaced, Cluster}
 use Rattle.object_fields.specs.declared.path.Step.{Step}
 use Rattle.object_fields.specs.declared.path.Step.TheVariants.{Member}
-use Rattle.api_cluster.specs.Limits.{ClassKept, PodKept}
+use Rattle.api_cluster.specs.Limits.{ClassKept, PodKept, claims_most}
 use Rattle.api_cluster.specs.declared.types.DeviceClass.{DeviceClass}
 use Rattle.api_cluster.specs.declared.types.Pod.{Pod}
 use Rattle.api_cluster.specs.declared.types.PodResourceClaim.{PodResourceClaim}
@@ -58,15 +58,15 @@ class_kept law few d c h =
 
 -- ---- pods
 
-claims_few : ListLaw PodResourceClaim → (o : Option Data) (xs : List PodResourceClaim) → pod.members_in o ≡ Ok xs → length xs ≤ pod.claims_most
+claims_few : ListLaw PodResourceClaim → (o : Option Data) (xs : List PodResourceClaim) → pod.members_in o ≡ Ok xs → length xs ≤ claims_most
 claims_few law None xs h =
     let k : given {A = List PodResourceClaim} [] ≡ Ok xs = h in
     let e : [] ≡ xs = cc in
-    subst (λ (l : List PodResourceClaim). length l ≤ pod.claims_most) e (lit≤ tt)
+    subst (λ (l : List PodResourceClaim). length l ≤ claims_most) e (lit≤ tt)
 claims_few law (Some spec) xs h =
     let path : List Step = Member (codes "spec") ∷ [] in
     let s = then_ok (pod.node_at path spec) (λ unset. pod.claims_at path spec) xs h in
-    law pod.claims_most pod.entry_at path (codes "resourceClaims") spec xs s.1.1
+    law claims_most pod.entry_at path (codes "resourceClaims") spec xs s.1.1
 
 pub pod_kept : MetaLaw → ListLaw PodResourceClaim → (d : Data) (p : Pod) → pod.pod_of d ≡ Ok p → PodKept p
 pod_kept law few d p h =

@@ -1,3 +1,4 @@
+pub mod Fields
 pub mod Nodes
 pub mod Classes
 pub mod Pods

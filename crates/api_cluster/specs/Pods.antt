@@ -1,5 +1,5 @@
 -- What is read of a Pod (API reference of v1).
-use Rattle.std.specs.Prelude.{ℕ, ◌==◌, Bool, false, true, List, [], ◌∷◌, length, not, ⊤, Option, Some, None, Result, Ok, codes}
+use Rattle.std.specs.Prelude.{◌==◌, Bool, false, true, List, [], ◌∷◌, length, not, ⊤, Option, Some, None, Result, Ok, codes}
 use Rattle.serde_json.specs.Data.{Data, null, boolean, number, string, array, object}
 use Rattle.serde_json.specs.Find.{get}
 use Rattle.object_fields.specs.Fields.{field_error, object_at, object_value, optional_at, text_at, unless, unset_at, ◌>>=◌}
@@ -10,6 +10,7 @@ use Rattle.object_fields.specs.declared.kind.Kind.TheVariants.{NotSupported}
 use Rattle.object_fields.specs.declared.meta.Scope.TheVariants.{Namespaced}
 use Rattle.object_fields.specs.declared.path.Step.{Step}
 use Rattle.object_fields.specs.declared.path.Step.TheVariants.{Member}
+use Rattle.api_cluster.specs.Limits.{claims_most}
 use Rattle.api_cluster.specs.declared.types.Pod.{Pod}
 use Rattle.api_cluster.specs.declared.types.PodResourceClaim.{PodResourceClaim}
 
@@ -30,10 +31,6 @@ node_at path spec =
     unless (field_error path (codes "nodeName") NotSupported) (not (is_no_name (get (codes "nodeName") spec))) tt
 
 -- ---- the claims that the pod uses
-
--- a pod has at most 32 claims
-abbrev pub claims_most : ℕ
-claims_most = 32
 
 -- no template is set; the name and the claim of the entry are any texts
 abbrev pub entry_at : List Step → Data → Result PodResourceClaim FieldError

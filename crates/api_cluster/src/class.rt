@@ -2,6 +2,7 @@ ghost use Rattle.serde_json.specs.View.{view};
 ghost use Rattle.object_fields.specs.Fields.{Reads};
 ghost use Rattle.api_cluster.specs.Classes as fields;
 
+use crate::laws::limits_are_kept;
 use crate::types::DeviceClass;
 use dra_values::{Seq, Text};
 use object_fields::{FieldError, ObjectMeta, Path, Scope, optional_object, read_selectors};
@@ -21,6 +22,7 @@ impl DeviceClass {
     {
         let meta = ObjectMeta::read(alloc, value, Scope::Cluster)?;
         let selectors = read_spec(alloc, value)?;
+        limits_are_kept();
         let key = meta.key;
         Ok(DeviceClass {
             name: key.name,

@@ -2,6 +2,7 @@ ghost use Rattle.serde_json.specs.View.{view};
 ghost use Rattle.object_fields.specs.Fields.{Reads};
 ghost use Rattle.api_cluster.specs.Nodes as fields;
 
+use crate::laws::limits_are_kept;
 use crate::types::Node;
 use object_fields::{FieldError, ObjectMeta, Scope};
 use serde_json::Value;
@@ -16,6 +17,7 @@ impl Node {
         ensures { Reads result (fields.node_of (view value.now)) }
     {
         let meta = ObjectMeta::read(alloc, value, Scope::Cluster)?;
+        limits_are_kept();
         let key = meta.key;
         Ok(Node {
             name: key.name,

@@ -4,6 +4,7 @@ ghost use Rattle.serde_json.specs.View.{view};
 ghost use Rattle.object_fields.specs.Fields.{Reads};
 ghost use Rattle.api_cluster.specs.Pods as fields;
 
+use crate::laws::limits_are_kept;
 use crate::types::{Pod, PodResourceClaim};
 use dra_values::{Seq, Text};
 use object_fields::{
@@ -34,6 +35,7 @@ impl Pod {
     {
         let meta = ObjectMeta::read(alloc, value, Scope::Namespaced)?;
         let claims = read_spec(alloc, value)?;
+        limits_are_kept();
         Ok(Pod {
             key: meta.key,
             version: meta.version,

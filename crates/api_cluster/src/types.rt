@@ -1,8 +1,10 @@
 ghost use Rattle.std.specs.Prelude.{◌≡◌, IfOk};
+ghost use Rattle.api_cluster.specs.Limits.{ClassKept, NodeKept, PodKept};
 
 use dra_values::{Duplicate, Seq, Table, Text};
 use object_fields::Key;
 use std::alloc::{AllocError, Global};
+use std::marker::Model;
 
 /// A Node of `v1`: what says which devices it sees.
 #[derive(Drop)]
@@ -46,7 +48,50 @@ pub struct PodResourceClaim {
     pub claim: Text,
 }
 
+impl Model for Node {
+    ghost use Rattle.api_cluster.specs.Fields.{NodeFields};
+
+    ghost Value = { NodeFields };
+
+    ghost view = { λ n. record { name = n.name; version = n.version; labels = n.labels } };
+
+    ghost use Rattle.api_cluster.specs.Limits.{NodeKept};
+
+    ghost invariant = { λ n. NodeKept (record { name = n.name; version = n.version; labels = n.labels }) };
+}
+
+impl Model for DeviceClass {
+    ghost use Rattle.api_cluster.specs.Fields.{ClassFields};
+
+    ghost Value = { ClassFields };
+
+    ghost view = { λ c. record { name = c.name; version = c.version; selectors = c.selectors } };
+
+    ghost use Rattle.api_cluster.specs.Limits.{ClassKept};
+
+    ghost invariant = { λ c. ClassKept (record { name = c.name; version = c.version; selectors = c.selectors }) };
+}
+
+impl Model for Pod {
+    ghost use Rattle.api_cluster.specs.Fields.{PodFields};
+
+    ghost Value = { PodFields };
+
+    ghost view = { λ p. record { key = p.key; version = p.version; claims = p.claims } };
+
+    ghost use Rattle.api_cluster.specs.Limits.{PodKept};
+
+    ghost invariant = { λ p. PodKept (record { key = p.key; version = p.version; claims = p.claims }) };
+}
+
 impl Node {
+    /// Each node keeps the limits and name rules of the API reference of `v1`. Takes no memory.
+    pub fn keeps_limits(&self)
+        ensures { NodeKept self.now }
+    {
+        let _ = &self.name;
+    }
+
     /// An equal node.
     pub fn copy(&self, alloc: Global) -> Result<Node, AllocError>
         ensures { IfOk result (λ copy. copy ≡ self.now) }
@@ -60,6 +105,14 @@ impl Node {
 }
 
 impl DeviceClass {
+    /// Each class keeps the limits and name rules of the API reference of `resource.k8s.io/v1`. Takes
+    /// no memory.
+    pub fn keeps_limits(&self)
+        ensures { ClassKept self.now }
+    {
+        let _ = &self.name;
+    }
+
     /// An equal class.
     pub fn copy(&self, alloc: Global) -> Result<DeviceClass, AllocError>
         ensures { IfOk result (λ copy. copy ≡ self.now) }
@@ -73,6 +126,13 @@ impl DeviceClass {
 }
 
 impl Pod {
+    /// Each pod keeps the limits and name rules of the API reference of `v1`. Takes no memory.
+    pub fn keeps_limits(&self)
+        ensures { PodKept self.now }
+    {
+        let _ = &self.key;
+    }
+
     /// An equal pod.
     pub fn copy(&self, alloc: Global) -> Result<Pod, AllocError>
         ensures { IfOk result (λ copy. copy ≡ self.now) }

@@ -304,7 +304,7 @@ a_name d m h =
     along (λ (x : ObjectMeta). (length x.key.name ≤ name_most) × (is_dns_name x.key.name ≡ true)) made m (the_same made m v.second)
     (a_key (step.Member (codes "metadata") ∷ []) o.value k.value k.first)
 
-spec_keeps : (name : List ℕ) (version : Option ℕ) (path : List Step) (spec : Data) (s : ResourceSlice) → length name ≤ name_most → is_dns_name name ≡ true → spec_in name version path spec ≡ Ok s → IsWithinLimits s
+pub spec_keeps : (name : List ℕ) (version : Option ℕ) (path : List Step) (spec : Data) (s : ResourceSlice) → length name ≤ name_most → is_dns_name name ≡ true → spec_in name version path spec ≡ Ok s → IsWithinLimits s
 spec_keeps name version path spec s size form h =
     let d = gave (driver_at path spec) (λ driver.
     pool_at path spec >>= λ pool.

@@ -13,6 +13,7 @@ use Rattle.api_slice.specs.Consumption.{amounts_most, find_set, has_counter}
 use Rattle.api_slice.specs.Counters.{counters_most}
 use Rattle.api_slice.specs.Devices.{devices_most}
 use Rattle.api_slice.specs.Drivers.{IsDriver}
+use Rattle.api_slice.specs.Fields.{SliceFields}
 use Rattle.api_slice.specs.Nodes.{is_per_device}
 use Rattle.api_slice.specs.Properties.{AreProperties}
 use Rattle.api_slice.specs.Slices.{signed_most}
@@ -22,7 +23,6 @@ use Rattle.api_slice.specs.declared.types.Device.{Device}
 use Rattle.api_slice.specs.declared.types.Nodes.{Nodes}
 use Rattle.api_slice.specs.declared.types.Nodes.TheVariants as nodes
 use Rattle.api_slice.specs.declared.types.Pool.{Pool}
-use Rattle.api_slice.specs.declared.types.ResourceSlice.{ResourceSlice}
 use Rattle.api_slice.specs.declared.types.SliceNodes.{SliceNodes}
 use Rattle.api_slice.specs.declared.types.SliceNodes.TheVariants as slice
 
@@ -120,7 +120,7 @@ pub record IsPool (p : Pool) : Type 0 where
   pub slices_least : 1 ≤ p.slices
   pub slices_most : p.slices ≤ signed_most
 
-pub record IsWithinLimits (s : ResourceSlice) : Type 0 where
+pub record IsWithinLimits (s : SliceFields) : Type 0 where
   pub name : length s.name ≤ name_most
   pub name_form : is_dns_name s.name ≡ true
   pub driver : IsDriver s.driver

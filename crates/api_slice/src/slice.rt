@@ -1,6 +1,7 @@
 ghost use Rattle.std.specs.Prelude.{◌≡◌};
 ghost use Rattle.serde_json.specs.View.{view};
 ghost use Rattle.object_fields.specs.Fields.{Reads};
+ghost use Rattle.object_fields.specs.Limits.{NameKept};
 ghost use Rattle.api_slice.specs.Slices as fields;
 ghost use Rattle.api_slice.specs.Nodes.{is_per_device};
 
@@ -10,7 +11,9 @@ use crate::driver::DriverName;
 use crate::nodes::read_slice_nodes;
 use crate::types::{Pool, ResourceSlice, SliceNodes};
 use dra_values::Text;
-use object_fields::{FieldError, ObjectMeta, Path, Scope, natural, object, read_pool_name};
+use object_fields::{
+    FieldError, ObjectMeta, Path, Scope, metadata_keeps_limits, natural, object, read_pool_name,
+};
 use serde_json::Value;
 use std::alloc::Global;
 
@@ -58,6 +61,7 @@ impl ResourceSlice {
         ensures { Reads result (fields.slice_of (view value.now)) }
     {
         let ObjectMeta { key, version, .. } = ObjectMeta::read(alloc, value, Scope::Cluster)?;
+        metadata_keeps_limits();
         read_named(alloc, value, key.name, version)
     }
 }
@@ -69,6 +73,7 @@ fn read_named(
     name: Text,
     version: Option<u64>,
 ) -> Result<ResourceSlice, FieldError>
+    requires name { NameKept name }
     ensures { Reads result (fields.spec_at name version (view document.now)) }
 {
     let top = Path::top(alloc);
@@ -84,6 +89,7 @@ fn read_spec(
     name: Text,
     version: Option<u64>,
 ) -> Result<ResourceSlice, FieldError>
+    requires name { NameKept name }
     ensures { Reads result (fields.spec_in name version path.now (view spec.now)) }
 {
     let driver = DriverName::read(alloc, spec, path)?;

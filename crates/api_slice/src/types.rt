@@ -1,4 +1,5 @@
 ghost use Rattle.std.specs.Prelude.{◌≡◌, IfOk};
+ghost use Rattle.api_slice.specs.Limits.{IsWithinLimits};
 
 use crate::driver::DriverName;
 use crate::properties::Properties;
@@ -6,6 +7,7 @@ use dra_values::{Duplicate, Seq, Table, Text};
 use node_select::Selector;
 use quantity::Quantity;
 use std::alloc::{AllocError, Global};
+use std::marker::Model;
 
 /// A ResourceSlice of `resource.k8s.io/v1`: devices that a driver offers.
 #[derive(Drop)]
@@ -100,7 +102,27 @@ pub struct CounterConsumption {
     pub amounts: Table<Text, Quantity>,
 }
 
+impl Model for ResourceSlice {
+    ghost use Rattle.api_slice.specs.Fields.{SliceFields};
+
+    ghost Value = { SliceFields };
+
+    ghost view = { λ s. record { name = s.name; version = s.version; driver = s.driver; pool = s.pool; nodes = s.nodes; counters = s.counters; devices = s.devices } };
+
+    ghost use Rattle.api_slice.specs.Limits.{IsWithinLimits};
+
+    ghost invariant = { λ s. IsWithinLimits (record { name = s.name; version = s.version; driver = s.driver; pool = s.pool; nodes = s.nodes; counters = s.counters; devices = s.devices }) };
+}
+
 impl ResourceSlice {
+    /// Each slice keeps the limits and name rules of the API reference of `resource.k8s.io/v1`, as
+    /// `slices_keep_limits` says them. Takes no memory.
+    pub fn keeps_limits(&self)
+        ensures { IsWithinLimits self.now }
+    {
+        let _ = &self.name;
+    }
+
     /// An equal slice.
     pub fn copy(&self, alloc: Global) -> Result<ResourceSlice, AllocError>
         ensures { IfOk result (λ copy. copy ≡ self.now) }

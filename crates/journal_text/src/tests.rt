@@ -4,11 +4,12 @@ use alloc_rules::{
 };
 use api_claim::ResourceClaim;
 use api_cluster::{DeviceClass, Node, Pod};
-use api_slice::{DriverName, Nodes, Pool, ResourceSlice, SliceNodes};
+use api_slice::ResourceSlice;
 use cel_value::EvalError;
-use dra_values::{Seq, Table, Text};
+use dra_values::{Seq, Text};
 use ledger_core::{Denial, Entry, Event, Ledger};
 use object_fields::{DeviceId, FieldError, Key, Kind, Path, Stage};
+use serde_json::Value;
 use std::alloc::{AllocError, Global};
 use std::test::Fail;
 
@@ -89,32 +90,43 @@ fn judged(alloc: Global, nodes: Vec<Passed>) -> Result<Event, AllocError> {
     })
 }
 
-fn driver(alloc: Global) -> Result<DriverName, AllocError> {
-    DriverName::new(text(alloc, "gpu.example.com")?).ok_or(AllocError)
+fn slice(alloc: Global) -> Result<Object, Fail> {
+    let document =
+        r#"{"metadata":{"name":"s1"},"spec":{"driver":"gpu.example.com","pool":{"name":"n1","generation":1,"resourceSliceCount":1},"nodeName":"n1"}}"#;
+    let value = Value::from_str(alloc, document)?;
+    Ok(Object::Slice(ResourceSlice::read(alloc, &value)?))
 }
 
-fn slice(alloc: Global) -> Result<ResourceSlice, AllocError> {
-    Ok(ResourceSlice {
-        name: text(alloc, "s1")?,
-        version: None,
-        driver: driver(alloc)?,
-        pool: Pool {
-            name: text(alloc, "n1")?,
-            generation: 1,
-            slices: 1,
-        },
-        nodes: SliceNodes::Nodes(Nodes::Named(text(alloc, "n1")?)),
-        counters: Seq::empty(alloc),
-        devices: Seq::empty(alloc),
-    })
+fn node(alloc: Global) -> Result<Object, Fail> {
+    let value = Value::from_str(alloc, r#"{"metadata":{"name":"n1"}}"#)?;
+    Ok(Object::Node(Node::read(alloc, &value)?))
 }
 
-fn node(alloc: Global, name: &str) -> Result<Object, AllocError> {
-    Ok(Object::Node(Node {
-        name: text(alloc, name)?,
-        version: None,
-        labels: Table::new(alloc),
-    }))
+fn class(alloc: Global) -> Result<Object, Fail> {
+    let value = Value::from_str(alloc, r#"{"metadata":{"name":"gpu"}}"#)?;
+    Ok(Object::Class(DeviceClass::read(alloc, &value)?))
+}
+
+fn claim(alloc: Global) -> Result<Object, Fail> {
+    let document =
+        r#"{"metadata":{"name":"c"},"spec":{"devices":{"requests":[{"name":"gpu","exactly":{"deviceClassName":"gpu"}}]}}}"#;
+    let value = Value::from_str(alloc, document)?;
+    Ok(Object::Claim(ResourceClaim::read(alloc, &value)?))
+}
+
+fn pod(alloc: Global) -> Result<Object, Fail> {
+    let value = Value::from_str(alloc, r#"{"metadata":{"name":"p","namespace":"a"}}"#)?;
+    Ok(Object::Pod(Pod::read(alloc, &value)?))
+}
+
+/// A pod without namespace bound to a node whose name has characters that aren't printed.
+fn odd_bound(alloc: Global) -> Result<Event, AllocError> {
+    let pod = Key {
+        namespace: text(alloc, "")?,
+        name: text(alloc, "p")?,
+    };
+    let node = text(alloc, "a\u{1}\nb\u{1f}\u{7f} c")?;
+    Ok(Event::Bound { pod, node })
 }
 
 fn shown(alloc: Global, place: u64, job: u64, event: Event) -> Result<Vec<u8>, AllocError> {
@@ -124,50 +136,30 @@ fn shown(alloc: Global, place: u64, job: u64, event: Event) -> Result<Vec<u8>, A
 #[test]
 fn objects_have_lines(rt: HostRuntime) -> Result<(), Fail> {
     let alloc = rt.alloc();
-    let class = Object::Class(DeviceClass {
-        name: text(alloc, "gpu")?,
-        version: None,
-        selectors: Seq::empty(alloc),
-    });
-    let claim = Object::Claim(ResourceClaim {
-        key: key(alloc, "c")?,
-        version: None,
-        requests: Seq::empty(alloc),
-        constraints: Seq::empty(alloc),
-    });
-    let pod = Object::Pod(Pod {
-        key: Key {
-            namespace: text(alloc, "")?,
-            name: text(alloc, "p")?,
-        },
-        version: None,
-        claims: Seq::empty(alloc),
-    });
-    let odd = node(alloc, "a\u{1}\nb\u{1f}\u{7f} c")?;
     let lines = [
         (
-            shown(alloc, 1, 11, Event::Applied(node(alloc, "n1")?))?,
+            shown(alloc, 1, 11, Event::Applied(node(alloc)?))?,
             "1 11 applied Node n1\n",
         ),
         (
-            shown(alloc, 2, 12, Event::Applied(Object::Slice(slice(alloc)?)))?,
+            shown(alloc, 2, 12, Event::Applied(slice(alloc)?))?,
             "2 12 applied ResourceSlice s1\n",
         ),
         (
-            shown(alloc, 3, 13, Event::Applied(class))?,
+            shown(alloc, 3, 13, Event::Applied(class(alloc)?))?,
             "3 13 applied DeviceClass gpu\n",
         ),
         (
-            shown(alloc, 4, 14, Event::Applied(claim))?,
+            shown(alloc, 4, 14, Event::Applied(claim(alloc)?))?,
             "4 14 applied ResourceClaim default/c\n",
         ),
         (
-            shown(alloc, 5, 15, Event::Applied(pod))?,
-            "5 15 applied Pod p\n",
+            shown(alloc, 5, 15, Event::Applied(pod(alloc)?))?,
+            "5 15 applied Pod a/p\n",
         ),
         (
-            shown(alloc, 6, 16, Event::Applied(odd))?,
-            "6 16 applied Node a??b?? c\n",
+            shown(alloc, 6, 16, odd_bound(alloc)?)?,
+            "6 16 bound p a??b?? c\n",
         ),
     ];
     for (got, want) in &lines {
@@ -321,7 +313,7 @@ fn attribute_error(alloc: Global, name: &str, kind: Kind) -> Result<Event, Field
 #[test]
 fn denials_have_lines(rt: HostRuntime) -> Result<(), Fail> {
     let alloc = rt.alloc();
-    let crowded = Event::Denied(Denial::Devices(Object::Slice(slice(alloc)?)));
+    let crowded = Event::Denied(Denial::Devices(slice(alloc)?));
     let doubled = attribute_error(alloc, "model", Kind::Doubled)?;
     let unread = attribute_error(alloc, "a", Kind::Selector(Stage::Parse))?;
     let odd = attribute_error(alloc, "a\n\rb\u{7f} c", Kind::BadName)?;

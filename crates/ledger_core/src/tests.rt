@@ -4,9 +4,9 @@ use crate::{
 };
 use alloc_rules::Object;
 use api_cluster::Node;
-use api_slice::{Device, DriverName, Nodes, Pool, Properties, ResourceSlice, SliceNodes};
-use dra_values::{Seq, Table, Text};
+use api_slice::ResourceSlice;
 use object_fields::{FieldError, Kind, Path};
+use serde_json::Value;
 use std::alloc::{AllocError, Global};
 use std::test::Fail;
 
@@ -37,50 +37,33 @@ fn apply_ready(
     }
 }
 
-/// Applies a node of that name.
-fn apply_node(
-    alloc: Global,
-    ledger: &mut Ledger,
-    job: u64,
-    name: Text,
-) -> Result<Option<Done>, LedgerError> {
-    let node = Node {
-        name,
-        version: None,
-        labels: Table::new(alloc),
-    };
-    apply(alloc, ledger, job, Object::Node(node))
+/// A node of that name.
+fn node(alloc: Global, name: &str) -> Result<Object, Fail> {
+    let document = format!(in alloc; r#"{{"metadata":{{"name":"{name}"}}}}"#)?;
+    let value = Value::from_str(alloc, document.as_str())?;
+    Ok(Object::Node(Node::read(alloc, &value)?))
 }
 
-fn driver(alloc: Global) -> Result<DriverName, AllocError> {
-    let name = Text::from_str(alloc, "gpu.example.com")?;
-    DriverName::new(name).ok_or(AllocError)
+/// So many devices, each with a name of its own.
+fn devices(alloc: Global, count: usize) -> Result<String, AllocError> {
+    let mut list = String::new(alloc);
+    for place in 0..count {
+        if place > 0 {
+            list.push(',')?;
+        }
+        list.push_str(format!(in alloc; r#"{{"name":"d{place}"}}"#)?.as_str())?;
+    }
+    Ok(list)
 }
 
 /// A slice with so many devices.
-fn slice(alloc: Global, name: &str, devices: usize) -> Result<Object, AllocError> {
-    let mut list = Seq::empty(alloc);
-    for _ in 0..devices {
-        list.push(Device {
-            name: Text::from_str(alloc, "d")?,
-            properties: Properties::none(alloc),
-            consumes: Seq::empty(alloc),
-            nodes: None,
-        })?;
-    }
-    Ok(Object::Slice(ResourceSlice {
-        name: Text::from_str(alloc, name)?,
-        version: None,
-        driver: driver(alloc)?,
-        pool: Pool {
-            name: Text::from_str(alloc, name)?,
-            generation: 1,
-            slices: 1,
-        },
-        nodes: SliceNodes::Nodes(Nodes::Named(Text::from_str(alloc, "n1")?)),
-        counters: Seq::empty(alloc),
-        devices: list,
-    }))
+fn slice(alloc: Global, name: &str, count: usize) -> Result<Object, Fail> {
+    let list = devices(alloc, count)?;
+    let document = format!(in alloc;
+        r#"{{"metadata":{{"name":"{name}"}},"spec":{{"driver":"gpu.example.com","pool":{{"name":"{name}","generation":1,"resourceSliceCount":1}},"nodeName":"n1","devices":[{list}]}}}}"#
+    )?;
+    let value = Value::from_str(alloc, document.as_str())?;
+    Ok(Object::Slice(ResourceSlice::read(alloc, &value)?))
 }
 
 /// Refuses a document as a job that has no entry.
@@ -151,12 +134,8 @@ fn a_ledger_has_entries_to_its_limit(rt: HostRuntime) -> Result<(), Fail> {
         (7, "n3", Err(LedgerError::Full(2))),
     ];
     for (job, name, want) in steps {
-        let name = Text::from_str(alloc, name)?;
-        assert_eq!(rt;
-            apply_node(alloc, &mut ledger, job, name),
-            want,
-            "job {job}"
-        );
+        let node = node(alloc, name)?;
+        assert_eq!(rt; apply(alloc, &mut ledger, job, node), want, "job {job}");
     }
     assert!(rt; has_two_entries(&ledger));
     Ok(())
@@ -185,16 +164,25 @@ fn a_refused_document_is_an_entry(rt: HostRuntime) -> Result<(), Fail> {
 #[test]
 fn all_slices_have_at_most_65536_devices(rt: HostRuntime) -> Result<(), Fail> {
     let alloc = rt.alloc();
-    let mut ledger = Ledger::new(alloc, 9)?;
+    let mut ledger = Ledger::new(alloc, 600)?;
+    for job in 1..512 {
+        let name = format!(in alloc; "s{job}")?;
+        let slice = slice(alloc, name.as_str(), 128)?;
+        assert_eq!(rt;
+            apply(alloc, &mut ledger, job, slice),
+            made(job),
+            "job {job}"
+        );
+    }
     let steps = [
-        (1, "s1", 65_535, made(1)),
-        (2, "s2", 2, denied(2)),
-        (3, "s2", 1, made(3)),
-        (4, "s4", 1, denied(4)),
-        (5, "s4", 0, made(5)),
+        (512, "a", 127, made(512)),
+        (513, "b", 2, denied(513)),
+        (514, "b", 1, made(514)),
+        (515, "c", 1, denied(515)),
+        (516, "c", 0, made(516)),
     ];
-    for (job, name, devices, want) in steps {
-        let slice = slice(alloc, name, devices)?;
+    for (job, name, count, want) in steps {
+        let slice = slice(alloc, name, count)?;
         assert_eq!(rt; apply(alloc, &mut ledger, job, slice), want, "job {job}");
     }
     Ok(())

@@ -1,102 +1,60 @@
 use crate::{ReadyClaim, ReadyClass, selectors_decide};
-use api_claim::{
-    AllocationMode, DeviceAsk, DeviceRequest, DeviceSubRequest, ExactDeviceRequest, RequestKind,
-    ResourceClaim,
-};
+use api_claim::ResourceClaim;
 use api_cluster::DeviceClass;
-use dra_values::{Seq, Text};
-use object_fields::Key;
+use serde_json::Value;
 use std::alloc::{AllocError, Global};
 use std::test::Fail;
 
-fn texts(alloc: Global, first: &str, second: &str) -> Result<Seq<Text>, AllocError> {
-    let mut texts = Seq::empty(alloc);
-    texts.push(Text::from_str(alloc, first)?)?;
-    texts.push(Text::from_str(alloc, second)?)?;
-    Ok(texts)
+/// The member `selectors` with two expressions.
+fn selectors(alloc: Global, first: &str, second: &str) -> Result<String, AllocError> {
+    format!(in alloc;
+        r#""selectors":[{{"cel":{{"expression":"{first}"}}}},{{"cel":{{"expression":"{second}"}}}}]"#
+    )
 }
 
-fn class(alloc: Global, first: &str, second: &str) -> Result<DeviceClass, AllocError> {
-    Ok(DeviceClass {
-        selectors: texts(alloc, first, second)?,
-        name: Text::from_str(alloc, "gpu")?,
-        version: None,
-    })
+fn class(alloc: Global, first: &str, second: &str) -> Result<DeviceClass, Fail> {
+    let selectors = selectors(alloc, first, second)?;
+    let document = format!(in alloc; r#"{{"metadata":{{"name":"gpu"}},"spec":{{{selectors}}}}}"#)?;
+    let value = Value::from_str(alloc, document.as_str())?;
+    Ok(DeviceClass::read(alloc, &value)?)
 }
 
-fn ask(alloc: Global, first: &str, second: &str) -> Result<DeviceAsk, AllocError> {
-    Ok(DeviceAsk {
-        selectors: texts(alloc, first, second)?,
-        class: Text::from_str(alloc, "gpu")?,
-        mode: AllocationMode::All,
-    })
-}
-
-fn exactly(alloc: Global, first: &str, second: &str) -> Result<DeviceRequest, AllocError> {
-    let ask = ask(alloc, first, second)?;
-    Ok(DeviceRequest {
-        kind: RequestKind::Exactly(ExactDeviceRequest { ask, admin: false }),
-        name: Text::from_str(alloc, "one")?,
-    })
-}
-
-fn subrequest(alloc: Global, first: &str, second: &str) -> Result<DeviceSubRequest, AllocError> {
-    Ok(DeviceSubRequest {
-        ask: ask(alloc, first, second)?,
-        name: Text::from_str(alloc, "big")?,
-    })
-}
-
-/// Two subrequests, of which the second has a text that compiles in front.
-fn first_available(alloc: Global, first: &str, second: &str) -> Result<DeviceRequest, AllocError> {
-    let mut subrequests = Seq::empty(alloc);
-    subrequests.push(subrequest(alloc, first, "true")?)?;
-    subrequests.push(subrequest(alloc, "true", second)?)?;
-    Ok(DeviceRequest {
-        kind: RequestKind::FirstAvailable(subrequests),
-        name: Text::from_str(alloc, "any")?,
-    })
-}
-
+/// A request by `exactly`, and one with two subrequests, of which the second has a text that
+/// compiles in front.
 fn requests(
     alloc: Global,
     exact: (&str, &str),
     subrequests: (&str, &str),
-) -> Result<Seq<DeviceRequest>, AllocError> {
-    let mut requests = Seq::empty(alloc);
-    requests.push(exactly(alloc, exact.0, exact.1)?)?;
-    requests.push(first_available(alloc, subrequests.0, subrequests.1)?)?;
-    Ok(requests)
-}
-
-fn key(alloc: Global) -> Result<Key, AllocError> {
-    Ok(Key {
-        namespace: Text::from_str(alloc, "a")?,
-        name: Text::from_str(alloc, "c")?,
-    })
+) -> Result<String, AllocError> {
+    let one = selectors(alloc, exact.0, exact.1)?;
+    let big = selectors(alloc, subrequests.0, "true")?;
+    let small = selectors(alloc, "true", subrequests.1)?;
+    format!(in alloc;
+        r#"{{"name":"one","exactly":{{"deviceClassName":"gpu",{one}}}}},{{"name":"any","firstAvailable":[{{"name":"big","deviceClassName":"gpu",{big}}},{{"name":"small","deviceClassName":"gpu",{small}}}]}}"#
+    )
 }
 
 fn claim(
     alloc: Global,
     exact: (&str, &str),
     subrequests: (&str, &str),
-) -> Result<ResourceClaim, AllocError> {
-    Ok(ResourceClaim {
-        requests: requests(alloc, exact, subrequests)?,
-        key: key(alloc)?,
-        version: None,
-        constraints: Seq::empty(alloc),
-    })
+) -> Result<ResourceClaim, Fail> {
+    let requests = requests(alloc, exact, subrequests)?;
+    let document = format!(in alloc;
+        r#"{{"metadata":{{"name":"c","namespace":"a"}},"spec":{{"devices":{{"requests":[{requests}]}}}}}}"#
+    )?;
+    let value = Value::from_str(alloc, document.as_str())?;
+    Ok(ResourceClaim::read(alloc, &value)?)
 }
 
 /// The class with the number of its selectors, or the error.
-fn class_answer(alloc: Global, first: &str, second: &str) -> Result<String, AllocError> {
+fn class_answer(alloc: Global, first: &str, second: &str) -> Result<String, Fail> {
     match ReadyClass::of(alloc, class(alloc, first, second)?) {
         Ok(ready) => {
             let (name, count) = (&ready.class().name, ready.selectors().len());
-            format!(in alloc; "{name} {count}")
+            Ok(format!(in alloc; "{name} {count}")?)
         }
-        Err(error) => format!(in alloc; "{error}"),
+        Err(error) => Ok(format!(in alloc; "{error}")?),
     }
 }
 
@@ -117,10 +75,10 @@ fn claim_answer(
     alloc: Global,
     exact: (&str, &str),
     subrequests: (&str, &str),
-) -> Result<String, AllocError> {
+) -> Result<String, Fail> {
     match ReadyClaim::of(alloc, claim(alloc, exact, subrequests)?) {
-        Ok(ready) => claim_text(alloc, &ready),
-        Err(error) => format!(in alloc; "{error}"),
+        Ok(ready) => Ok(claim_text(alloc, &ready)?),
+        Err(error) => Ok(format!(in alloc; "{error}")?),
     }
 }
 

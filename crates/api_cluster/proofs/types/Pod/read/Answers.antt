@@ -1,0 +1,6 @@
+use Rattle.std.proofs.Common.{rules}
+use Rattle.serde_json.specs.View.{view}
+use Rattle.api_cluster.proofs.types.Pod.read.Goals as goal
+
+pub invariant_of-result : goal.invariant_of-result
+invariant_of-result c = c.limits_are_kept.ensures.pod (view c.args.value.now) _ (Prim.search rules)
