@@ -7,6 +7,9 @@ use std::alloc::{AllocError, Global};
 use std::marker::Model;
 
 /// A ResourceClaim of `resource.k8s.io/v1`.
+///
+/// Each claim keeps the limits and name rules that stand at its fields and at those of its requests
+/// and constraints; contracts see the record of its fields.
 #[derive(Drop)]
 pub struct ResourceClaim {
     /// `metadata.namespace` and `metadata.name`.
@@ -82,6 +85,8 @@ pub struct DeviceConstraint {
 }
 
 /// What is read of `status` of a ResourceClaim.
+///
+/// Each has 1 to 32 results; contracts see the record of its fields.
 #[derive(Drop)]
 pub struct ClaimStatus {
     /// `metadata.resourceVersion`, from 0 to 2^64-1.

@@ -7,6 +7,8 @@ use std::alloc::{AllocError, Global};
 use std::marker::Model;
 
 /// A Node of `v1`: what says which devices it sees.
+///
+/// Its name is a DNS subdomain of at most 253 bytes; contracts see the record of its fields.
 #[derive(Drop)]
 pub struct Node {
     /// `metadata.name`.
@@ -18,6 +20,9 @@ pub struct Node {
 }
 
 /// A DeviceClass of `resource.k8s.io/v1`: what a device of the class must be.
+///
+/// Its name is a DNS subdomain of at most 253 bytes, and it has at most 32 selectors; contracts see
+/// the record of its fields.
 #[derive(Drop)]
 pub struct DeviceClass {
     /// `metadata.name`.
@@ -29,6 +34,9 @@ pub struct DeviceClass {
 }
 
 /// A Pod of `v1`: the claims that it uses.
+///
+/// Its name is a DNS subdomain of at most 253 bytes, its namespace a DNS label, and it has at most 32
+/// claims; contracts see the record of its fields.
 #[derive(Drop)]
 pub struct Pod {
     /// `metadata.namespace` and `metadata.name`.

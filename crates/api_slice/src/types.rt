@@ -10,6 +10,9 @@ use std::alloc::{AllocError, Global};
 use std::marker::Model;
 
 /// A ResourceSlice of `resource.k8s.io/v1`: devices that a driver offers.
+///
+/// Each slice keeps the limits and name rules that stand at its fields and at those of its parts;
+/// contracts see the record of its fields.
 #[derive(Drop)]
 pub struct ResourceSlice {
     /// `metadata.name`, a DNS subdomain of at most 253 bytes.
