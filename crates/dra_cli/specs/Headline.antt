@@ -4,18 +4,23 @@ use Rattle.object_fields.specs.declared.key.Key.{Key}
 use Rattle.alloc_rules.specs.declared.plan.Plan.{Plan}
 use Rattle.alloc_rules.specs.declared.plan.Verdict.{Verdict}
 use Rattle.alloc_rules.specs.Held.{HeldOnce}
+use Rattle.ledger_core.specs.declared.entry.Denial.{Denial}
 use Rattle.ledger_core.specs.declared.entry.Entry.{Entry}
-use Rattle.ledger_core.specs.declared.entry.Event.TheVariants.{Reserved, Judged}
-use Rattle.ledger_core.specs.History.{state_at}
+use Rattle.ledger_core.specs.declared.entry.Event.TheVariants.{Reserved, Judged, Denied}
+use Rattle.ledger_core.specs.History.{MayDeny, state_at, state_of}
 use Rattle.ledger_core.specs.Headline.{IsGrantOf, IsVerdictOf}
+use Rattle.ledger_core.specs.Limits.{ObjectsKept}
 use Rattle.replay_core.specs.Replay.{EndsDone}
 
 -- Each reservation grants an allocation over the state before it, each verdict names a place with
--- no allocation, and at no place does a device have two holders.
+-- no allocation, and each denial is due in the state before it; at no place does a device have two
+-- holders, and at each place the objects keep their limits.
 pub record IsTrueHistory (h : List Entry) : Type 0 where
   pub grants : (front back : List Entry) (job : ℕ) (pod : Key) (plan : Plan) → h ≡ front ++ record { job = job; event = Reserved pod plan } ∷ back → IsGrantOf front pod plan
   pub verdicts : (front back : List Entry) (job : ℕ) (pod : Key) (verdict : Verdict) → h ≡ front ++ record { job = job; event = Judged pod verdict } ∷ back → IsVerdictOf front pod verdict
+  pub denials : (front back : List Entry) (job : ℕ) (denial : Denial) → h ≡ front ++ record { job = job; event = Denied denial } ∷ back → MayDeny (state_of front) denial
   pub holders : (place : ℕ) → HeldOnce (state_at h place)
+  pub limits : (place : ℕ) → ObjectsKept (state_at h place)
 
 -- all commands of the script were done, what was written is the text of their history, and it is true
 pub record Replayed (left before after : Option (List ℕ)) : Type 0 where

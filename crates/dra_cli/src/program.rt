@@ -7,7 +7,10 @@ ghost use Rattle.dra_cli.specs.Headline.{Replayed};
 ghost use Rattle.dra_cli.specs.Program.{AsksReplay, exit_number, most_entries};
 
 use dra_ports::{Sink, Source};
-use ledger_core::{grants_are_allocations, one_holder, verdicts_are_true};
+use ledger_core::{
+    denials_change_nothing, grants_are_allocations, objects_keep_limits, one_holder,
+    verdicts_are_true,
+};
 use replay_core::{Status, replay};
 
 /// The most entries of a history.
@@ -58,7 +61,9 @@ pub fn run<R: AllocGlobal, S: Source, K: Sink>(
 {
     grants_are_allocations();
     verdicts_are_true();
+    denials_change_nothing();
     one_holder();
+    objects_keep_limits();
     if is_replay(words) {
         replay(rt.alloc(), MOST_ENTRIES, input, output)
     } else {

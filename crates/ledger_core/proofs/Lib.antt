@@ -3,3 +3,4 @@ pub mod Stands
 pub mod GoingOn
 pub mod Headlines
 pub mod Holders
+pub mod Limits

@@ -44,7 +44,7 @@ stand_from job st n (e ∷ es) = stand_from job (if e.job == job then stand_afte
 unfoldable pub stand_of : List Entry → ℕ → Stand
 stand_of h job = stand_from job Fresh 0 h
 
--- the object's selectors compile, it isn't there, and there is room for it
+-- the object keeps its limits, its selectors compile, it isn't there, and there is room for it
 pub record MayCreate (s : State) (object : Object) : Type 0 where
   pub valid : IsReady object
   pub absent : IsAbsent s object

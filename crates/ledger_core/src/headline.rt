@@ -8,6 +8,7 @@ ghost use Rattle.ledger_core.specs.declared.entry.Entry.{Entry};
 ghost use Rattle.ledger_core.specs.declared.entry.Event.{Event};
 ghost use Rattle.ledger_core.specs.History.{state_at, state_of, Legal, MayDeny, Step};
 ghost use Rattle.ledger_core.specs.Headline.{IsGrantOf, IsVerdictOf};
+ghost use Rattle.ledger_core.specs.Limits.{ObjectsKept};
 
 use alloc_rules::one_holder_is_kept;
 
@@ -39,6 +40,13 @@ pub fn denials_change_nothing()
         Legal (front ++ record { job = job; event = Event.Denied denial } ∷ back) → MayDeny (state_of front) denial }
     ensures kept { (front : List Entry) (job : ℕ) (denial : Denial) →
         state_of (front ++ record { job = job; event = Event.Denied denial } ∷ []) ≡ state_of front }
+{}
+
+/// Each object keeps the limits and name rules of the API references of `v1` and of
+/// `resource.k8s.io/v1` after a legal history, and at each place of it.
+pub fn objects_keep_limits()
+    ensures now { (h : List Entry) → Legal h → ObjectsKept (state_of h) }
+    ensures always { (h : List Entry) (place : ℕ) → Legal h → ObjectsKept (state_at h place) }
 {}
 
 /// Each device has one holder after a legal history, and at each place of it: no device is held

@@ -12,7 +12,8 @@ pub use alloc_rules::Ready;
 pub use entry::{Denial, Entry, Event, Outcome, Stand};
 pub use error::LedgerError;
 pub use headline::{
-    denials_change_nothing, grants_are_allocations, legal_steps, one_holder, verdicts_are_true,
+    denials_change_nothing, grants_are_allocations, legal_steps, objects_keep_limits, one_holder,
+    verdicts_are_true,
 };
 pub use laws::{histories_grow, reserved_goes_on};
 pub use ledger::{Done, Ledger};

@@ -4,10 +4,12 @@ use Rattle.object_fields.specs.declared.key.Key.{Key}
 use Rattle.alloc_rules.specs.declared.plan.Plan.{Plan}
 use Rattle.alloc_rules.specs.declared.plan.Verdict.{Verdict}
 use Rattle.alloc_rules.specs.Held.{HeldOnce}
+use Rattle.ledger_core.specs.declared.entry.Denial.{Denial}
 use Rattle.ledger_core.specs.declared.entry.Entry.{Entry}
-use Rattle.ledger_core.specs.declared.entry.Event.TheVariants.{Reserved, Judged}
-use Rattle.ledger_core.specs.History.{Legal, state_at}
+use Rattle.ledger_core.specs.declared.entry.Event.TheVariants.{Reserved, Judged, Denied}
+use Rattle.ledger_core.specs.History.{Legal, MayDeny, state_at, state_of}
 use Rattle.ledger_core.specs.Headline.{IsGrantOf, IsVerdictOf}
+use Rattle.ledger_core.specs.Limits.{ObjectsKept}
 use Rattle.replay_core.specs.Replay.{EndsDone}
 use Rattle.dra_cli.specs.Headline.{Replayed}
 use Rattle.dra_cli.proofs.program.run.Goals as goal
@@ -18,21 +20,29 @@ GrantLaw = (front back : List Entry) (job : ℕ) (pod : Key) (plan : Plan) → L
 VerdictLaw : Type 0
 VerdictLaw = (front back : List Entry) (job : ℕ) (pod : Key) (verdict : Verdict) → Legal (front ++ record { job = job; event = Judged pod verdict } ∷ back) → IsVerdictOf front pod verdict
 
+DenialLaw : Type 0
+DenialLaw = (front back : List Entry) (job : ℕ) (denial : Denial) → Legal (front ++ record { job = job; event = Denied denial } ∷ back) → MayDeny (state_of front) denial
+
 HolderLaw : Type 0
 HolderLaw = (h : List Entry) (place : ℕ) → Legal h → HeldOnce (state_at h place)
 
-replayed : (left before after : Option (List ℕ)) → GrantLaw → VerdictLaw → HolderLaw → EndsDone left before after → Replayed left before after
-unfolding GrantLaw VerdictLaw HolderLaw
-replayed left before after grants verdicts holders d = record {
+LimitLaw : Type 0
+LimitLaw = (h : List Entry) (place : ℕ) → Legal h → ObjectsKept (state_at h place)
+
+replayed : (left before after : Option (List ℕ)) → GrantLaw → VerdictLaw → DenialLaw → HolderLaw → LimitLaw → EndsDone left before after → Replayed left before after
+unfolding GrantLaw VerdictLaw DenialLaw HolderLaw LimitLaw
+replayed left before after grants verdicts denials holders limits d = record {
   ends = d;
   history = record {
     grants = λ front back job pod plan e. grants front back job pod plan (subst (λ (h : List Entry). Legal h) e d.run.legal);
     verdicts = λ front back job pod verdict e. verdicts front back job pod verdict (subst (λ (h : List Entry). Legal h) e d.run.legal);
+    denials = λ front back job denial e. denials front back job denial (subst (λ (h : List Entry). Legal h) e d.run.legal);
     holders = λ place. holders d.history place d.run.legal;
+    limits = λ place. limits d.history place d.run.legal;
   };
 }
 
 pub returns-then-is_replay-clause-done : goal.returns-then-is_replay-clause-done
-unfolding GrantLaw VerdictLaw HolderLaw
+unfolding GrantLaw VerdictLaw DenialLaw HolderLaw LimitLaw
 returns-then-is_replay-clause-done g c = λ is.
-    replayed _ _ _ c.grants_are_allocations.ensures c.verdicts_are_true.ensures c.one_holder.ensures.always (rw is at c.replay.ensures.ends)
+    replayed _ _ _ c.grants_are_allocations.ensures c.verdicts_are_true.ensures c.denials_change_nothing.ensures.due c.one_holder.ensures.always c.objects_keep_limits.ensures.always (rw is at c.replay.ensures.ends)

@@ -1,0 +1,131 @@
+-- Each object keeps its limits in each state of a legal history.
+use Rattle.std.proofs.Common.{ℕ, ◌+◌, ◌≡◌, ◌∙◌, List, [], ◌∷◌, ◌++◌, Bool, true, false, cond, Option, None, Some, length, refl, sym, ap, subst, append_assoc, append-nil, take, drop}
+use Rattle.std.specs.Map.{lookup, set_value}
+use Rattle.std.specs.Option.{option_map_or}
+use Rattle.std.specs.Ordering.{match_ordering}
+use Rattle.std.specs.BTreeMap.{insert_entry, is_at}
+use Rattle.std.specs.declared.cmp.Ordering.{Ordering}
+use Rattle.std.specs.declared.cmp.Ordering.TheVariants.{Less, Equal, Greater}
+use Rattle.std.proofs.lemmas.List.{take-append-drop}
+use Rattle.object_fields.specs.declared.key.Key.{Key}
+use Rattle.api_claim.specs.Limits.{ClaimKept, EachOf}
+use Rattle.api_cluster.specs.Limits.{NodeKept, ClassKept, PodKept}
+use Rattle.api_slice.specs.Limits.{IsWithinLimits}
+use Rattle.alloc_rules.specs.declared.object.Object.{Object}
+use Rattle.alloc_rules.specs.declared.object.Object.TheVariants as object
+use Rattle.alloc_rules.specs.declared.plan.Grant.{Grant}
+use Rattle.alloc_rules.specs.declared.state.ClaimState.{ClaimState}
+use Rattle.alloc_rules.specs.declared.state.PodState.{PodState}
+use Rattle.alloc_rules.specs.declared.state.State.{State}
+use Rattle.alloc_rules.specs.Limits.{ObjectKept}
+use Rattle.alloc_rules.specs.Names.{at_key, key_cmp, text_cmp}
+use Rattle.alloc_rules.specs.State.{changed_at, empty_state, with_grant, with_grants, with_object}
+use Rattle.ledger_core.specs.declared.entry.Entry.{Entry}
+use Rattle.ledger_core.specs.declared.entry.Event.{Event}
+use Rattle.ledger_core.specs.declared.entry.Event.TheVariants.{Applied, Reserved, Wrote, Bound, Judged, Denied}
+use Rattle.ledger_core.specs.Entry.{after}
+use Rattle.ledger_core.specs.History.{state_of, state_at, LegalAfter, Legal, MayStand}
+use Rattle.ledger_core.specs.Limits.{ObjectsKept}
+use Rattle.ledger_core.proofs.Histories.{state_of-empty, state_of-more}
+use Rattle.ledger_core.proofs.Headlines.{front_legal}
+
+-- ---- tables of which each value keeps something
+
+abbrev Each : {K V : Type 0} → (V → Type 0) → List (K × V) → Type 0
+Each P es = EachOf (λ e. P e.1) es
+
+by_order : {A : Type 0} (Q : A → Type 0) (o : Ordering) (x y z : A) → Q x → Q y → Q z → Q (match_ordering o x y z)
+by_order Q Less x y z a b c = a
+by_order Q Equal x y z a b c = b
+by_order Q Greater x y z a b c = c
+
+by_test : {A : Type 0} (Q : A → Type 0) (b : Bool) (x y : A) → Q x → Q y → Q (cond b x y)
+by_test Q true x y a b = a
+by_test Q false x y a b = b
+
+inserted : {K V : Type 0} (P : V → Type 0) (cmp : K → K → Ordering) (es : List (K × V)) (k : K) (v : V) → Each P es → P v → Each P (insert_entry cmp es k v)
+inserted P cmp [] k v h p = (p, tt)
+inserted P cmp (e ∷ es) k v h p =
+    by_order (Each P) (cmp k e.0) ((k, v) ∷ e ∷ es) ((e.0, v) ∷ es) (e ∷ insert_entry cmp es k v) (p, h) (p, h.1) (h.0, inserted P cmp es k v h.1 p)
+
+set_kept : {K V : Type 0} (P : V → Type 0) (test : K → Bool) (es : List (K × V)) (v : V) → Each P es → P v → Each P (set_value test es v)
+set_kept P test [] v h p = h
+set_kept P test (e ∷ es) v h p =
+    by_test (Each P) (test e.0) ((e.0, v) ∷ es) (e ∷ set_value test es v) (p, h.1) (h.0, set_kept P test es v h.1 p)
+
+some_same : {V : Type 0} (v w : V) → Some v ≡ Some w → v ≡ w
+some_same v w h = cc
+
+found_by : {K V : Type 0} (P : V → Type 0) (test : K → Bool) (b : Bool) (e : K × V) (es : List (K × V)) (v : V) → cond b (Some e.1) (lookup test es) ≡ Some v → P e.1 → (lookup test es ≡ Some v → P v) → P v
+found_by P test true e es v h p later = subst P (some_same e.1 v h) p
+found_by P test false e es v h p later = later h
+
+found : {K V : Type 0} (P : V → Type 0) (test : K → Bool) (es : List (K × V)) (v : V) → Each P es → lookup test es ≡ Some v → P v
+found P test [] v h f = absurd (cc)
+found P test (e ∷ es) v h f = found_by P test (test e.0) e es v f h.0 (λ g. found P test es v h.1 g)
+
+changed_by : {V : Type 0} (P : V → Type 0) (key : Key) (f : V → V) (table : List (Key × V)) (o : Option V) → at_key table key ≡ o → Each P table → ((v : V) → P v → P (f v)) → Each P (option_map_or (λ v. set_value (is_at (key_cmp key)) table (f v)) o table)
+changed_by P key f table None is h step = h
+changed_by P key f table (Some v) is h step =
+    set_kept P (is_at (key_cmp key)) table (f v) h (step v (found P (is_at (key_cmp key)) table v h is))
+
+changed : {V : Type 0} (P : V → Type 0) (key : Key) (f : V → V) (table : List (Key × V)) → Each P table → ((v : V) → P v → P (f v)) → Each P (changed_at key f table)
+changed P key f table h step = changed_by P key f table (at_key table key) refl h step
+
+-- ---- each change of a state
+
+abbrev ClaimFits : ClaimState → Type 0
+ClaimFits c = ClaimKept c.claim.object
+
+abbrev PodFits : PodState → Type 0
+PodFits p = PodKept p.pod.object
+
+granted : (node : List ℕ) (pod : Key) (gs : List Grant) (claims : List (Key × ClaimState)) → Each ClaimFits claims → Each ClaimFits (with_grants node pod gs claims)
+granted node pod [] claims h = h
+granted node pod (g ∷ gs) claims h =
+    granted node pod gs (with_grant node pod g.claim g.results claims) (changed ClaimFits g.claim _ claims h (λ c k. k))
+
+created : (place : ℕ) (x : Object) (s : State) → ObjectKept x → ObjectsKept s → ObjectsKept (with_object place x s)
+created place (object.Node x) s k h =
+    record { nodes = inserted (λ n. NodeKept n.object) text_cmp s.nodes x.name _ h.nodes k; slices = h.slices; classes = h.classes; claims = h.claims; pods = h.pods }
+created place (object.Slice x) s k h =
+    record { nodes = h.nodes; slices = inserted (λ n. IsWithinLimits n.object) text_cmp s.slices x.name _ h.slices k; classes = h.classes; claims = h.claims; pods = h.pods }
+created place (object.Class x) s k h =
+    record { nodes = h.nodes; slices = h.slices; classes = inserted (λ n. ClassKept n.object) text_cmp s.classes x.name _ h.classes k; claims = h.claims; pods = h.pods }
+created place (object.Claim x) s k h =
+    record { nodes = h.nodes; slices = h.slices; classes = h.classes; claims = inserted ClaimFits key_cmp s.claims x.key _ h.claims k; pods = h.pods }
+created place (object.Pod x) s k h =
+    record { nodes = h.nodes; slices = h.slices; classes = h.classes; claims = h.claims; pods = inserted PodFits key_cmp s.pods x.key _ h.pods k }
+
+-- an entry that may stand keeps them
+kept_after : (before : List Entry) (place job : ℕ) (event : Event) → MayStand before job event → ObjectsKept (state_of before) → ObjectsKept (after place job event (state_of before))
+kept_after before place job (Applied x) may h = created place x (state_of before) may.valid.limits h
+kept_after before place job (Reserved pod plan) may h =
+    record { nodes = h.nodes; slices = h.slices; classes = h.classes; claims = granted plan.node pod plan.grants (state_of before).claims h.claims; pods = changed PodFits pod _ (state_of before).pods h.pods (λ p k. k) }
+kept_after before place job (Wrote pod claim seen) may h =
+    record { nodes = h.nodes; slices = h.slices; classes = h.classes; claims = changed ClaimFits claim _ (state_of before).claims h.claims (λ c k. k); pods = h.pods }
+kept_after before place job (Bound pod node) may h =
+    record { nodes = h.nodes; slices = h.slices; classes = h.classes; claims = h.claims; pods = changed PodFits pod _ (state_of before).pods h.pods (λ p k. k) }
+kept_after before place job (Judged pod verdict) may h = h
+kept_after before place job (Denied denial) may h = h
+
+-- ---- histories
+
+kept_along : (before es : List Entry) → LegalAfter before es → ObjectsKept (state_of before) → ObjectsKept (state_of (before ++ es))
+unfolding LegalAfter
+kept_along before [] legal h = subst (λ (xs : List Entry). ObjectsKept (state_of xs)) (sym (append-nil before)) h
+kept_along before (e ∷ es) legal h =
+    let next : ObjectsKept (state_of (before ++ e ∷ [])) =
+    subst (λ (s : State). ObjectsKept s) (sym (state_of-more before e)) (kept_after before (length before + 1) e.job e.event legal.0.stands h) in
+    subst (λ (xs : List Entry). ObjectsKept (state_of xs)) (append_assoc before (e ∷ []) es) (kept_along (before ++ e ∷ []) es legal.1 next)
+
+kept_at_first : ObjectsKept empty_state
+kept_at_first = record { nodes = tt; slices = tt; classes = tt; claims = tt; pods = tt }
+
+pub kept_now : (h : List Entry) → Legal h → ObjectsKept (state_of h)
+unfolding Legal
+kept_now h legal = kept_along [] h legal (subst (λ (s : State). ObjectsKept s) (sym state_of-empty) kept_at_first)
+
+pub kept_at : (h : List Entry) (place : ℕ) → Legal h → ObjectsKept (state_at h place)
+kept_at h place legal =
+    kept_now (take place h) (front_legal (take place h) (drop place h) (subst (λ (xs : List Entry). Legal xs) (sym (take-append-drop place h)) legal))
