@@ -83,6 +83,7 @@ fn push_result(text: &mut String, found: &StatusResult) -> Result<(), AllocError
 }
 
 fn status_text(alloc: Global, status: &ClaimStatus) -> Result<String, AllocError> {
+    status.keeps_limits();
     let status = status.copy(alloc)?;
     let mut text = format!(in alloc; "{}", status.node)?;
     push_version(&mut text, status.version)?;
