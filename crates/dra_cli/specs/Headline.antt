@@ -12,9 +12,10 @@ use Rattle.ledger_core.specs.Headline.{IsGrantOf, IsVerdictOf}
 use Rattle.ledger_core.specs.Limits.{ObjectsKept}
 use Rattle.replay_core.specs.Replay.{EndsDone}
 
--- Each reservation grants an allocation over the state before it, each verdict names a place with
--- no allocation, and each denial is due in the state before it; at no place does a device have two
--- holders, and at each place the objects keep their limits.
+-- Each reservation grants an allocation over the state before it, and each verdict names a place with
+-- no allocation. An object denied for want of room had none in the state before it, and no denial is
+-- for want of memory. At no place does a device have two holders, and at each the objects keep their
+-- limits.
 pub record IsTrueHistory (h : List Entry) : Type 0 where
   pub grants : (front back : List Entry) (job : ℕ) (pod : Key) (plan : Plan) → h ≡ front ++ record { job = job; event = Reserved pod plan } ∷ back → IsGrantOf front pod plan
   pub verdicts : (front back : List Entry) (job : ℕ) (pod : Key) (verdict : Verdict) → h ≡ front ++ record { job = job; event = Judged pod verdict } ∷ back → IsVerdictOf front pod verdict
