@@ -9,8 +9,6 @@ mod laws;
 mod lists;
 mod requests;
 mod status;
-#[cfg(test)]
-mod tests;
 mod types;
 
 pub use laws::limits_are_kept;

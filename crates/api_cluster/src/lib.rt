@@ -5,8 +5,6 @@ mod class;
 mod laws;
 mod node;
 mod pod;
-#[cfg(test)]
-mod tests;
 mod types;
 
 pub use laws::limits_are_kept;

@@ -9,8 +9,6 @@ mod counters;
 mod device;
 mod driver;
 mod laws;
-#[cfg(test)]
-mod limit_tests;
 mod lists;
 mod nodes;
 mod operator;
@@ -18,8 +16,6 @@ mod properties;
 mod qualified;
 mod selector;
 mod slice;
-#[cfg(test)]
-mod tests;
 mod types;
 
 pub use driver::DriverName;

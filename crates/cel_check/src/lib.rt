@@ -10,5 +10,3 @@ mod typing;
 
 pub use checks::{CheckError, check};
 
-#[cfg(test)]
-mod tests;

@@ -13,5 +13,3 @@ pub use cel_value::{DeviceEnv, EvalError, Single, Value};
 pub use selectors::eval;
 pub use steps::Steps;
 
-#[cfg(test)]
-mod tests;

@@ -19,5 +19,3 @@ pub use spelling::{Piece, Spelling};
 pub use token::{LexError, Span, Token, TokenKind};
 pub use tokens::Tokens;
 
-#[cfg(test)]
-mod tests;

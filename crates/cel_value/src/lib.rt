@@ -22,5 +22,3 @@ pub use scalars::{constant, truth, weight};
 pub use value::{Key, Single, Value};
 pub use version::Version;
 
-#[cfg(test)]
-mod tests;

@@ -5,7 +5,5 @@ mod command;
 mod document;
 mod fields;
 mod objects;
-#[cfg(test)]
-mod tests;
 
 pub use command::{Command, read_commands};

@@ -14,11 +14,3 @@ pub use matching::{Match, match_both};
 pub use selector::DeviceSelector;
 pub use verdict::{Cause, Verdict};
 
-#[cfg(test)]
-mod device_tests;
-#[cfg(test)]
-mod matching_tests;
-#[cfg(test)]
-mod tests;
-#[cfg(test)]
-mod verdict_tests;

@@ -16,5 +16,3 @@ pub use error::DocError;
 pub use laws::documents_lie_in_order;
 pub use splitter::Splitter;
 
-#[cfg(test)]
-mod tests;

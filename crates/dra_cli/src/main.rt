@@ -14,10 +14,6 @@ use std::io::{self, ErrorKind};
 use std::process::ExitCode;
 use stdio::{StdSink, StdSource};
 
-#[cfg(test)]
-mod rows;
-#[cfg(test)]
-mod tests;
 
 /// The words of this call after the program's name.
 fn words_of_call(rt: &HostRuntime) -> io::Result<Vec<String>> {

@@ -12,5 +12,3 @@ pub use journal::{line, lines};
 pub use laws::{line_is_one_line, lines_of_more};
 pub use totals::summary;
 
-#[cfg(test)]
-mod tests;

@@ -18,5 +18,3 @@ pub use headline::{
 pub use laws::{histories_grow, reserved_goes_on};
 pub use ledger::{Done, Ledger};
 
-#[cfg(test)]
-mod tests;

@@ -4,8 +4,6 @@
 mod number;
 mod requirement;
 mod selector;
-#[cfg(test)]
-mod tests;
 
 pub use number::whole;
 pub use requirement::{Requirement, Test};

@@ -16,8 +16,6 @@ mod optional;
 mod path;
 mod qualified;
 mod selectors;
-#[cfg(test)]
-mod tests;
 
 pub use error::{FieldError, or_memory};
 pub use fields::{borrowed, field, list, member, object, table, text, truth, whole};

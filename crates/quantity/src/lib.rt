@@ -11,8 +11,6 @@ mod laws;
 mod magnitude;
 mod print;
 mod quantity;
-#[cfg(test)]
-mod tests;
 mod text;
 
 pub use error::QuantityError;

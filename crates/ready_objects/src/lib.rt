@@ -5,8 +5,6 @@ mod claim;
 mod class;
 mod compile;
 mod laws;
-#[cfg(test)]
-mod tests;
 
 pub use claim::ReadyClaim;
 pub use class::ReadyClass;

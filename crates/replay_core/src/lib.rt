@@ -6,8 +6,6 @@ mod jobs;
 mod script;
 mod status;
 mod stop;
-#[cfg(test)]
-mod tests;
 mod work;
 
 pub use script::replay;
