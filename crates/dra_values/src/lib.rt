@@ -4,10 +4,12 @@
 
 mod duplicate;
 mod seq;
+mod shared;
 mod table;
 mod text;
 
 pub use duplicate::Duplicate;
 pub use seq::Seq;
+pub use shared::Shared;
 pub use table::Table;
 pub use text::Text;
