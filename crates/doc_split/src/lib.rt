@@ -15,4 +15,3 @@ pub use doc::Doc;
 pub use error::DocError;
 pub use laws::documents_lie_in_order;
 pub use splitter::Splitter;
-

@@ -31,8 +31,11 @@ impl Splitter {
     ) -> Result<Option<Doc>, DocError>
         ensures answers { Answers the_limits self.old self.new (S.left from.old) (S.left from.new) result }
         ensures cause { HasReadCause (S.faults from.old) (S.faults from.new) result }
+        ensures ahead { length self.new.ahead ≤ 65536 }
     {
-        next_within(the_limits(), self, alloc, from)
+        let answer = next_within(the_limits(), self, alloc, from);
+        let _ahead = self.ahead();
+        answer
     }
 }
 

@@ -12,7 +12,7 @@ use std::marker::Model;
 const PIECE: usize = 65_536;
 
 /// Splits the bytes of a source into documents. What contracts see of it is how many bytes it has
-/// gone over, and those behind them that it has taken.
+/// gone over, and those behind them that it has taken, never more than 64 KiB.
 #[derive(Drop)]
 pub struct Splitter {
     piece: Vec<u8>,
@@ -29,7 +29,7 @@ impl Model for Splitter {
 
     ghost view = { λ s. record { at = s.at; ahead = drop s.next (take s.end s.piece.items) } };
 
-    ghost invariant = { λ s. (s.next ≤ s.end) × (s.end ≤ vec_len s.piece) };
+    ghost invariant = { λ s. (s.next ≤ s.end) × (s.end ≤ vec_len s.piece) × (vec_len s.piece ≤ 65536) };
 }
 
 impl Splitter {
@@ -69,8 +69,9 @@ impl Splitter {
     }
 
     /// How many bytes are ahead.
-    fn ahead(&self) -> usize
-        ensures { result ≡ length self.now.ahead }
+    pub(crate) fn ahead(&self) -> usize
+        ensures count { result ≡ length self.now.ahead }
+        ensures bound { length self.now.ahead ≤ 65536 }
     {
         self.end - self.next
     }
@@ -116,6 +117,8 @@ fn read_piece<S: Source>(
     piece: &mut Vec<u8>,
     from: &mut S,
 ) -> Result<usize, PortError>
+    requires { vec_len piece.old ≤ 65536 }
+    ensures small { vec_len piece.new ≤ 65536 }
     ensures bound { IfOk result (λ n. n ≤ vec_len piece.new) }
     ensures taken { IfOk result (λ n. Consumes (S.left from.old) (S.left from.new) (take n piece.new.items)) }
     ensures end { IfOk result (λ n. n ≡ 0 → IsAtEnd (S.left from.new)) }
@@ -128,7 +131,9 @@ fn read_piece<S: Source>(
 
 /// Gives a buffer its room, where it has none.
 fn make_room(alloc: Global, piece: &mut Vec<u8>) -> Result<(), AllocError>
-    ensures { OnOk result (0 < vec_len piece.new) }
+    requires { vec_len piece.old ≤ 65536 }
+    ensures some { OnOk result (0 < vec_len piece.new) }
+    ensures small { vec_len piece.new ≤ 65536 }
 {
     if piece.is_empty() {
         *piece = vec![in alloc; 0; PIECE]?;
