@@ -19,11 +19,17 @@ impl Splitter {
     /// A document begins with `{` and ends at the brace that closes it. Braces in JSON strings don't
     /// count, and a backslash in a string takes the next byte with it. Between documents stand
     /// spaces, tabs, CR and LF alone. A document has at most 2,097,152 bytes, and an input at most
-    /// 2^30. After an error there is no next document: the bytes that were gone over are lost.
+    /// 2^30. The bytes that were gone over before an error are lost, and nothing is said of a call
+    /// after one.
     ///
-    /// Each error comes exactly where its variant says, and `Memory` only where memory runs out. With
-    /// each answer but `ReadFault` the source's count of faults stays. The splitter holds the document
-    /// and at most 64 KiB of what follows it.
+    /// If the source tells its bytes, a document is returned only if it is the first of what remains,
+    /// `None` only if nothing but blanks remains, and `Unclosed`, `Stray`, `TooLong` and `Input` only
+    /// if what remains has no document for the reason that the variant names. Of a source that
+    /// doesn't tell them, as the standard input, no clause says which bytes these were.
+    ///
+    /// `ReadFault` is returned only if the source's count of faults rose in this call, or stands at
+    /// its last value; with every other result the count stays. `Memory` is returned only if memory
+    /// runs out. Of what follows the bytes that it has gone over, the splitter holds at most 64 KiB.
     pub fn next_document<S: Source>(
         &mut self,
         alloc: Global,

@@ -14,7 +14,6 @@ use std::io::{self, ErrorKind};
 use std::process::ExitCode;
 use stdio::{StdSink, StdSource};
 
-
 /// The words of this call after the program's name.
 fn words_of_call(rt: &HostRuntime) -> io::Result<Vec<String>> {
     let mut words: Vec<String> = env::args(rt)?.collect(rt.alloc())?;

@@ -29,14 +29,20 @@ fn is_replay(words: &[String]) -> bool
 /// Does what the words of a call ask, which come without the program's name, over the objects that
 /// are handed in: `replay` replays the script that the input is and prints to the output.
 ///
-/// `Usage` comes exactly where the words are other than the one word `replay`, and then nothing was
-/// read or written. `Document` comes where what stands there isn't a command, `Memory` only where
-/// memory runs out, `Read` and `Write` only where that object's count of faults rose in this call,
-/// `Limit` where a history of 1,000,000 entries is to have one more or the input has more than 2^30
-/// bytes, and `NotYet` where a command has a form that isn't done yet. With each answer but `Read`
-/// the input's count of faults stays, and with each but `Write` the output's, so that the others
-/// come where no count rose. What was printed with each is the lines of the commands done before
-/// (this project's own rule); with `Memory` and `Write` it is a front of them.
+/// `Usage` is returned if and only if the words are other than the one word `replay`, and then
+/// nothing was read or written. `Memory` is returned only if memory runs out, `Read` and `Write` only
+/// if that object's count of faults rose in this call, or stands at its last value. With every status
+/// but `Read` the input's count of faults stays, and with every one but `Write` the output's.
+///
+/// If the input tells its bytes: `Document` is returned only if what stands there isn't a command,
+/// `Limit` only if a history of 1,000,000 entries is to have one more or the input has more than 2^30
+/// bytes, and `NotYet` only if a command has a form that isn't done yet.
+///
+/// If the output tells what was written (which statuses print what is this project's own): with
+/// `Done` it is the whole text of the history, the summary at its end; with `Document`, `Read` and
+/// `NotYet` the lines of the commands done before; with `Limit` also those of the entries that the
+/// last command still made; with `Memory` and `Write` a front of such lines or of the whole text,
+/// perhaps all of it.
 pub fn run<R: AllocGlobal, S: Source, K: Sink>(
     rt: &R,
     words: &Vec<String>,

@@ -33,8 +33,10 @@ pub fn verdicts_are_true()
         Legal (front ++ record { job = job; event = Event.Judged pod verdict } ∷ back) → IsVerdictOf front pod verdict }
 {}
 
-/// Each denial of a legal history is due: its refusal holds in the state before it. The state after
-/// it is the one before it.
+/// If a legal history denies an object for want of room, then in the state before the denial the
+/// object isn't there and the state has no room for its devices. If it denies a document for an
+/// error, the error isn't out of memory; that the document has this error isn't said here, since a
+/// history holds no documents. The state after a denial is the one before it.
 pub fn denials_change_nothing()
     ensures due { (front back : List Entry) (job : ℕ) (denial : Denial) →
         Legal (front ++ record { job = job; event = Event.Denied denial } ∷ back) → MayDeny (state_of front) denial }

@@ -17,4 +17,3 @@ pub use headline::{
 };
 pub use laws::{histories_grow, reserved_goes_on};
 pub use ledger::{Done, Ledger};
-

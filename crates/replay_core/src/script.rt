@@ -66,6 +66,12 @@ fn input_status(error: DocError) -> Status
 
 /// Does the commands of an input in order, each as a job of a ledger of at most so many entries, and
 /// prints the lines of each once it is done, and the summary at the end.
+///
+/// The status says what the script is, if the input tells its bytes, which of its commands were
+/// done, and what was written, if the output tells it (`Ends`). With `Done` that is the whole text of
+/// a legal history, the summary at its end. With `Memory` and `Write` it is a front of the lines of
+/// some first commands or of the whole text, perhaps all of it; with every other status none of the
+/// summary was written. What the entries of a legal history mean is the laws of `ledger_core`.
 pub fn replay<S: Source, K: Sink>(
     alloc: Global,
     entries: u64,
