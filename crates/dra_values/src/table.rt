@@ -1,6 +1,8 @@
-ghost use Rattle.std.specs.Prelude.{◌≡◌, ◌↔◌, [], length, IfOk, OnOk, OnErr, ◌&&◌, is_some, option_copied};
+ghost use Rattle.std.specs.Prelude.{◌≡◌, ◌↔◌, [], length, IfOk, OnOk, OnErr, Some, ◌&&◌, is_some, option_copied};
 ghost use Rattle.std.specs.Option.{option_copied_mut};
 ghost use Rattle.std.specs.Bool.{IsTrue};
+ghost use Rattle.std.specs.Fmt.{DisplaysOnOk, ◌++?◌, debug_items};
+ghost use Rattle.dra_values.specs.Shown.{debug_entry};
 ghost use Rattle.std.specs.Cmp.{and_equiv, and_per, on_equiv, on_per};
 ghost use Rattle.std.specs.Cmp.Lexicographic.{lists_equiv, lists_per, pointwise};
 ghost use Rattle.std.specs.BTreeMap.{insert_entry, is_at};
@@ -157,9 +159,50 @@ impl<K: Ord, V: Eq> Eq for Table<K, V> {
     ghost laws = { lists_equiv (and_equiv (on_equiv (λ p. p.0) K.Eq.laws) (on_equiv (λ p. p.1) V.Eq.laws)) };
 }
 
-/// In braces, as Rust shows a map.
+/// In braces, as Rust shows a map. The clause (`debug_output`) says so of `{:?}` without options.
 impl<K: Ord + fmt::Debug, V: fmt::Debug> fmt::Debug for Table<K, V> {
+    ghost use Rattle.dra_values.specs.Shown.{debug_table};
+
+    ghost debug_output = { debug_table K.debug_output V.debug_output };
+
     fn fmt<W: fmt::Write>(&self, f: &mut fmt::Formatter<W>) -> fmt::Result {
-        fmt::Debug::fmt(&self.map, f)
+        if f.alternate() {
+            return fmt::Debug::fmt(&self.map, f);
+        }
+        f.write_str("{")?;
+        show_entries(&self.map, f)?;
+        f.write_str("}")
     }
+}
+
+/// Writes the entries of a map, separated by commas. std's own `debug_map` writes the same, but no
+/// clause of it says what.
+fn show_entries<K: Ord + fmt::Debug, V: fmt::Debug, W: fmt::Write>(
+    map: &BTreeMap<K, V>,
+    f: &mut fmt::Formatter<W>,
+) -> fmt::Result
+    ensures { DisplaysOnOk W.write_str_gives f.old result (debug_items (debug_entry K.debug_output V.debug_output) [] map.now.entries) f.new }
+{
+    let mut first = true;
+    for (key, value) in map {
+        let lead = if first { "" } else { ", " };
+        show_entry(lead, key, value, f)?;
+        first = false;
+    }
+    Ok(())
+}
+
+/// Writes what stands before an entry, and then its key, a colon and a space, and its value.
+fn show_entry<K: fmt::Debug, V: fmt::Debug, W: fmt::Write>(
+    lead: &str,
+    key: &K,
+    value: &V,
+    f: &mut fmt::Formatter<W>,
+) -> fmt::Result
+    ensures { DisplaysOnOk W.write_str_gives f.old result (Some lead.now ++? debug_entry K.debug_output V.debug_output (key.now, value.now)) f.new }
+{
+    f.write_str(lead)?;
+    key.fmt(f)?;
+    f.write_str(": ")?;
+    value.fmt(f)
 }
