@@ -1,3 +1,4 @@
+pub mod Firsts
 pub mod Inverse
 pub mod Lengths
 pub mod MetaKept

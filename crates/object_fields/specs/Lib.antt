@@ -8,3 +8,4 @@ pub mod Meta
 pub mod Lists
 pub mod Selectors
 pub mod Limits
+pub mod Places

@@ -2,6 +2,7 @@
 //! with its path; names and keys stand here too.
 #![tactic(auto)]
 
+mod by_name;
 mod error;
 mod fields;
 mod items;
@@ -17,6 +18,7 @@ mod path;
 mod qualified;
 mod selectors;
 
+pub use by_name::{ByName, HasName};
 pub use error::{FieldError, or_memory};
 pub use fields::{borrowed, field, list, member, object, table, text, truth, whole};
 pub use items::{ReadItem, optional_items, read_items};
