@@ -9,3 +9,4 @@ pub mod Lists
 pub mod Selectors
 pub mod Limits
 pub mod Places
+pub mod NewNames

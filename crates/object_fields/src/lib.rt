@@ -24,7 +24,10 @@ pub use fields::{borrowed, field, list, member, object, table, text, truth, whol
 pub use items::{ReadItem, optional_items, read_items};
 pub use key::{DeviceId, Key};
 pub use kind::{Kind, Stage};
-pub use laws::{lists_keep_limits, metadata_keeps_limits};
+pub use laws::{
+    labels_are_names, lists_keep_limits, longer_lists_are_too_many, metadata_keeps_limits,
+    names_are_new,
+};
 pub use limits::{natural, short_list, signed, value_object, value_table, value_text};
 pub use meta::{ObjectMeta, Scope};
 pub use names::{dns_label, dns_name, dns_subdomain, pool_name};
