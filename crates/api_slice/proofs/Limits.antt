@@ -17,6 +17,7 @@ use Rattle.std.specs.Str.{bytes_eq, chars}
 use Rattle.serde_json.specs.Data.{Data, Items, no_items, item, Members, no_members, member}
 use Rattle.serde_json.specs.Find.{as_object}
 use Rattle.object_fields.specs.Fields.{dns_label_at, dns_subdomain_at, error_at, field_error, if_there, items_length, judged, list_at, member_of, name_at, name_in, natural_at, natural_between, object_at, pool_name_at, whole_at, object_value, optional_at, short_list_at, signed_at, some_or, table_at, text_at, truth_at, unless, unset_at, ◌>>=◌}
+use Rattle.object_fields.specs.Limits.{MetaKept, VersionKept}
 use Rattle.object_fields.specs.Meta.{key_at, labels_at, members_at, meta_at, name_most, namespace_at, version_at as metadata_version_at}
 use Rattle.object_fields.specs.Names.{is_dns_label, is_dns_name, is_pool_name, label_most, pool_most}
 use Rattle.object_fields.specs.Qualified.{cut_at, domain_and_id, domain_most, id_alone, id_most, is_c_identifier, qual_name_in, qualified_from}
@@ -24,6 +25,7 @@ use Rattle.object_fields.specs.declared.error.FieldError.{FieldError}
 use Rattle.object_fields.specs.declared.kind.Kind.TheVariants.{BadName, Doubled, NotOne, OutOfRange, TooLong, TooMany, Missing, Unknown, WrongType}
 use Rattle.object_fields.specs.declared.key.Key.{Key}
 use Rattle.object_fields.specs.declared.meta.ObjectMeta.{ObjectMeta}
+use Rattle.object_fields.specs.declared.meta.Scope.{Scope}
 use Rattle.object_fields.specs.declared.meta.Scope.TheVariants.{Cluster}
 use Rattle.object_fields.specs.declared.path.Step.{Step}
 use Rattle.object_fields.specs.declared.path.Step.TheVariants as step
@@ -283,29 +285,8 @@ a_pool path spec p h =
     let g = gave (object_at path (codes "pool") spec) (pool_in (path ++ step.Member (codes "pool") ∷ [])) p h in
     a_pool_in (path ++ step.Member (codes "pool") ∷ []) g.value p g.second
 
-a_key : (path : List Step) (d : Data) (k : Key) → key_at Cluster path d ≡ Ok k → (length k.name ≤ name_most) × (is_dns_name k.name ≡ true)
-a_key path d k h =
-    let n = gave (dns_subdomain_at name_most path (codes "name") d) (λ name. namespace_at Cluster path d >>= λ namespace. Ok (record { namespace = namespace; name = name })) k h in
-    let s = gave (namespace_at Cluster path d) (λ namespace. Ok (record { namespace = namespace; name = n.value })) k n.second in
-    let made : Key = record { namespace = s.value; name = n.value } in
-    along (λ (x : Key). (length x.name ≤ name_most) × (is_dns_name x.name ≡ true)) made k (the_same made k s.second)
-    (named_by name_most is_dns_name path (codes "name") d n.value n.first)
-
-a_name : (d : Data) (m : ObjectMeta) → meta_at Cluster d ≡ Ok m → (length m.key.name ≤ name_most) × (is_dns_name m.key.name ≡ true)
-a_name d m h =
-    let o = gave (object_at [] (codes "metadata") d) (members_at Cluster (step.Member (codes "metadata") ∷ [])) m h in
-    let k = gave (key_at Cluster (step.Member (codes "metadata") ∷ []) o.value) (λ key. labels_at (step.Member (codes "metadata") ∷ []) o.value >>= λ labels. metadata_version_at (step.Member (codes "metadata") ∷ []) o.value >>= λ version.
-    Ok (record { key = key; labels = labels; version = version })) m o.second in
-    let l = gave (labels_at (step.Member (codes "metadata") ∷ []) o.value) (λ labels. metadata_version_at (step.Member (codes "metadata") ∷ []) o.value >>= λ version.
-    Ok (record { key = k.value; labels = labels; version = version })) m k.second in
-    let v = gave (metadata_version_at (step.Member (codes "metadata") ∷ []) o.value) (λ version.
-    Ok (record { key = k.value; labels = l.value; version = version })) m l.second in
-    let made : ObjectMeta = record { key = k.value; labels = l.value; version = v.value } in
-    along (λ (x : ObjectMeta). (length x.key.name ≤ name_most) × (is_dns_name x.key.name ≡ true)) made m (the_same made m v.second)
-    (a_key (step.Member (codes "metadata") ∷ []) o.value k.value k.first)
-
-pub spec_keeps : (name : List ℕ) (version : Option ℕ) (path : List Step) (spec : Data) (s : ResourceSlice) → length name ≤ name_most → is_dns_name name ≡ true → spec_in name version path spec ≡ Ok s → IsWithinLimits s
-spec_keeps name version path spec s size form h =
+pub spec_keeps : (name : List ℕ) (version : Option ℕ) (path : List Step) (spec : Data) (s : ResourceSlice) → length name ≤ name_most → is_dns_name name ≡ true → VersionKept version → spec_in name version path spec ≡ Ok s → IsWithinLimits s
+spec_keeps name version path spec s size form kept_version h =
     let d = gave (driver_at path spec) (λ driver.
     pool_at path spec >>= λ pool.
     slice_nodes_at path spec >>= λ nodes.
@@ -334,6 +315,7 @@ spec_keeps name version path spec s size form h =
     (record {
       name = size;
       name_form = form;
+      version = kept_version;
       driver = is;
       pool = a_pool path spec p.value p.first;
       nodes = slice_nodes path spec n.value n.first;
@@ -346,9 +328,13 @@ spec_keeps name version path spec s size form h =
       devices = all.each_one;
     })
 
-pub slice_keeps : (d : Data) (s : ResourceSlice) → slice_of d ≡ Ok s → IsWithinLimits s
-slice_keeps d s h =
+-- metadata keeps its rules
+abbrev pub MetaLaw : Type 0
+MetaLaw = (scope : Scope) (d : Data) (meta : ObjectMeta) → meta_at scope d ≡ Ok meta → MetaKept scope meta
+
+pub slice_keeps : MetaLaw → (d : Data) (s : ResourceSlice) → slice_of d ≡ Ok s → IsWithinLimits s
+slice_keeps law d s h =
     let m = gave (meta_at Cluster d) (λ meta. object_at [] (codes "spec") d >>= spec_in meta.key.name meta.version (step.Member (codes "spec") ∷ [])) s h in
     let o = gave (object_at [] (codes "spec") d) (spec_in m.value.key.name m.value.version (step.Member (codes "spec") ∷ [])) s m.second in
-    let n = a_name d m.value m.first in
-    spec_keeps m.value.key.name m.value.version (step.Member (codes "spec") ∷ []) o.value s n.0 n.1 o.second
+    let k = law Cluster d m.value m.first in
+    spec_keeps m.value.key.name m.value.version (step.Member (codes "spec") ∷ []) o.value s k.key.name.size k.key.name.form k.version o.second

@@ -43,12 +43,16 @@ find_set name sets = find (λ s. bytes_eq s.name name) sets
 abbrev pub draws_on : List ℕ → List CounterConsumption → Bool
 draws_on name before = list_any (λ c. bytes_eq c.set name) before
 
--- a set of the slice, from which nothing before draws
-abbrev pub new_draw_on : List CounterSet → List Step → List CounterConsumption → Data → Result CounterSet FieldError
-new_draw_on sets path before value =
-    object_value path value >>= text_at path (codes "counterSet") >>= λ name.
+-- the set of that name, from which nothing before draws
+abbrev pub undrawn_set : List CounterSet → List Step → List CounterConsumption → List ℕ → Result CounterSet FieldError
+undrawn_set sets path before name =
     some_or (field_error path (codes "counterSet") Unknown) (find_set name sets) >>=
     unless (field_error path (codes "counterSet") Doubled) (draws_on name before)
+
+-- the set of the slice from which is drawn
+abbrev pub new_draw_on : List CounterSet → List Step → List CounterConsumption → Data → Result CounterSet FieldError
+new_draw_on sets path before value =
+    object_value path value >>= text_at path (codes "counterSet") >>= undrawn_set sets path before
 
 -- The amounts that are drawn from a set, and how many are met with them. The list's path is the place
 -- of TooMany.

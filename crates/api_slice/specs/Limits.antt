@@ -7,6 +7,7 @@ use Rattle.node_select.specs.declared.requirement.Requirement.{Requirement}
 use Rattle.node_select.specs.declared.requirement.Test.{Test}
 use Rattle.node_select.specs.declared.requirement.Test.TheVariants.{OneOf, NoneOf, Present, Absent, Above, Below}
 use Rattle.node_select.specs.declared.selector.Selector.{Selector}
+use Rattle.object_fields.specs.Limits.{VersionKept}
 use Rattle.object_fields.specs.Meta.{name_most}
 use Rattle.object_fields.specs.Names.{is_dns_label, is_dns_name, is_pool_name, pool_most}
 use Rattle.api_slice.specs.Consumption.{amounts_most, find_set, has_counter}
@@ -123,6 +124,7 @@ pub record IsPool (p : Pool) : Type 0 where
 pub record IsWithinLimits (s : SliceFields) : Type 0 where
   pub name : length s.name ≤ name_most
   pub name_form : is_dns_name s.name ≡ true
+  pub version : VersionKept s.version
   pub driver : IsDriver s.driver
   pub pool : IsPool s.pool
   pub nodes : IsSliceNodes s.nodes

@@ -1,4 +1,4 @@
-ghost use Rattle.std.specs.Prelude.{◌≡◌, [], option_copied};
+ghost use Rattle.std.specs.Prelude.{◌≡◌, []};
 ghost use Rattle.serde_json.specs.View.{items_view, members_view, view};
 ghost use Rattle.object_fields.specs.Fields.{Gives, Reads};
 ghost use Rattle.api_slice.specs.Consumption as fields;
@@ -8,7 +8,7 @@ use crate::lists::{count_on, items_or_none};
 use crate::types::{CounterConsumption, CounterSet};
 use dra_values::{Seq, Table, Text};
 use object_fields::{
-    FieldError, Kind, Path, borrowed, optional_list, or_memory, table, value_object,
+    ByName, FieldError, HasName, Kind, Path, optional_list, or_memory, table, text, value_object,
 };
 use quantity::Quantity;
 use serde_json::{Map, Value};
@@ -22,7 +22,7 @@ pub(crate) fn read_consumption(
     alloc: Global,
     device: &Value,
     path: &Path,
-    sets: &[CounterSet],
+    sets: &ByName<CounterSet>,
 ) -> Result<Seq<CounterConsumption>, FieldError>
     ensures { Reads result (fields.consumes_of sets.now path.now (view device.now)) }
 {
@@ -31,19 +31,28 @@ pub(crate) fn read_consumption(
     each_draw(alloc, items_or_none(values), &path, sets)
 }
 
+/// A draw is found by its set.
+impl HasName for CounterConsumption {
+    ghost name_of = { λ c. c.set };
+
+    fn name(&self) -> &Text {
+        &self.set
+    }
+}
+
 fn each_draw(
     alloc: Global,
     values: &[Value],
     path: &Path,
-    sets: &[CounterSet],
+    sets: &ByName<CounterSet>,
 ) -> Result<Seq<CounterConsumption>, FieldError>
     ensures { Reads result (fields.draws_from sets.now path.now 0 0 [] (items_view values.now)) }
 {
-    let mut draws = Seq::empty(alloc);
+    let mut draws = ByName::empty(alloc);
     let mut met = 0;
     for place in 0..values.len() {
         let at = path.place(alloc, place)?;
-        let counters = new_draw_on(alloc, &values[place], &at, sets, draws.as_slice())?;
+        let counters = new_draw_on(alloc, &values[place], &at, sets, &draws)?;
         let (amounts, more) = read_amounts(
             alloc,
             &values[place],
@@ -53,10 +62,13 @@ fn each_draw(
             &counters.counters,
         )?;
         let set = or_memory(alloc, counters.name.copy(alloc))?;
-        or_memory(alloc, draws.push(CounterConsumption { set, amounts }))?;
+        draws = or_memory(
+            alloc,
+            draws.with(alloc, CounterConsumption { set, amounts }),
+        )?;
         met = more;
     }
-    Ok(draws)
+    Ok(draws.into_seq())
 }
 
 /// The set of the slice from which is drawn, and nothing was before.
@@ -64,44 +76,35 @@ fn new_draw_on<'a>(
     alloc: Global,
     value: &Value,
     path: &Path,
-    sets: &'a [CounterSet],
-    draws: &[CounterConsumption],
+    sets: &'a ByName<CounterSet>,
+    draws: &ByName<CounterConsumption>,
 ) -> Result<&'a CounterSet, FieldError>
     ensures { Gives (λ s. s.now) result
         (fields.new_draw_on sets.now path.now draws.now (view value.now)) }
 {
     let object = value_object(alloc, value, path)?;
-    let name = borrowed(alloc, object, path, "counterSet")?;
-    let Some(counters) = find_set(sets, name) else {
+    let name = Text::new(text(alloc, object, path, "counterSet")?);
+    undrawn_set(alloc, path, &name, sets, draws)
+}
+
+/// The set of that name, from which none of these draws. Unknown, then Doubled.
+fn undrawn_set<'a>(
+    alloc: Global,
+    path: &Path,
+    name: &Text,
+    sets: &'a ByName<CounterSet>,
+    draws: &ByName<CounterConsumption>,
+) -> Result<&'a CounterSet, FieldError>
+    ensures { Gives (λ s. s.now) result (fields.undrawn_set sets.now path.now draws.now name.now) }
+{
+    let Some(counters) = sets.find(name) else {
         return Err(FieldError::of_field(alloc, path, "counterSet", Kind::Unknown));
     };
-    if draws_on(draws, name) {
+    if draws.has(name) {
         Err(FieldError::of_field(alloc, path, "counterSet", Kind::Doubled))
     } else {
         Ok(counters)
     }
-}
-
-fn find_set<'a>(sets: &'a [CounterSet], name: &str) -> Option<&'a CounterSet>
-    ensures { option_copied result ≡ fields.find_set name.now sets.now }
-{
-    for set in sets {
-        if set.name.as_str() == name {
-            return Some(set);
-        }
-    }
-    None
-}
-
-fn draws_on(draws: &[CounterConsumption], name: &str) -> bool
-    ensures { result ≡ fields.draws_on name.now draws.now }
-{
-    for draw in draws {
-        if draw.set.as_str() == name {
-            return true;
-        }
-    }
-    false
 }
 
 /// The amounts that are drawn from these counters, and how many are met with them. It is TooMany at

@@ -6,9 +6,10 @@ ghost use Rattle.api_slice.specs.Counters as fields;
 use crate::amount::read_amount;
 use crate::lists::{count_on, items_or_none};
 use crate::types::CounterSet;
-use dra_values::{Seq, Table, Text};
+use dra_values::{Table, Text};
 use object_fields::{
-    FieldError, Kind, Path, label_of, optional_list, or_memory, read_dns_label, table, value_object,
+    ByName, FieldError, HasName, Kind, Path, label_of, optional_list, or_memory, read_dns_label,
+    table, value_object,
 };
 use quantity::Quantity;
 use serde_json::{Map, Value};
@@ -22,7 +23,7 @@ pub(crate) fn read_counter_sets(
     alloc: Global,
     spec: &Value,
     path: &Path,
-) -> Result<Seq<CounterSet>, FieldError>
+) -> Result<ByName<CounterSet>, FieldError>
     ensures { Reads result (fields.counter_sets_at path.now (view spec.now)) }
 {
     let values = optional_list(alloc, spec, path, "sharedCounters")?;
@@ -30,16 +31,25 @@ pub(crate) fn read_counter_sets(
     each_set(alloc, items_or_none(values), &path)
 }
 
-fn each_set(alloc: Global, values: &[Value], path: &Path) -> Result<Seq<CounterSet>, FieldError>
+/// A set is found by its name.
+impl HasName for CounterSet {
+    ghost name_of = { λ s. s.name };
+
+    fn name(&self) -> &Text {
+        &self.name
+    }
+}
+
+fn each_set(alloc: Global, values: &[Value], path: &Path) -> Result<ByName<CounterSet>, FieldError>
     ensures { Reads result (fields.sets_from path.now 0 0 [] (items_view values.now)) }
 {
-    let mut sets = Seq::empty(alloc);
+    let mut sets = ByName::empty(alloc);
     let mut met = 0;
     for place in 0..values.len() {
         let at = path.place(alloc, place)?;
-        let name = new_set_name(alloc, &values[place], &at, sets.as_slice())?;
+        let name = new_set_name(alloc, &values[place], &at, &sets)?;
         let (counters, more) = read_counters(alloc, &values[place], path, &at, met)?;
-        or_memory(alloc, sets.push(CounterSet { name, counters }))?;
+        sets = or_memory(alloc, sets.with(alloc, CounterSet { name, counters }))?;
         met = more;
     }
     Ok(sets)
@@ -50,28 +60,17 @@ fn new_set_name(
     alloc: Global,
     value: &Value,
     path: &Path,
-    sets: &[CounterSet],
+    sets: &ByName<CounterSet>,
 ) -> Result<Text, FieldError>
     ensures { Reads result (fields.new_set_name path.now sets.now (view value.now)) }
 {
     let object = value_object(alloc, value, path)?;
     let name = read_dns_label(alloc, object, path, "name")?;
-    if has_set(sets, name.as_str()) {
+    if sets.has(&name) {
         Err(FieldError::of_field(alloc, path, "name", Kind::Doubled))
     } else {
         Ok(name)
     }
-}
-
-fn has_set(sets: &[CounterSet], name: &str) -> bool
-    ensures { result ≡ fields.has_set name.now sets.now }
-{
-    for set in sets {
-        if set.name.as_str() == name {
-            return true;
-        }
-    }
-    false
 }
 
 /// The counters of a set, and how many are met with them. It is TooMany at the list's path where

@@ -19,8 +19,8 @@ use crate::properties::Properties;
 use crate::types::{Attribute, CounterConsumption, CounterSet, Device, Nodes};
 use dra_values::{Seq, Table, Text};
 use object_fields::{
-    FieldError, Kind, Path, QualName, optional_short_list, or_memory, read_dns_label, unset,
-    value_object,
+    ByName, FieldError, Kind, Path, QualName, optional_short_list, or_memory, read_dns_label,
+    unset, value_object,
 };
 use quantity::Quantity;
 use serde_json::Value;
@@ -37,7 +37,7 @@ pub(crate) fn read_devices(
     spec: &Value,
     path: &Path,
     driver: &DriverName,
-    sets: &[CounterSet],
+    sets: &ByName<CounterSet>,
     per_device: bool,
 ) -> Result<Seq<Device>, FieldError>
     ensures { Reads result
@@ -61,7 +61,7 @@ fn read_rows(
     values: &[Value],
     path: &Path,
     driver: &DriverName,
-    sets: &[CounterSet],
+    sets: &ByName<CounterSet>,
     per_device: bool,
 ) -> Result<Seq<Device>, FieldError>
     ensures { Reads result
@@ -88,7 +88,7 @@ fn read_columns(
     values: &[Value],
     path: &Path,
     driver: &str,
-    sets: &[CounterSet],
+    sets: &ByName<CounterSet>,
     per_device: bool,
 ) -> Result<Columns, FieldError>
     ensures { Reads result
@@ -112,41 +112,30 @@ fn read_columns(
 fn each_name(alloc: Global, values: &[Value], path: &Path) -> Result<Seq<Text>, FieldError>
     ensures { Reads result (fields.names_from path.now 0 [] (items_view values.now)) }
 {
-    let mut names = Seq::empty(alloc);
+    let mut names = ByName::empty(alloc);
     for place in 0..values.len() {
         let at = path.place(alloc, place)?;
-        let name = new_device_name(alloc, &values[place], &at, names.as_slice())?;
-        or_memory(alloc, names.push(name))?;
+        let name = new_device_name(alloc, &values[place], &at, &names)?;
+        names = or_memory(alloc, names.with(alloc, name))?;
     }
-    Ok(names)
+    Ok(names.into_seq())
 }
 
 fn new_device_name(
     alloc: Global,
     value: &Value,
     path: &Path,
-    names: &[Text],
+    names: &ByName<Text>,
 ) -> Result<Text, FieldError>
     ensures { Reads result (fields.new_device_name path.now names.now (view value.now)) }
 {
     let object = value_object(alloc, value, path)?;
     let name = read_dns_label(alloc, object, path, "name")?;
-    if has_device(names, name.as_str()) {
+    if names.has(&name) {
         Err(FieldError::of_field(alloc, path, "name", Kind::Doubled))
     } else {
         Ok(name)
     }
-}
-
-fn has_device(names: &[Text], name: &str) -> bool
-    ensures { result ≡ fields.has_device name.now names.now }
-{
-    for other in names {
-        if other.as_str() == name {
-            return true;
-        }
-    }
-    false
 }
 
 fn each_attributes(
@@ -187,7 +176,7 @@ fn each_consumption(
     alloc: Global,
     values: &[Value],
     path: &Path,
-    sets: &[CounterSet],
+    sets: &ByName<CounterSet>,
 ) -> Result<Seq<Seq<CounterConsumption>>, FieldError>
     ensures { Reads result (each (consumes_of sets.now) path.now (items_view values.now)) }
 {

@@ -4,10 +4,12 @@ ghost use Rattle.api_slice.specs.Limits.{IsWithinLimits};
 ghost use Rattle.api_slice.specs.Slices.{slice_of};
 ghost use Rattle.api_slice.specs.declared.types.ResourceSlice.{ResourceSlice};
 
+use object_fields::metadata_keeps_limits;
+
 /// What each slice keeps that is read (API reference of `resource.k8s.io/v1`):
 ///
-/// - its name is a DNS subdomain of at most 253 bytes, its driver one of at most 63, and the pool has
-///   a name of such parts and numbers in their ranges
+/// - its name is a DNS subdomain of at most 253 bytes, its driver one of at most 63, its version, where
+///   it has one, a number of 64 bits, and the pool has a name of such parts and numbers in their ranges
 /// - counter sets and devices have DNS labels as names, each once; counters are at most 32 in all,
 ///   and devices at most 128
 /// - of each device the names of attributes and capacities have a DNS subdomain of at most 63 bytes
@@ -20,4 +22,6 @@ ghost use Rattle.api_slice.specs.declared.types.ResourceSlice.{ResourceSlice};
 ///   only with these, of `metadata.name`
 pub fn slices_keep_limits()
     ensures { (d : Data) (s : ResourceSlice) → slice_of d ≡ Ok s → IsWithinLimits s }
-{}
+{
+    metadata_keeps_limits();
+}

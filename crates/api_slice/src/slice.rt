@@ -1,7 +1,7 @@
 ghost use Rattle.std.specs.Prelude.{◌≡◌};
 ghost use Rattle.serde_json.specs.View.{view};
 ghost use Rattle.object_fields.specs.Fields.{Reads};
-ghost use Rattle.object_fields.specs.Limits.{NameKept};
+ghost use Rattle.object_fields.specs.Limits.{NameKept, VersionKept};
 ghost use Rattle.api_slice.specs.Slices as fields;
 ghost use Rattle.api_slice.specs.Nodes.{is_per_device};
 
@@ -74,6 +74,7 @@ fn read_named(
     version: Option<u64>,
 ) -> Result<ResourceSlice, FieldError>
     requires name { NameKept name }
+    requires version { VersionKept version }
     ensures { Reads result (fields.spec_at name version (view document.now)) }
 {
     let top = Path::top(alloc);
@@ -90,27 +91,21 @@ fn read_spec(
     version: Option<u64>,
 ) -> Result<ResourceSlice, FieldError>
     requires name { NameKept name }
+    requires version { VersionKept version }
     ensures { Reads result (fields.spec_in name version path.now (view spec.now)) }
 {
     let driver = DriverName::read(alloc, spec, path)?;
     let pool = read_pool(alloc, spec, path)?;
     let nodes = read_slice_nodes(alloc, spec, path)?;
     let counters = read_counter_sets(alloc, spec, path)?;
-    let devices = read_devices(
-        alloc,
-        spec,
-        path,
-        &driver,
-        counters.as_slice(),
-        is_per_device(&nodes),
-    )?;
+    let devices = read_devices(alloc, spec, path, &driver, &counters, is_per_device(&nodes))?;
     Ok(ResourceSlice {
         name,
         version,
         driver,
         pool,
         nodes,
-        counters,
+        counters: counters.into_seq(),
         devices,
     })
 }
