@@ -3,3 +3,4 @@ pub mod Readings
 pub mod Parts
 pub mod Placement
 pub mod Limits
+pub mod Listed

@@ -1,58 +1,42 @@
 -- Why each slice that is read keeps the limits: its devices, and then the whole.
-use Rattle.std.proofs.Common.{◌≡◌, ℕ, suc, ◌+◌, ◌≤◌, ◌<◌, nat_lt, nat_le, ◌≢◌, ℤ, pos, negsuc, cond, map, Bool, true, false, ◌&&◌, ◌||◌, not, List, [], ◌∷◌, ◌++◌, length, Option, Some, None, Result, Ok, Err, refl, sym, ap, subst, append_assoc, length-append, ◌∙◌, arith, if◌then◌else◌, codes, option_and_then}
-use Rattle.std.proofs.lemmas.Bool.Decides.{nat_tests}
-use Rattle.std.proofs.lemmas.List.{append-nil, map-append}
-use Rattle.std.proofs.lemmas.List.Sums.{sum_by-append}
-use Rattle.std.proofs.lemmas.Slice.Eq.{bytes_eq-Decides}
+use Rattle.std.proofs.Common.{◌≡◌, ℕ, ◌+◌, ◌≤◌, nat_lt, ◌≢◌, ℤ, map, Bool, true, false, List, [], ◌∷◌, ◌++◌, length, Option, Result, Ok, sym, append_assoc, length-append, ◌∙◌, arith, codes}
+use Rattle.std.proofs.lemmas.List.{append-nil}
 use Rattle.std.proofs.lemmas.List.Elements.{All-nil, All-cons, All-head, All-tail, All-append}
-use Rattle.std.proofs.lemmas.Map.Views.{All-keys-insert_entry, All-values-insert_entry}
-use Rattle.std.specs.BTreeMap.{insert_entry}
-use Rattle.std.specs.List.{All, list_any, sum_by}
-use Rattle.std.specs.Map.{keys_of, values_of}
-use Rattle.std.specs.Cmp.Lexicographic.{slice_cmp}
-use Rattle.std.specs.Ordering.{match_ordering, nat_cmp}
-use Rattle.std.specs.declared.cmp.Ordering.{Ordering}
-use Rattle.std.specs.declared.cmp.Ordering.TheVariants.{Less, Equal, Greater}
-use Rattle.std.specs.Str.{bytes_eq, chars}
-use Rattle.serde_json.specs.Data.{Data, Items, no_items, item, Members, no_members, member}
-use Rattle.serde_json.specs.Find.{as_object}
-use Rattle.object_fields.specs.Fields.{dns_label_at, dns_subdomain_at, error_at, field_error, if_there, items_length, judged, list_at, member_of, name_at, name_in, natural_at, natural_between, object_at, pool_name_at, whole_at, object_value, optional_at, short_list_at, signed_at, some_or, table_at, text_at, truth_at, unless, unset_at, ◌>>=◌}
+use Rattle.std.specs.List.{All}
+use Rattle.serde_json.specs.Data.{Data, Items, no_items, item}
+use Rattle.object_fields.specs.Fields.{dns_label_at, field_error, items_length, name_in, natural_at, object_at, pool_name_at, object_value, optional_at, short_list_at, table_at, text_at, unless, ◌>>=◌}
 use Rattle.object_fields.specs.Limits.{MetaKept, VersionKept}
-use Rattle.object_fields.specs.Meta.{key_at, labels_at, members_at, meta_at, name_most, namespace_at, version_at as metadata_version_at}
-use Rattle.object_fields.specs.Names.{is_dns_label, is_dns_name, is_pool_name, label_most, pool_most}
-use Rattle.object_fields.specs.Qualified.{cut_at, domain_and_id, domain_most, id_alone, id_most, is_c_identifier, qual_name_in, qualified_from}
+use Rattle.object_fields.specs.Meta.{meta_at, name_most}
+use Rattle.object_fields.specs.Names.{is_dns_name, is_pool_name, pool_most}
 use Rattle.object_fields.specs.declared.error.FieldError.{FieldError}
-use Rattle.object_fields.specs.declared.kind.Kind.TheVariants.{BadName, Doubled, NotOne, OutOfRange, TooLong, TooMany, Missing, Unknown, WrongType}
-use Rattle.object_fields.specs.declared.key.Key.{Key}
+use Rattle.object_fields.specs.declared.kind.Kind.TheVariants.{Doubled, TooMany}
 use Rattle.object_fields.specs.declared.meta.ObjectMeta.{ObjectMeta}
 use Rattle.object_fields.specs.declared.meta.Scope.{Scope}
 use Rattle.object_fields.specs.declared.meta.Scope.TheVariants.{Cluster}
 use Rattle.object_fields.specs.declared.path.Step.{Step}
 use Rattle.object_fields.specs.declared.path.Step.TheVariants as step
 use Rattle.object_fields.specs.declared.qualified.QualName.{QualName}
-use Rattle.api_slice.specs.Amounts as amounts
-use Rattle.api_slice.specs.Attributes.{attribute_of, attributes_in, attributes_of, attributes_with, chars_most, is_long, new_name, one_value, qual_cmp, short_text_at, version_at, version_text, has_name}
-use Rattle.api_slice.specs.Capacity.{amount_of, capacity_in, capacity_of, capacity_with, together_at, together_most}
-use Rattle.api_slice.specs.Consumption.{amounts_at, amounts_most, amounts_with, consumes_of, draws_from, draws_on, find_set, has_counter, known_counter, new_draw_on}
-use Rattle.api_slice.specs.Counters.{counter_name, counter_sets_at, counters_at, counters_most, counters_with, has_set, new_set_name, sets_from}
+use Rattle.api_slice.specs.Attributes.{attributes_in, attributes_of}
+use Rattle.api_slice.specs.Capacity.{capacity_in, capacity_of, together_at, together_most}
+use Rattle.api_slice.specs.Consumption.{consumes_of}
+use Rattle.api_slice.specs.Counters.{counter_sets_at}
 use Rattle.api_slice.specs.Devices.{columns_of, devices_at, devices_most, devices_of, devices_with, has_device, names_from, new_device_name, nothing_more_from, rows_of}
 use Rattle.api_slice.specs.Drivers.{IsDriver, driver_most}
-use Rattle.api_slice.specs.Limits.{AreDifferent, DrawsOn, IsAmount, IsCounterSet, IsLabel, IsPool, IsWithinLimits, KeepsLimits}
-use Rattle.api_slice.specs.Properties.{ArePaired, AreProperties, IsFullName, IsValue, PropertyTables, char_count}
-use Rattle.api_slice.specs.Lists.{count_at, count_on, each, each_from, items_or_none, members_length, members_or_none}
+use Rattle.api_slice.specs.Limits.{AreDifferent, IsLabel, IsPool, IsWithinLimits, KeepsLimits}
+use Rattle.api_slice.specs.Properties.{ArePaired, AreProperties}
+use Rattle.api_slice.specs.Lists.{count_at, each, each_from, items_or_none}
 use Rattle.api_slice.specs.Nodes.{device_nodes_of, is_per_device, slice_nodes_at}
 use Rattle.api_slice.specs.Slices.{driver_at, pool_at, pool_in, signed_most, slice_of, spec_in}
 use Rattle.api_slice.specs.declared.device.Columns.{Columns}
 use Rattle.api_slice.specs.declared.types.Attribute.{Attribute}
-use Rattle.api_slice.specs.declared.types.Attribute.TheVariants as attribute
 use Rattle.api_slice.specs.declared.types.CounterConsumption.{CounterConsumption}
 use Rattle.api_slice.specs.declared.types.CounterSet.{CounterSet}
 use Rattle.api_slice.specs.declared.types.Device.{Device}
 use Rattle.api_slice.specs.declared.types.Nodes.{Nodes}
 use Rattle.api_slice.specs.declared.types.Pool.{Pool}
 use Rattle.api_slice.specs.declared.types.ResourceSlice.{ResourceSlice}
-use Rattle.api_slice.proofs.Readings.{Gave, gave, done, the_same, not_refused, kept, was_some, at_most, along, given, Taken, choice, taken, or_left, or_right, and_left, and_right, alone, both, either, full_name, length-insert, IsTable, no_entries, one_more, within, if_taken, taken_is, not_false, not_below, named_by, labelled, in_range, numbered, short_items, few_of, few_items, none_named, none_is, push_different}
-use Rattle.api_slice.proofs.Parts.{short_text, short_version, short_one, short_value, attributes_table, IsAnyAmount, capacity_table, counted_in, counted, attributes_in_table, capacity_in_table, an_amount, is_counter_name, counters_table, counted_on, CountersOf, counters_of, SetsMet, AreSets, new_set, sets_keep, counters_keep, is_known, amounts_table, AmountsOf, amounts_in, found, found_itself, a_set, DrawsMet, AreDraws, draws_keep, all_drawn}
+use Rattle.api_slice.proofs.Readings.{gave, the_same, not_refused, kept, at_most, along, taken, named_by, labelled, numbered, few_items, none_is, push_different}
+use Rattle.api_slice.proofs.Parts.{counted, attributes_in_table, capacity_in_table, counters_keep, all_drawn}
 use Rattle.api_slice.proofs.Placement.{nodes_due, slice_nodes}
 
 -- ---- a device
@@ -89,7 +73,7 @@ device_keeps driver sets per_device path d x is a c draws own =
 -- ---- all devices
 
 -- each element is what the reading gives of the item at its place
-abbrev Column : {A : Type 0} → (List Step → Data → Result A FieldError) → List Step → ℕ → List A → Items → Type 0
+abbrev pub Column : {A : Type 0} → (List Step → Data → Result A FieldError) → List Step → ℕ → List A → Items → Type 0
 Column r path place [] no_items = Unit {0}
 Column r path place [] (item d ds) = ⊥
 Column r path place (x ∷ xs) no_items = ⊥
@@ -107,7 +91,7 @@ behind r path place before (item d ds) xs h =
     let b = behind r path (place + 1) (before ++ g.value ∷ []) ds xs g.second in
     record { own = g.value ∷ b.own; is = sym (append_assoc before (g.value ∷ []) b.own) ∙ b.is; column = (g.first, b.column) }
 
-column : {A : Type 0} (r : List Step → Data → Result A FieldError) (path : List Step) (ds : Items) (xs : List A) → each r path ds ≡ Ok xs → Column r path 0 xs ds
+pub column : {A : Type 0} (r : List Step → Data → Result A FieldError) (path : List Step) (ds : Items) (xs : List A) → each r path ds ≡ Ok xs → Column r path 0 xs ds
 column r path ds xs h = let b = behind r path 0 [] ds xs h in along (λ ys. Column r path 0 ys ds) b.own xs b.is b.column
 
 devices_keep : (driver : List ℕ) (sets : List CounterSet) (per_device : Bool) (path : List Step) (place : ℕ) (ds : Items) (names : List (List ℕ)) (attributes : List (List (QualName × Attribute))) (capacity : List (List (QualName × ℤ))) (consumes : List (List CounterConsumption)) (nodes : List (Option Nodes)) →

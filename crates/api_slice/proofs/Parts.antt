@@ -1,55 +1,38 @@
 -- Why the attributes, the capacities, the counter sets and what a device draws keep the limits.
-use Rattle.std.proofs.Common.{◌≡◌, ℕ, suc, ◌+◌, ◌≤◌, ◌<◌, nat_lt, nat_le, ◌≢◌, ℤ, pos, negsuc, cond, map, Bool, true, false, ◌&&◌, ◌||◌, not, List, [], ◌∷◌, ◌++◌, length, Option, Some, None, Result, Ok, Err, refl, sym, ap, subst, append_assoc, length-append, ◌∙◌, arith, if◌then◌else◌, codes, option_and_then}
-use Rattle.std.proofs.lemmas.Bool.Decides.{nat_tests}
-use Rattle.std.proofs.lemmas.List.{append-nil, map-append}
+use Rattle.std.proofs.Common.{◌≡◌, ℕ, ◌+◌, ◌≤◌, nat_lt, ◌≢◌, ℤ, cond, map, Bool, true, false, not, List, [], ◌∷◌, ◌++◌, length, Option, Some, None, Ok, refl, sym, ap, ◌∙◌, arith, codes, option_and_then}
+use Rattle.std.proofs.lemmas.List.{map-append}
 use Rattle.std.proofs.lemmas.List.Sums.{sum_by-append}
 use Rattle.std.proofs.lemmas.Slice.Eq.{bytes_eq-Decides}
-use Rattle.std.proofs.lemmas.List.Elements.{All-nil, All-cons, All-head, All-tail, All-append}
-use Rattle.std.proofs.lemmas.Map.Views.{All-keys-insert_entry, All-values-insert_entry}
+use Rattle.std.proofs.lemmas.List.Elements.{All-nil, All-cons, All-append}
 use Rattle.std.specs.BTreeMap.{insert_entry}
-use Rattle.std.specs.List.{All, list_any, sum_by}
+use Rattle.std.specs.List.{All, sum_by}
 use Rattle.std.specs.Map.{keys_of, values_of}
 use Rattle.std.specs.Cmp.Lexicographic.{slice_cmp}
-use Rattle.std.specs.Ordering.{match_ordering, nat_cmp}
-use Rattle.std.specs.declared.cmp.Ordering.{Ordering}
-use Rattle.std.specs.declared.cmp.Ordering.TheVariants.{Less, Equal, Greater}
+use Rattle.std.specs.Ordering.{nat_cmp}
 use Rattle.std.specs.Str.{bytes_eq, chars}
 use Rattle.serde_json.specs.Data.{Data, Items, no_items, item, Members, no_members, member}
 use Rattle.serde_json.specs.Find.{as_object}
-use Rattle.object_fields.specs.Fields.{dns_label_at, dns_subdomain_at, error_at, field_error, if_there, items_length, judged, list_at, member_of, name_at, name_in, natural_at, natural_between, object_at, pool_name_at, whole_at, object_value, optional_at, short_list_at, signed_at, some_or, table_at, text_at, truth_at, unless, unset_at, ◌>>=◌}
-use Rattle.object_fields.specs.Meta.{key_at, labels_at, members_at, meta_at, name_most, namespace_at, version_at as metadata_version_at}
-use Rattle.object_fields.specs.Names.{is_dns_label, is_dns_name, is_pool_name, label_most, pool_most}
-use Rattle.object_fields.specs.Qualified.{cut_at, domain_and_id, domain_most, id_alone, id_most, is_c_identifier, qual_name_in, qualified_from}
+use Rattle.object_fields.specs.Fields.{dns_label_at, error_at, field_error, if_there, list_at, member_of, object_value, optional_at, signed_at, some_or, table_at, text_at, truth_at, unless, ◌>>=◌}
+use Rattle.object_fields.specs.Names.{is_dns_label, label_most}
 use Rattle.object_fields.specs.declared.error.FieldError.{FieldError}
-use Rattle.object_fields.specs.declared.kind.Kind.TheVariants.{BadName, BadVersion, Doubled, NotOne, OutOfRange, TooLong, TooMany, Missing, Unknown, WrongType}
-use Rattle.object_fields.specs.declared.key.Key.{Key}
-use Rattle.object_fields.specs.declared.meta.ObjectMeta.{ObjectMeta}
-use Rattle.object_fields.specs.declared.meta.Scope.TheVariants.{Cluster}
+use Rattle.object_fields.specs.declared.kind.Kind.TheVariants.{BadVersion, Doubled, NotOne, TooLong, TooMany, Missing, Unknown, WrongType}
 use Rattle.object_fields.specs.declared.path.Step.{Step}
 use Rattle.object_fields.specs.declared.path.Step.TheVariants as step
 use Rattle.object_fields.specs.declared.qualified.QualName.{QualName}
 use Rattle.api_slice.specs.Amounts as amounts
-use Rattle.api_slice.specs.Attributes.{attribute_of, attributes_in, attributes_of, attributes_with, chars_most, is_long, is_version, new_name, one_value, qual_cmp, short_text_at, version_at, version_text, has_name}
-use Rattle.api_slice.specs.Capacity.{amount_of, capacity_in, capacity_of, capacity_with, together_at, together_most}
+use Rattle.api_slice.specs.Attributes.{attribute_of, attributes_in, attributes_with, chars_most, is_long, is_version, new_name, one_value, qual_cmp, short_text_at, version_at, version_text}
+use Rattle.api_slice.specs.Capacity.{amount_of, capacity_in, capacity_with}
 use Rattle.api_slice.specs.Consumption.{amounts_at, amounts_most, amounts_with, consumes_of, draws_from, draws_on, find_set, has_counter, known_counter, new_draw_on}
 use Rattle.api_slice.specs.Counters.{counter_name, counter_sets_at, counters_at, counters_most, counters_with, has_set, new_set_name, sets_from}
-use Rattle.api_slice.specs.Devices.{columns_of, devices_at, devices_most, devices_of, devices_with, has_device, names_from, new_device_name, nothing_more_from, rows_of}
-use Rattle.api_slice.specs.Drivers.{IsDriver, driver_most}
-use Rattle.api_slice.specs.Limits.{AreDifferent, DrawsOn, IsAmount, IsCounterSet, IsLabel, IsPool, IsWithinLimits, KeepsLimits}
-use Rattle.api_slice.specs.Properties.{ArePaired, AreProperties, IsFullName, IsValue, PropertyTables, char_count}
-use Rattle.api_slice.specs.Lists.{count_at, count_on, each, each_from, items_or_none, members_length, members_or_none}
-use Rattle.api_slice.specs.Nodes.{device_nodes_of, is_per_device, slice_nodes_at}
-use Rattle.api_slice.specs.Slices.{driver_at, pool_at, pool_in, signed_most, slice_of, spec_in}
-use Rattle.api_slice.specs.declared.device.Columns.{Columns}
+use Rattle.api_slice.specs.Drivers.{IsDriver}
+use Rattle.api_slice.specs.Limits.{AreDifferent, DrawsOn, IsAmount, IsCounterSet, IsLabel}
+use Rattle.api_slice.specs.Properties.{IsFullName, IsValue}
+use Rattle.api_slice.specs.Lists.{count_at, count_on, items_or_none, members_length, members_or_none}
 use Rattle.api_slice.specs.declared.types.Attribute.{Attribute}
 use Rattle.api_slice.specs.declared.types.Attribute.TheVariants as attribute
 use Rattle.api_slice.specs.declared.types.CounterConsumption.{CounterConsumption}
 use Rattle.api_slice.specs.declared.types.CounterSet.{CounterSet}
-use Rattle.api_slice.specs.declared.types.Device.{Device}
-use Rattle.api_slice.specs.declared.types.Nodes.{Nodes}
-use Rattle.api_slice.specs.declared.types.Pool.{Pool}
-use Rattle.api_slice.specs.declared.types.ResourceSlice.{ResourceSlice}
-use Rattle.api_slice.proofs.Readings.{Gave, gave, done, the_same, not_refused, kept, was_some, at_most, along, given, Taken, choice, taken, or_left, or_right, and_left, and_right, alone, both, either, full_name, length-insert, IsTable, no_entries, one_more, within, if_taken, taken_is, not_false, not_below, named_by, labelled, in_range, numbered, short_items, few_of, few_items, none_named, none_is, push_different}
+use Rattle.api_slice.proofs.Readings.{gave, the_same, not_refused, kept, was_some, at_most, along, given, taken, full_name, IsTable, no_entries, one_more, within, not_false, not_below, labelled, none_named, push_different}
 
 -- ---- values of attributes
 

@@ -1,5 +1,5 @@
 -- Why the nodes of slices and of devices, and the node selectors, are as they should be.
-use Rattle.std.proofs.Common.{◌≡◌, ℕ, ◌+◌, ◌≤◌, ◌≢◌, ℤ, Bool, true, false, not, List, [], ◌∷◌, ◌++◌, length, Option, Some, None, is_some, Result, Ok, Err, refl, sym, length-append, ◌∙◌, arith, codes, option_map, if◌then◌else◌}
+use Rattle.std.proofs.Common.{◌≡◌, ℕ, ◌+◌, ◌≤◌, ◌≢◌, Bool, true, false, not, List, [], ◌∷◌, ◌++◌, length, Option, Some, None, Result, Ok, refl, length-append, ◌∙◌, arith, codes}
 use Rattle.std.proofs.lemmas.Slice.Eq.{bytes_eq-Decides}
 use Rattle.std.proofs.lemmas.List.Elements.{All-nil, All-cons, All-head, All-append}
 use Rattle.std.specs.List.{All}
@@ -9,14 +9,14 @@ use Rattle.node_select.specs.declared.requirement.Requirement.{Requirement}
 use Rattle.node_select.specs.declared.requirement.Test.{Test}
 use Rattle.node_select.specs.declared.requirement.Test.TheVariants.{OneOf, NoneOf, Present, Absent, Above, Below}
 use Rattle.node_select.specs.declared.selector.Selector.{Selector}
-use Rattle.object_fields.specs.Fields.{error_at, field_at, field_error, list_at, member_of, object_value, optional_at, some_or, text_at, text_value, truth_at, unless, ◌>>=◌}
+use Rattle.object_fields.specs.Fields.{error_at, field_at, field_error, list_at, member_of, object_value, optional_at, some_or, text_at, text_value, unless, ◌>>=◌}
 use Rattle.object_fields.specs.declared.error.FieldError.{FieldError}
 use Rattle.object_fields.specs.declared.kind.Kind.TheVariants.{NotOne, NotSupported}
 use Rattle.object_fields.specs.declared.path.Step.{Step}
 use Rattle.object_fields.specs.declared.path.Step.TheVariants as step
 use Rattle.api_slice.specs.Limits.{HasValues, IsDue, IsExpression, IsField, IsNodes, IsSelector, IsSliceNodes, is_of_values}
 use Rattle.api_slice.specs.Lists.{each, each_from, items_or_none}
-use Rattle.api_slice.specs.Nodes.{all_set, as_due, device_nodes_of, everywhere, flag_at, is_empty, is_per_device, named, node_name_at, none_of, not_empty, one_of_slice, only, places_at, selected, selector_at, slice_nodes_at}
+use Rattle.api_slice.specs.Nodes.{all_set, as_due, device_nodes_of, everywhere, flag_at, named, node_name_at, not_empty, one_of_slice, only, places_at, selected, selector_at, slice_nodes_at}
 use Rattle.api_slice.specs.Selectors.{expression_of, expressions_at, field_key_at, field_of, field_operator_at, fields_at, is_membership, no_texts, one_number, one_term, operator_at, selector_of, some_texts, term_of, test_at, test_of, values_at}
 use Rattle.api_slice.specs.declared.nodes.Places.{Places}
 use Rattle.api_slice.specs.declared.operator.Operator.{Operator}
@@ -25,7 +25,7 @@ use Rattle.api_slice.specs.declared.types.Nodes.{Nodes}
 use Rattle.api_slice.specs.declared.types.Nodes.TheVariants as nodes
 use Rattle.api_slice.specs.declared.types.SliceNodes.{SliceNodes}
 use Rattle.api_slice.specs.declared.types.SliceNodes.TheVariants as slice
-use Rattle.api_slice.proofs.Readings.{Gave, gave, the_same, not_refused, kept, was_some, along, given, not_false}
+use Rattle.api_slice.proofs.Readings.{gave, the_same, not_refused, kept, was_some, along, given, not_false}
 
 -- ---- each item of a list
 

@@ -12,3 +12,4 @@ pub mod Properties
 pub mod Devices
 pub mod Slices
 pub mod Limits
+pub mod Documents

@@ -1,6 +1,6 @@
 -- The limits and the name rules that each slice keeps that is read (API reference of
 -- resource.k8s.io/v1).
-use Rattle.std.specs.Prelude.{◌≡◌, ℕ, ◌+◌, ◌≤◌, ◌≢◌, ℤ, pos, Bool, true, List, [], ◌∷◌, map, length, Option, Some, None, is_some, codes, false}
+use Rattle.std.specs.Prelude.{◌≡◌, ℕ, ◌≤◌, ◌≢◌, ℤ, pos, Bool, true, List, [], ◌∷◌, map, length, Option, Some, is_some, codes, false}
 use Rattle.std.specs.List.{All, sum_by}
 use Rattle.std.specs.Map.{keys_of, values_of}
 use Rattle.node_select.specs.declared.requirement.Requirement.{Requirement}

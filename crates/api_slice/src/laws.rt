@@ -1,10 +1,20 @@
-ghost use Rattle.std.specs.Prelude.{◌≡◌, Ok};
-ghost use Rattle.serde_json.specs.Data.{Data};
+ghost use Rattle.std.specs.Prelude.{◌≡◌, ◌++◌, ◌∷◌, [], ℕ, List, Some, Ok, Err, codes, length, map, true};
+ghost use Rattle.serde_json.specs.Data.{Data, Items};
+ghost use Rattle.object_fields.specs.NewNames.{AreNew, IsDoubled, doubled_at, is_among, label_of, names_in};
+ghost use Rattle.object_fields.specs.declared.error.FieldError.{FieldError};
+ghost use Rattle.object_fields.specs.declared.kind.Kind.TheVariants.{Doubled};
+ghost use Rattle.object_fields.specs.declared.path.Step.{Step};
+ghost use Rattle.object_fields.specs.declared.path.Step.TheVariants.{Place};
+ghost use Rattle.object_fields.specs.Lists.{each};
+ghost use Rattle.api_slice.specs.Devices.{names_from};
+ghost use Rattle.api_slice.specs.Documents.{listed};
 ghost use Rattle.api_slice.specs.Limits.{IsWithinLimits};
 ghost use Rattle.api_slice.specs.Slices.{slice_of};
+ghost use Rattle.api_slice.specs.declared.types.CounterSet.{CounterSet};
+ghost use Rattle.api_slice.specs.declared.types.Device.{Device};
 ghost use Rattle.api_slice.specs.declared.types.ResourceSlice.{ResourceSlice};
 
-use object_fields::metadata_keeps_limits;
+use object_fields::{labels_are_names, metadata_keeps_limits, names_are_new};
 
 /// What each slice keeps that is read (API reference of `resource.k8s.io/v1`):
 ///
@@ -24,4 +34,32 @@ pub fn slices_keep_limits()
     ensures { (d : Data) (s : ResourceSlice) → slice_of d ≡ Ok s → IsWithinLimits s }
 {
     metadata_keeps_limits();
+}
+
+/// A slice that is read has the devices and the counter sets of its document: as many, with their names
+/// in order.
+pub fn slices_have_their_lists()
+    ensures devices { (d : Data) (s : ResourceSlice) → slice_of d ≡ Ok s →
+        map (λ (x : Device). Some x.name) s.devices ≡ names_in (listed (codes "devices") d) }
+    ensures sets { (d : Data) (s : ResourceSlice) → slice_of d ≡ Ok s →
+        map (λ (x : CounterSet). Some x.name) s.counters ≡ names_in (listed (codes "sharedCounters") d) }
+{
+    labels_are_names();
+    names_are_new();
+}
+
+/// The row of the names of devices. Where each name reads by itself, the names are read if no two are
+/// equal, and else it is Doubled at the first device whose name a device before has. It is Doubled only
+/// where two devices of the document have the same name, at the later of the two.
+pub fn device_names_are_new()
+    ensures new { (path : List Step) (ds : Items) (names : List (List ℕ)) →
+        each label_of path ds ≡ Ok names → AreNew [] names → names_from path 0 [] ds ≡ Ok names }
+    ensures doubled { (path : List Step) (ds : Items) (before behind : List (List ℕ)) (name : List ℕ) →
+        each label_of path ds ≡ Ok (before ++ name ∷ behind) → AreNew [] before → is_among name before ≡ true →
+        names_from path 0 [] ds ≡ Err (doubled_at (path ++ Place (length before) ∷ [])) }
+    ensures only { (path : List Step) (ds : Items) (e : FieldError) →
+        names_from path 0 [] ds ≡ Err e → e.kind ≡ Doubled → IsDoubled path ds e }
+{
+    labels_are_names();
+    names_are_new();
 }

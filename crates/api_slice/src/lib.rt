@@ -19,7 +19,7 @@ mod slice;
 mod types;
 
 pub use driver::DriverName;
-pub use laws::slices_keep_limits;
+pub use laws::{device_names_are_new, slices_have_their_lists, slices_keep_limits};
 pub use properties::Properties;
 pub use selector::read_selector;
 pub use types::{

@@ -1,4 +1,4 @@
-use Rattle.std.proofs.Common.{◌≡◌, drop, []}
+use Rattle.std.proofs.Common.{◌≡◌, drop}
 use Rattle.serde_json.specs.View.{items_view}
 use Rattle.api_slice.specs.Lists.{each, each_from}
 use Rattle.api_slice.specs.Selectors.{field_of}
