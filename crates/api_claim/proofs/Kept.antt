@@ -44,7 +44,7 @@ names_more : (xs : List (List ℕ)) (x : List ℕ) → AreNames xs → is_dns_la
 names_more xs x h l n =
     record { labels = each_more (λ name. is_dns_label name ≡ true) xs x h.labels l; distinct = distinct_more xs x h.distinct n }
 
-names_from : (r : List Step → List (List ℕ) → Data → Result (List ℕ) FieldError) (new : (path : List Step) (before : List (List ℕ)) (d : Data) (name : List ℕ) → r path before d ≡ Ok name → (is_dns_label name ≡ true) × (has_text name before ≡ false)) (path : List Step) (place : ℕ) (before all : List (List ℕ)) (ds : Items) → AreNames before → each_from r path place before ds ≡ Ok all → AreNames all × (length all ≡ length before + items_length ds)
+pub names_from : (r : List Step → List (List ℕ) → Data → Result (List ℕ) FieldError) (new : (path : List Step) (before : List (List ℕ)) (d : Data) (name : List ℕ) → r path before d ≡ Ok name → (is_dns_label name ≡ true) × (has_text name before ≡ false)) (path : List Step) (place : ℕ) (before all : List (List ℕ)) (ds : Items) → AreNames before → each_from r path place before ds ≡ Ok all → AreNames all × (length all ≡ length before + items_length ds)
 names_from r new path place before all no_items n h =
     let e : before ≡ all = cc in (subst AreNames e n, omega (arith, ap length e))
 names_from r new path place before all (item d ds) n h =
@@ -69,7 +69,7 @@ new_name path before d name h =
     let fresh : has_text name before ≡ false = ap (λ n. has_text n before) (sym u.1) ∙ u.0 in
     (label, fresh)
 
-request_name : (path : List Step) (before : List (List ℕ)) (d : Data) (name : List ℕ) → request_name_at path before d ≡ Ok name → (is_dns_label name ≡ true) × (has_text name before ≡ false)
+pub request_name : (path : List Step) (before : List (List ℕ)) (d : Data) (name : List ℕ) → request_name_at path before d ≡ Ok name → (is_dns_label name ≡ true) × (has_text name before ≡ false)
 request_name path before d name h =
     let s = then_ok (object_value path d) (λ request. new_name_at path before request >>= λ n. unless (error_at path NotOne) (not (has_one_kind request)) n) name h in
     let t = then_ok (new_name_at path before s.0) (λ n. unless (error_at path NotOne) (not (has_one_kind s.0)) n) name s.1.1 in
@@ -82,7 +82,7 @@ subrequest_name path before d name h =
     let s = then_ok (object_value path d) (new_name_at path before) name h in
     new_name path before s.0 name s.1.1
 
-no_names : AreNames []
+pub no_names : AreNames []
 no_names = record { labels = tt; distinct = tt }
 
 -- ---- lists that may be missing
@@ -282,7 +282,7 @@ kind_kept path d a names h k = kind_by (has_some (codes "firstAvailable") d) pat
 
 -- ---- the requests
 
-kinds_kept : (path : List Step) (ds : Items) (kinds : List RequestKind) → kinds_in path ds ≡ Ok kinds → EachOf KindKept kinds × (length kinds ≡ items_length ds)
+pub kinds_kept : (path : List Step) (ds : Items) (kinds : List RequestKind) → kinds_in path ds ≡ Ok kinds → EachOf KindKept kinds × (length kinds ≡ items_length ds)
 kinds_kept path ds kinds h =
     let s = then_ok (each asked_at path ds) (λ asks. each subrequest_names_at path ds >>= λ names. Ok (map kind_of (zip asks names))) kinds h in
     let t = then_ok (each subrequest_names_at path ds) (λ names. Ok (map kind_of (zip s.0 names))) kinds s.1.1 in

@@ -3,3 +3,4 @@ pub mod Kept
 pub mod Limits
 pub mod Readings
 pub mod Zips
+pub mod Named

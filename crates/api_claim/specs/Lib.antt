@@ -6,3 +6,4 @@ pub mod Constraints
 pub mod Claims
 pub mod Status
 pub mod Limits
+pub mod Documents

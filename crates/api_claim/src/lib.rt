@@ -11,7 +11,9 @@ mod requests;
 mod status;
 mod types;
 
-pub use laws::limits_are_kept;
+pub use laws::{
+    claims_have_their_requests, limits_are_kept, request_names_are_new, subrequest_names_are_new,
+};
 pub use types::{
     AllocationMode, ClaimStatus, DeviceAsk, DeviceConstraint, DeviceRequest, DeviceSubRequest,
     ExactDeviceRequest, RequestKind, ResourceClaim, StatusResult,

@@ -1,0 +1,28 @@
+use Rattle.api_claim.specs.Documents.{request_label}
+use Rattle.api_claim.specs.Requests.{request_name_at}
+use Rattle.api_claim.proofs.Named.{Labels, request_reading}
+use Rattle.api_claim.proofs.laws.request_names_are_new.Goals as goal
+
+pub returns-clause-same : goal.returns-clause-same
+returns-clause-same c =
+    let law = c.labels_are_names.ensures in
+    let labels : Labels = record { name = law.name; object_ = law.object; label_once = law.label_once; object_once = law.object_once } in
+    c.names_are_new.ensures.same request_label request_name_at (request_reading labels)
+
+pub returns-clause-new : goal.returns-clause-new
+returns-clause-new c =
+    let law = c.labels_are_names.ensures in
+    let labels : Labels = record { name = law.name; object_ = law.object; label_once = law.label_once; object_once = law.object_once } in
+    c.names_are_new.ensures.new request_label request_name_at (request_reading labels)
+
+pub returns-clause-doubled : goal.returns-clause-doubled
+returns-clause-doubled c =
+    let law = c.labels_are_names.ensures in
+    let labels : Labels = record { name = law.name; object_ = law.object; label_once = law.label_once; object_once = law.object_once } in
+    c.names_are_new.ensures.doubled request_label request_name_at (request_reading labels)
+
+pub returns-clause-only : goal.returns-clause-only
+returns-clause-only c =
+    let law = c.labels_are_names.ensures in
+    let labels : Labels = record { name = law.name; object_ = law.object; label_once = law.label_once; object_once = law.object_once } in
+    c.names_are_new.ensures.only request_label request_name_at (request_reading labels)
