@@ -1,0 +1,5 @@
+pub mod Places
+pub mod Known
+pub mod Stages
+pub mod Rule
+pub mod Steps

@@ -1,0 +1,25 @@
+//! A lock whose holders come in turn, over a state that has a history.
+//!
+//! Each thread enters with a pass of its own. A pass knows which history it saw last, and which
+//! entries were made with it, and this knowledge survives the threads: when all passes are joined
+//! again, each entry that was made under the lock belongs to just one of them. So what several
+//! threads did can be told apart afterwards, though their turns came in any order.
+//!
+//! The lock hands out numbered tickets and serves them in order. A pass has no bytes but a count,
+//! and entering, leaving, joining and closing take no memory. No clause says that a thread gets its
+//! turn, only what holds once it has it.
+#![tactic(auto)]
+
+mod lock;
+mod recorded;
+mod steps;
+#[cfg(test)]
+mod tests;
+mod turn;
+mod view;
+
+pub use lock::{Pass, Refused, TurnLock};
+pub use recorded::Recorded;
+pub use steps::InTurns;
+pub use turn::Turn;
+pub use view::{Stage, Start, View};
