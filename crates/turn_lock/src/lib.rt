@@ -20,6 +20,4 @@ mod view;
 
 pub use lock::{Pass, Refused, TurnLock};
 pub use recorded::Recorded;
-pub use steps::InTurns;
 pub use turn::Turn;
-pub use view::{Stage, Start, View};

@@ -1,4 +1,4 @@
-ghost use Rattle.std.specs.Prelude.{◌≡◌, ◌+◌, ◌<◌, ◌≤◌, ℕ, [], ◌∷◌, ◌++◌, length, replicate, OnTrue, OnFalse};
+ghost use Rattle.std.specs.Prelude.{◌≡◌, ◌+◌, ◌<◌, ◌≤◌, ℕ, length, replicate, ◌⊎◌};
 ghost use Rattle.turn_lock.specs.Places.{times};
 ghost use Rattle.turn_lock.specs.Known.{IsOf, IsFree};
 
@@ -33,7 +33,12 @@ impl Count {
     }
 }
 
-fn count<R: Wait>(rt: &R, lock: &TurnLock<Count>, mut pass: Pass<Count>, turns: u64) -> Pass<Count>
+fn take_turns<R: Wait>(
+    rt: &R,
+    lock: &TurnLock<Count>,
+    mut pass: Pass<Count>,
+    turns: u64,
+) -> Pass<Count>
     requires { IsOf lock.now pass × IsFree pass }
     ensures { IsOf lock.now result × IsFree result × (result.share ≡ pass.share) }
 {
@@ -74,12 +79,12 @@ fn two_threads_take_turns(rt: HostRuntime) -> Result<(), Fail> {
         handle,
         || -> Pass<Count>
             requires { IsOf shared.now first × IsFree first }
-            ensures { IsOf shared.now result × IsFree result × (result.share ≡ first.share) }
-        { count(handle, shared, first, 20_000) },
+            ensures { IsOf shared.entry.now result × IsFree result × (result.share ≡ first.share) }
+        { take_turns(handle, shared, first, 20_000) },
         || -> Pass<Count>
             requires { IsOf shared.now second × IsFree second }
-            ensures { IsOf shared.now result × IsFree result × (result.share ≡ second.share) }
-        { count(handle, shared, second, 20_000) },
+            ensures { IsOf shared.entry.now result × IsFree result × (result.share ≡ second.share) }
+        { take_turns(handle, shared, second, 20_000) },
     );
     let end = close_both(lock, first, second);
     assert!(rt; end.value == 40_000 && end.limit == 1_000_000);
