@@ -17,7 +17,7 @@ use Rattle.turn_lock.specs.Known.{Known, Opened, began, left}
 use Rattle.turn_lock.specs.Stages.{ticketed, in_turn, ticket, turn_of, rests, with_stage, known_of, carried}
 use Rattle.turn_lock.specs.Rule.{total, first_view, Stands, Fits, InOrder, AtHome, IsOut}
 use Rattle.turn_lock.specs.Steps.{after_turn, took, looked, took_out, put_in, gave_up_turn, lessened_view, new_view, joined_view, spent_view, met_view, met}
-use Rattle.turn_lock.proofs.Views.{total_snoc, longer_cases, prefix_shorter, total_set, total_at, total_two, total_one, total_le, All, all_set, times_append, no_new, new_here, new_elsewhere, set_at, prefix_self, prefix_grown}
+use Rattle.turn_lock.proofs.Views.{total_snoc, longer_cases, prefix_shorter, total_set, total_at, total_two, total_one, total_le, EachView, all_set, times_append, no_new, new_here, new_elsewhere, set_at, prefix_self, prefix_grown}
 
 not_both : (n : ℕ) → n ≡ 1 → n ≡ 0 → ⊥
 not_both n a b = absurd (omega arith)
@@ -98,7 +98,7 @@ module _ {E : Type 0} where
       (at_snoc l w u j e)
 
   -- where nobody is in turn after the step and this view was not before it, nobody was
-  rest_back : (l : List (View E)) (i : ℕ) (v w : View E) → get_elem? l i ≡ some v → in_turn v.stage ≡ 0 → All (λ j u. in_turn u.stage ≡ 0) (set l i w) → All (λ j u. in_turn u.stage ≡ 0) l
+  rest_back : (l : List (View E)) (i : ℕ) (v w : View E) → get_elem? l i ≡ some v → in_turn v.stage ≡ 0 → EachView (λ j u. in_turn u.stage ≡ 0) (set l i w) → EachView (λ j u. in_turn u.stage ≡ 0) l
   rest_back l i v w at out h j u e = dite (ℕ_discrete j i)
       (λ is. ap (λ (z : View E). in_turn z.stage) (some-injective u v (sym e ∙ ap (get_elem? l) is ∙ at)) ∙ out)
       (λ ne. h j u (set_else l i j w ne ∙ e))
@@ -164,7 +164,7 @@ module _ {T E : Type 0} (history : T → List E) (number : T → ℕ) (opening :
       → ((j : ℕ) (u : View E) → Stands r.given r.served r.published r.base u.stage → Stands given r.served r.published r.base u.stage)
       → ((j : ℕ) (u : View E) → j ≢ id → get_elem? s.views j ≡ some u → ticketed st ≡ 1 → ticketed u.stage ≡ 1 → ticket st ≢ ticket u.stage)
       → (AtHome history number fixed r.base homes ⊎ IsOut (set s.views id (with_stage v st)))
-      → (All (λ j u. in_turn u.stage ≡ 0) (set s.views id (with_stage v st)) → r.published ≡ length r.base)
+      → (EachView (λ j u. in_turn u.stage ≡ 0) (set s.views id (with_stage v st)) → r.published ≡ length r.base)
       → Rule record { words = words; homes = homes; views = set s.views id (with_stage v st) }
   staged s r id v st given words homes at ws counts stands alive others fresh home resting =
       let w : View E = with_stage v st in
@@ -219,7 +219,7 @@ module _ {T E : Type 0} (history : T → List E) (number : T → ℕ) (opening :
   is_served s r t lo hi e = let b = bounded s r in sym (one_turn r.served t M lo (omega arith) (sym (ap (λ (ws : List ℕ). get_or ws 1 0) r.words) ∙ e))
 
   -- nobody was in turn, where this one's ticket is served and it isn't yet in turn
-  none_in_turn : (s : St) (r : Rule s) (id : ℕ) (v : View E) → get_elem? s.views id ≡ some v → ticketed v.stage ≡ 1 → ticket v.stage ≡ r.served → in_turn v.stage ≡ 0 → All (λ j u. in_turn u.stage ≡ 0) s.views
+  none_in_turn : (s : St) (r : Rule s) (id : ℕ) (v : View E) → get_elem? s.views id ≡ some v → ticketed v.stage ≡ 1 → ticket v.stage ≡ r.served → in_turn v.stage ≡ 0 → EachView (λ j u. in_turn u.stage ≡ 0) s.views
   none_in_turn s r id v at one is out j u e = dite (ℕ_discrete j id)
       (λ same. ap (λ (z : View E). in_turn z.stage) (some-injective u v (sym e ∙ ap (get_elem? s.views) same ∙ at)) ∙ out)
       (λ ne. some_turn u.stage (λ q. let m = turn_ticket r.given r.served r.published r.base u.stage (r.each j u e).stands q in r.apart j id u v e at ne m.1 one (m.0 ∙ sym is)))
@@ -294,7 +294,7 @@ module _ {T E : Type 0} (history : T → List E) (number : T → ℕ) (opening :
       let base : List E = history x in
       let more : Grown r.base base = subst (λ (l : List E). Grown l base) k.3 grown in
       let count : (p : ℕ) → total (λ (u : View E). times p u.own) (set s.views id w) ≡ total (λ (u : View E). times p u.own) s.views = λ p. total_same (λ (u : View E). times p u.own) s.views id v w at refl in
-      let busy : (All (λ j u. in_turn u.stage ≡ 0) (set s.views id w)) → ⊥ = λ h. not_both (in_turn w.stage) refl (h id w (set_at s.views id v w at)) in (
+      let busy : (EachView (λ j u. in_turn u.stage ≡ 0) (set s.views id w)) → ⊥ = λ h. not_both (in_turn w.stage) refl (h id w (set_at s.views id v w at)) in (
         w,
         gives,
         tt,
@@ -517,7 +517,7 @@ module _ {T E : Type 0} (history : T → List E) (number : T → ℕ) (opening :
       )
 
   -- the table when it is made
-  one_view : (F : ℕ → View E → Type 0) (w : View E) → F 0 w → All F (w ∷ [])
+  one_view : (F : ℕ → View E → Type 0) (w : View E) → F 0 w → EachView F (w ∷ [])
   one_view F w mine zero u e = subst (F 0) (some-injective w u e) mine
   one_view F w mine (suc j) u e = absurd (some-ne-none u (sym e))
 

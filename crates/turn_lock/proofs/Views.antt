@@ -46,10 +46,10 @@ module _ {E : Type 0} where
   total_snoc f [] w = omega arith
   total_snoc f (x ∷ xs) w = let h = total_snoc f xs w in omega arith
 
-  abbrev pub All : (ℕ → View E → Type 0) → List (View E) → Type 0
-  All F l = (j : ℕ) (u : View E) → get_elem? l j ≡ some u → F j u
+  abbrev pub EachView : (ℕ → View E → Type 0) → List (View E) → Type 0
+  EachView F l = (j : ℕ) (u : View E) → get_elem? l j ≡ some u → F j u
 
-  pub all_set : (F : ℕ → View E → Type 0) (l : List (View E)) (i : ℕ) (w : View E) → F i w → ((j : ℕ) (u : View E) → j ≢ i → get_elem? l j ≡ some u → F j u) → All F (set l i w)
+  pub all_set : (F : ℕ → View E → Type 0) (l : List (View E)) (i : ℕ) (w : View E) → F i w → ((j : ℕ) (u : View E) → j ≢ i → get_elem? l j ≡ some u → F j u) → EachView F (set l i w)
   all_set F l i w mine others j u e = ⊎_elim (λ (x : (j ≡ i) × (w ≡ u)). subst (λ (y : ℕ × View E). F y.0 y.1) (λ k. (sym x.0 k, x.1 k)) mine)
       (λ (x : (j ≢ i) × (get_elem? l j ≡ some u)). others j u x.0 x.1) (at_set l i j w u e)
 
