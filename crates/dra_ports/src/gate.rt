@@ -19,6 +19,7 @@ pub trait Gate {
 }
 
 /// A gate that holds nobody up: it does nothing.
+#[derive(Drop)]
 pub struct OpenGate;
 
 impl Gate for OpenGate {

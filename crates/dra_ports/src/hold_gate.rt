@@ -8,6 +8,7 @@ use std::thread;
 /// The job `until` waits when it is first at [`Point::Searched`], until the job `held` has come to
 /// `point`. The job `held` waits there until the job `until` has ended. Each wait gives up after
 /// some turns of its loop, and then the gate says so. Every other job goes through.
+#[derive(Drop)]
 pub struct HoldGate {
     held: u64,
     point: Point,
