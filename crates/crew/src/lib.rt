@@ -5,6 +5,8 @@ mod job;
 mod lane;
 mod room;
 mod run;
+#[cfg(test)]
+mod tests;
 
 pub use job::Job;
 pub use run::{Unrun, run_all};

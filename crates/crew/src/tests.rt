@@ -1,0 +1,146 @@
+ghost use Rattle.std.specs.Prelude.{◌≡◌, ◌<◌, IfOk, length, []};
+ghost use Rattle.turn_lock.specs.Known.{IsOf, IsFree};
+
+use crate::{Job, Unrun, run_all};
+use dra_ports::{Gate, HoldGate, OpenGate, Point};
+use std::alloc::{AllocError, Global};
+use std::sync::Wait;
+use std::test::*;
+use std::thread::Threads;
+use turn_lock::{Pass, Recorded, Refused, TurnLock};
+
+/// A state with no history.
+#[derive(Drop)]
+struct Blank;
+
+impl Recorded for Blank {
+    type Entry = ();
+
+    ghost history = { λ _. [] };
+
+    ghost number = { λ _. 0 };
+}
+
+/// A job that only tells its gate where it is, and ends with its number.
+#[derive(Drop)]
+struct Tell {
+    number: u64,
+}
+
+impl Job<Blank> for Tell {
+    type End = u64;
+
+    ghost needs = { λ j p. Unit {0} };
+
+    ghost gives = { λ j p x q. x ≡ j.number };
+
+    fn run<R: Wait, G: Gate>(self, _rt: &R, gate: &G, _pass: &mut Pass<Blank>) -> u64 {
+        gate.reached(self.number, Point::Searched);
+        gate.reached(self.number, Point::Ended);
+        self.number
+    }
+}
+
+/// A pass, split into so many.
+fn split(
+    alloc: Global,
+    lock: &TurnLock<Blank>,
+    mut first: Pass<Blank>,
+    count: usize,
+) -> Result<Vec<Pass<Blank>>, AllocError>
+    requires { IsOf lock.now first × IsFree first × (first.share ≡ count) × (0 < count) }
+    ensures { IfOk result (λ v. length v.items ≡ count) }
+{
+    let mut passes = Vec::with_capacity(alloc, count)?;
+    for _ in 1..count {
+        passes.push_reserved(lock.split(&mut first)?);
+    }
+    passes.push_reserved(first);
+    Ok(passes)
+}
+
+fn passes(alloc: Global, count: usize) -> Result<Vec<Pass<Blank>>, AllocError>
+    requires { (0 < count) × (count < 66) }
+    ensures { IfOk result (λ v. length v.items ≡ count) }
+{
+    match TurnLock::new(alloc, Blank, count as u64) {
+        Ok((lock, first)) => split(alloc, &lock, first, count),
+        Err(Refused { state: _ }) => Err(AllocError),
+    }
+}
+
+/// A list of so many jobs, numbered from `first`.
+fn list(alloc: Global, first: u64, size: u8) -> Result<Vec<Tell>, AllocError> {
+    let mut list = Vec::new(alloc);
+    for k in 0..size {
+        list.push(Tell {
+            number: first.wrapping_add(u64::from(k)),
+        })?;
+    }
+    Ok(list)
+}
+
+/// Lists of these sizes, whose jobs are numbered from 0.
+fn lists(alloc: Global, sizes: &[u8]) -> Result<Vec<Vec<Tell>>, AllocError>
+    ensures { IfOk result (λ v. length v.items ≡ length sizes.now) }
+{
+    let mut lists = Vec::with_capacity(alloc, sizes.len())?;
+    let mut number = 0u64;
+    for size in sizes {
+        lists.push_reserved(list(alloc, number, *size)?);
+        number = number.wrapping_add(u64::from(*size));
+    }
+    Ok(lists)
+}
+
+/// Whether the ends are 0, 1, 2 and so on.
+fn are_counted(ends: &[u64]) -> bool {
+    let mut next = 0u64;
+    for end in ends {
+        if *end != next {
+            return false;
+        }
+        next = next.wrapping_add(1);
+    }
+    true
+}
+
+/// Runs lists of these sizes, and says whether the ends are 0, 1, 2 and so on.
+fn ends_in_order<G: Gate + Sync, R: Threads + Wait + Sync>(
+    rt: &R,
+    alloc: Global,
+    gate: &G,
+    sizes: &[u8],
+    count: usize,
+) -> Result<bool, AllocError>
+    requires { (0 < length sizes.now) × (length sizes.now < 66) }
+{
+    let passes = passes(alloc, sizes.len())?;
+    let lists = lists(alloc, sizes)?;
+    let (_passes, ends) = run_all(rt, alloc, gate, passes, lists);
+    match ends {
+        Ok(ends) => Ok(ends.len() == count && are_counted(&ends)),
+        Err(Unrun { jobs: _ }) => Err(AllocError),
+    }
+}
+
+#[test]
+fn ends_stand_list_by_list(rt: HostRuntime) -> Result<(), Fail> {
+    let alloc = rt.alloc();
+    assert!(rt; ends_in_order(&rt, alloc, &OpenGate, &[3], 3)?);
+    assert!(rt; ends_in_order(&rt, alloc, &OpenGate, &[2, 3], 5)?);
+    assert!(rt; ends_in_order(&rt, alloc, &OpenGate, &[2; 64], 128)?);
+    assert!(rt; ends_in_order(&rt, alloc, &OpenGate, &[0, 2, 0, 1], 3)?);
+    assert!(rt; ends_in_order(&rt, alloc, &OpenGate, &[0], 0)?);
+    Ok(())
+}
+
+#[test]
+fn two_lists_run_beside_each_other(rt: HostRuntime) -> Result<(), Fail> {
+    for _ in 0..10 {
+        let gate = HoldGate::new(0, Point::Searched, 1, 100_000_000);
+        assert!(rt; ends_in_order(&rt, rt.alloc(), &gate, &[1, 1], 2)?);
+        assert!(rt; !gate.gave_up());
+    }
+    Ok(())
+}
