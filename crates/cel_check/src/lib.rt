@@ -9,4 +9,3 @@ mod scope;
 mod typing;
 
 pub use checks::{CheckError, check};
-

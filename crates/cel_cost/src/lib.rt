@@ -10,4 +10,3 @@ mod trees;
 
 pub use laws::bounds_have_the_type;
 pub use trees::estimate;
-

@@ -12,4 +12,3 @@ mod steps;
 pub use cel_value::{DeviceEnv, EvalError, Single, Value};
 pub use selectors::eval;
 pub use steps::Steps;
-

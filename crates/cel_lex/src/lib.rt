@@ -18,4 +18,3 @@ pub use number::int_value;
 pub use spelling::{Piece, Spelling};
 pub use token::{LexError, Span, Token, TokenKind};
 pub use tokens::Tokens;
-

@@ -7,4 +7,3 @@ mod laws;
 
 pub use connective::{Connective, connective_of};
 pub use laws::{cost_within_estimate, no_overload_without_dyn, values_have_their_types};
-

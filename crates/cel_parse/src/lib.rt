@@ -14,4 +14,3 @@ mod value;
 
 pub use run::{ParseError, has_one_tree, parse_tokens, trees_are_of_the_grammar};
 pub use text::{MOST_BYTES, parse};
-

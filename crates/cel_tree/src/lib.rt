@@ -22,4 +22,3 @@ pub use tables::{
 };
 pub use tree::{BinaryOp, Entry, Kind, Literal, Span, Tree, UnaryOp};
 pub use types::{CelType, Facet, KeyType, Scalar};
-

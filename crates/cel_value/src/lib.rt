@@ -21,4 +21,3 @@ pub use operators::{binary, unary};
 pub use scalars::{constant, truth, weight};
 pub use value::{Key, Single, Value};
 pub use version::Version;
-

@@ -13,4 +13,3 @@ pub use device::device_env;
 pub use matching::{Match, match_both};
 pub use selector::DeviceSelector;
 pub use verdict::{Cause, Verdict};
-

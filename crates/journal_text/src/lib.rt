@@ -11,4 +11,3 @@ mod worded;
 pub use journal::{line, lines};
 pub use laws::{line_is_one_line, lines_of_more};
 pub use totals::summary;
-
