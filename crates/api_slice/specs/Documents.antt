@@ -1,15 +1,10 @@
 -- The lists of devices and counter sets as they stand in the document of a slice.
-use Rattle.std.specs.Prelude.{ℕ, ◌+◌, List, option_and_then, codes}
-use Rattle.serde_json.specs.Data.{Data, Items, no_items, item}
+use Rattle.std.specs.Prelude.{ℕ, List, option_and_then, codes}
+use Rattle.serde_json.specs.Data.{Data, Items}
 use Rattle.serde_json.specs.Find.{as_array}
 use Rattle.object_fields.specs.Fields.{member_of}
-use Rattle.api_slice.specs.Lists.{count_at, items_or_none}
+use Rattle.api_slice.specs.Lists.{items_or_none}
 
 -- the list of that name in `spec`; none where it isn't there
 abbrev pub listed : List ℕ → Data → Items
 listed name d = items_or_none (option_and_then as_array (option_and_then (member_of name) (member_of (codes "spec") d)))
-
--- how many members the objects of that name have together in the items of a list
-abbrev pub counted_in : List ℕ → Items → ℕ
-counted_in name no_items = 0
-counted_in name (item d ds) = count_at name d + counted_in name ds
