@@ -1,5 +1,6 @@
 pub mod Checks
 pub mod Fronts
+pub mod HasFault
 pub mod Keys
 pub mod Parts
 pub mod Scopes

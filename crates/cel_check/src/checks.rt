@@ -1,11 +1,14 @@
-ghost use Rattle.std.specs.Prelude.{◌≡◌, [], Ok, IfOk, IsTrue};
+ghost use Rattle.std.specs.Prelude.{◌≡◌, [], Ok, Err, IfOk, IfErr, IsTrue};
 ghost use Rattle.cel_tree.specs.Ast.{tree_view};
 ghost use Rattle.cel_tree.specs.Types.{accepts};
 ghost use Rattle.cel_tree.specs.HasType.{HasType};
 ghost use Rattle.cel_tree.specs.declared.types.CelType.{CelType};
 ghost use Rattle.cel_tree.specs.declared.types.Scalar.TheVariants as scalar;
-ghost use Rattle.cel_check.specs.Checks.{error_of, checked_of};
+ghost use Rattle.cel_tree.specs.declared.fault.Fault.{Fault};
+ghost use Rattle.cel_check.specs.Checks.{error_of, checked_of, IsError};
+ghost use Rattle.cel_check.specs.HasFault.{HasFault};
 
+use crate::laws::first_faults_are_found;
 use crate::scope::Scope;
 use crate::typing::type_of;
 use cel_tree::{CelType, Checked, Fault, Scalar, Span, Tree, types_are_found};
@@ -51,8 +54,11 @@ pub fn check(tree: Tree) -> Result<Checked, CheckError>
     ensures bool { IfOk result (λ c. IsTrue (accepts scalar.Bool c.kind)) }
     ensures every { (k : CelType) → HasType [] (tree_view tree) k → IsTrue (accepts scalar.Bool k)
         → result ≡ Ok (record { tree = tree_view tree; kind = k }) }
+    ensures error { IfErr result (IsError (tree_view tree)) }
+    ensures fault { (f : Fault) → HasFault [] (tree_view tree) f → result ≡ Err (error_of f) }
 {
     types_are_found();
+    first_faults_are_found();
     let top = Scope::Top;
     match type_of(&tree, &top) {
         Ok(kind) => {

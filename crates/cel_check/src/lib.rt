@@ -4,8 +4,10 @@
 
 mod checks;
 mod keys;
+mod laws;
 mod leaf;
 mod scope;
 mod typing;
 
 pub use checks::{CheckError, check};
+pub use laws::first_faults_are_found;
