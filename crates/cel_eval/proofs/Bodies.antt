@@ -1,27 +1,25 @@
 -- Macros with too few or too many arguments, and the bodies of comprehensions.
-use Rattle.std.proofs.Common.{◌≡◌, ℕ, ◌+◌, ◌<◌, ◌≤◌, List, [], ◌∷◌, Bool, true, false, length, get_or, map, Box, Global, arith, refl, ap, sym, ◌∙◌, subst}
+use Rattle.std.proofs.Common.{◌≡◌, ℕ, ◌+◌, ◌<◌, List, [], ◌∷◌, Bool, length, get_or, map, Box, Global, arith, refl, ap, sym, ◌∙◌}
 use Rattle.std.specs.Prelude.{Option, Some, None, Result, Ok, Err}
 use Rattle.cel_tree.specs.declared.tree.Tree.{Tree}
 use Rattle.cel_tree.specs.declared.tree.Kind.{Kind}
 use Rattle.cel_tree.specs.declared.tree.Kind as kind
 use Rattle.cel_tree.specs.declared.calls.Comprehension.{Comprehension}
 use Rattle.cel_tree.specs.declared.calls.Comprehension.TheVariants as form
-use Rattle.cel_tree.specs.Ast.{Ast, Form, tree_view, kind_view, asts_of}
+use Rattle.cel_tree.specs.Ast.{tree_view, kind_view, asts_of}
 use Rattle.cel_tree.specs.Typing.{variable_of}
 use Rattle.cel_value.specs.declared.value.Single.{Single}
-use Rattle.cel_value.specs.declared.value.Value.{Value}
 use Rattle.cel_value.specs.declared.error.EvalError.{EvalError}
 use Rattle.cel_value.specs.declared.error.EvalError.TheVariants.{NoKey, NoOverload, Overflow, DivByZero, OutOfRange, BadConversion, Memory}
 use Rattle.cel_value.specs.Device.{Device}
-use Rattle.cel_value.specs.Values.{◌>>=◌, UnlessMemory, Gives}
-use Rattle.cel_meaning.specs.declared.connective.Connective.TheVariants as connective
+use Rattle.cel_value.specs.Values.{◌>>=◌, Gives}
 use Rattle.cel_eval.specs.declared.making.Making.TheVariants as making
-use Rattle.cel_meaning.specs.Folds.{Body, holds, as_value, are_one, as_list, folded, gathered, list_value, comprehended, by_filter}
-use Rattle.cel_meaning.specs.Steps.{Turn, behind, folded_steps, gathered_steps, comprehended_steps}
+use Rattle.cel_meaning.specs.Folds.{as_value, are_one, gathered, list_value, comprehended}
+use Rattle.cel_meaning.specs.Steps.{behind, gathered_steps, comprehended_steps}
 use Rattle.cel_meaning.specs.Meaning.{Bindings, means, has_means, has_form, bind_means, comprehension_means, with_variable}
 use Rattle.cel_meaning.specs.Cost.{cost, has_steps, has_form_steps, bind_steps, comprehension_steps, behind_variable}
 use Rattle.cel_eval.specs.Answers.{Counts}
-use Rattle.cel_eval.specs.Parts.{body, turn, bodies, all_turns, maker, maker_steps}
+use Rattle.cel_eval.specs.Parts.{body, bodies, all_turns, maker, maker_steps}
 use Rattle.cel_eval.proofs.Stops.{gives-equal}
 
 -- ---- `has`
@@ -221,7 +219,7 @@ counts-one (Err Overflow) old new k h = h
 counts-one (Err DivByZero) old new k h = h
 counts-one (Err OutOfRange) old new k h = h
 counts-one (Err BadConversion) old new k h = h
-counts-one (Err Memory) old new k h = tt
+counts-one (Err Memory) old new k h = h
 
 pub one-body : (device : Device) (names : Bindings) (name : List ℕ) (ts : List Tree) (t : Tree) → t ≡ get_or ts 1 t → length ts ≡ 2 →
     bodies device names name ts ≡ body device names name (tree_view t) ∷ []

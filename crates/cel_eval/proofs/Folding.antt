@@ -1,5 +1,5 @@
 -- `all` and `exists`, element by element.
-use Rattle.std.proofs.Common.{◌≡◌, ℕ, ◌+◌, ◌<◌, List, [], ◌∷◌, Bool, true, false, length, drop, get_or, arith, refl, ap, sym, ◌∙◌}
+use Rattle.std.proofs.Common.{◌≡◌, ℕ, ◌+◌, ◌<◌, ◌≤◌, List, ◌∷◌, Bool, true, false, length, drop, get_or, arith, refl, ap, sym, ◌∙◌}
 use Rattle.std.proofs.lemmas.List.{drop_more}
 use Rattle.std.specs.Prelude.{Result, Ok, Err, ◌||◌}
 use Rattle.cel_value.specs.declared.value.Single.{Single}
@@ -8,7 +8,7 @@ use Rattle.cel_value.specs.declared.error.EvalError.TheVariants.{NoKey, NoOverlo
 use Rattle.cel_value.specs.Values.{Gives}
 use Rattle.cel_meaning.specs.declared.connective.Connective.{Connective}
 use Rattle.cel_meaning.specs.declared.connective.Connective.TheVariants as connective
-use Rattle.cel_meaning.specs.Folds.{Body, holds, joined, folded}
+use Rattle.cel_meaning.specs.Folds.{holds, joined, folded}
 use Rattle.cel_meaning.specs.Steps.{Turn, decides, unless_decided, folded_steps}
 use Rattle.cel_meaning.specs.Memory.{is_memory, with_memory}
 use Rattle.cel_eval.specs.Answers.{Counts}
@@ -96,3 +96,33 @@ fold-count c test xs i x side old mid new whole e h stop g two rose w =
     let at : folded_steps c test (drop i xs) ≡ 2 + test.steps x + n = steps-at c test xs i x e h ∙ ap (λ (k : ℕ). 2 + test.steps x + k) (unless-not c (holds test.means x) n d) in
     let up : new ≡ mid + test.steps x = counted side mid new (test.steps x) m rose in
     omega arith
+
+-- the count doesn't fall over an element
+pub fold-least : (c : Connective) (side : Result Bool EvalError) (old new start k : ℕ) → (is_memory side || decides c side) ≡ false → start ≤ old → Counts side (old + 2) new k → start ≤ new
+fold-least c side old new start k stop least rose =
+    let up : new ≡ old + 2 + k = counted side (old + 2) new k (not-memory (is_memory side) (decides c side) stop) rose in omega (arith, least, up)
+
+-- an error other than want of memory decides nothing
+undecided : (c : Connective) (f : EvalError) → is_memory {A = Bool} (Err f) ≡ false → (is_memory {A = Bool} (Err f) || decides c (Err f)) ≡ true → ⊥
+undecided connective.And f m stop = let e : true ≡ false = sym stop ∙ ap (λ (b : Bool). b || false) m in absurd (cc)
+undecided connective.Or f m stop = let e : true ≡ false = sym stop ∙ ap (λ (b : Bool). b || false) m in absurd (cc)
+
+-- a side behind which nothing more is looked at
+pub fold-stop : (c : Connective) (test : Turn) (xs : List Single) (i : ℕ) (x : Single) (side : Result Bool EvalError) (start old new total : ℕ) →
+    x ≡ get_or xs i x → i < length xs → (is_memory side || decides c side) ≡ true → Gives side (holds test.means x) → Counts side (old + 2) new (test.steps x) → start ≤ old →
+    old + folded_steps c test (drop i xs) ≡ start + total → Counts side start new total
+fold-stop c test xs i x (Ok b) start old new total e h stop g rose least w =
+    let n : ℕ = folded_steps c test (drop (i + 1) xs) in
+    let d : decides c (holds test.means x) ≡ true = ap (decides c) g ∙ stop in
+    let at : folded_steps c test (drop i xs) ≡ 2 + test.steps x + 0 = steps-at c test xs i x e h ∙ ap (λ (k : ℕ). 2 + test.steps x + k) (unless-so c (holds test.means x) n d) in
+    omega (arith, at, rose, w)
+fold-stop c test xs i x (Err Memory) start old new total e h stop g rose least w =
+    let k : ℕ = unless_decided c (holds test.means x) (folded_steps c test (drop (i + 1) xs)) in
+    let at : folded_steps c test (drop i xs) ≡ 2 + test.steps x + k = steps-at c test xs i x e h in
+    (omega (arith, least, rose.0), omega (arith, at, rose.1, w))
+fold-stop c test xs i x (Err NoKey) start old new total e h stop g rose least w = absurd (undecided c NoKey refl stop)
+fold-stop c test xs i x (Err NoOverload) start old new total e h stop g rose least w = absurd (undecided c NoOverload refl stop)
+fold-stop c test xs i x (Err Overflow) start old new total e h stop g rose least w = absurd (undecided c Overflow refl stop)
+fold-stop c test xs i x (Err DivByZero) start old new total e h stop g rose least w = absurd (undecided c DivByZero refl stop)
+fold-stop c test xs i x (Err OutOfRange) start old new total e h stop g rose least w = absurd (undecided c OutOfRange refl stop)
+fold-stop c test xs i x (Err BadConversion) start old new total e h stop g rose least w = absurd (undecided c BadConversion refl stop)

@@ -1,12 +1,11 @@
 -- What was gathered of the front of a list, with what is read of the rest.
-use Rattle.std.proofs.Common.{◌≡◌, ℕ, ◌+◌, ◌<◌, List, [], ◌∷◌, ◌++◌, Bool, true, false, length, drop, get_or, map, arith, refl, ap, sym, ◌∙◌, append_assoc}
+use Rattle.std.proofs.Common.{◌≡◌, ℕ, ◌+◌, ◌<◌, ◌≤◌, List, [], ◌∷◌, ◌++◌, length, drop, get_or, map, arith, refl, ap, sym, ◌∙◌, append_assoc}
 use Rattle.std.proofs.lemmas.List.{drop_more}
-use Rattle.std.specs.Prelude.{Result, Ok, Err}
+use Rattle.std.specs.Prelude.{Option, Result, Ok, Err}
 use Rattle.std.specs.BTreeMap.{insert_entry}
-use Rattle.std.specs.declared.cmp.Ordering.{Ordering}
 use Rattle.cel_tree.specs.declared.tree.Tree.{Tree}
 use Rattle.cel_tree.specs.declared.tree.Entry.{Entry}
-use Rattle.cel_tree.specs.Ast.{Ast, Asts, End, More, Entries, NoEntry, Pair, tree_view, entry_view, asts_of, entries_of}
+use Rattle.cel_tree.specs.Ast.{More, Entries, Pair, tree_view, entry_view, asts_of, entries_of}
 use Rattle.cel_value.specs.declared.value.Single.{Single}
 use Rattle.cel_value.specs.declared.value.Key.{Key}
 use Rattle.cel_value.specs.declared.value.Key.TheVariants as key
@@ -14,13 +13,15 @@ use Rattle.cel_value.specs.contracts.value.KeyOrd as key_ord
 use Rattle.cel_value.specs.declared.value.Value.{Value}
 use Rattle.cel_value.specs.declared.error.EvalError.{EvalError}
 use Rattle.cel_value.specs.Device.{Device}
-use Rattle.cel_value.specs.Values.{◌>>=◌}
+use Rattle.cel_value.specs.Values.{◌>>=◌, Gives}
 use Rattle.cel_value.specs.Lookups.{key_cmp}
-use Rattle.cel_meaning.specs.Folds.{as_single, as_key}
-use Rattle.cel_meaning.specs.Steps.{behind}
-use Rattle.cel_meaning.specs.Meaning.{Bindings, means, items_of}
+use Rattle.cel_meaning.specs.Folds.{Maker, as_single, as_key}
+use Rattle.cel_meaning.specs.Steps.{behind, gathered_steps}
+use Rattle.cel_meaning.specs.Meaning.{Bindings, means, each, items_of}
 use Rattle.cel_meaning.specs.Meaning as meaning
-use Rattle.cel_meaning.specs.Cost.{cost, items_steps, entries_steps}
+use Rattle.cel_meaning.specs.Cost.{cost, each_steps, items_steps, entries_steps}
+use Rattle.cel_eval.specs.Answers.{Counts}
+use Rattle.cel_eval.proofs.Stops.{counts-behind, counts-from, failed}
 
 -- items in front of those that are read
 abbrev pub behind_all : {A : Type 0} → List A → Result (List A) EvalError → Result (List A) EvalError
@@ -60,6 +61,51 @@ items-count device names xs i t x old new whole e h found rose w =
     let at : items_steps device names (asts_of (map tree_view (drop i xs))) ≡ cost device names (tree_view t) + n =
     ap (λ ts. items_steps device names ts) (rest_at xs i t e h)
     ∙ ap (λ (r : Result Single EvalError). cost device names (tree_view t) + behind r (λ y. n)) found in
+    omega arith
+
+-- an error at an item
+pub items-stop : (device : Device) (names : Bindings) (xs : List Tree) (i : ℕ) (t : Tree) (e : EvalError) (start old new total : ℕ) → t ≡ get_or xs i t → i < length xs →
+    Gives (failed Single e) (as_single (means device names (tree_view t))) → Counts (failed Single e) old new (cost device names (tree_view t)) → start ≤ old →
+    old + items_steps device names (asts_of (map tree_view (drop i xs))) ≡ start + total → Counts (failed (List Single) e) start new total
+items-stop device names xs i t e start old new total is h g c least w =
+    let m : Result Single EvalError = as_single (means device names (tree_view t)) in
+    let n : ℕ = items_steps device names (asts_of (map tree_view (drop (i + 1) xs))) in
+    let at : items_steps device names (asts_of (map tree_view (drop i xs))) ≡ cost device names (tree_view t) + behind m (λ y. n) = ap (λ ts. items_steps device names ts) (rest_at xs i t is h) in
+    counts-from (failed (List Single) e) start old new (cost device names (tree_view t) + behind m (λ y. n)) total least (ap (λ (k : ℕ). old + k) (sym at) ∙ w)
+    (counts-behind Single (List Single) e m old new (cost device names (tree_view t)) (λ y. n) g c)
+
+-- ---- the arguments of a call
+
+pub values-stop : (device : Device) (names : Bindings) (xs : List Tree) (i : ℕ) (t : Tree) (e : EvalError) (start old new total : ℕ) → t ≡ get_or xs i t → i < length xs →
+    Gives (failed Value e) (means device names (tree_view t)) → Counts (failed Value e) old new (cost device names (tree_view t)) → start ≤ old →
+    old + each_steps device names (asts_of (map tree_view (drop i xs))) ≡ start + total → Counts (failed (List Value) e) start new total
+values-stop device names xs i t e start old new total is h g c least w =
+    let m : Result Value EvalError = means device names (tree_view t) in
+    let n : ℕ = each_steps device names (asts_of (map tree_view (drop (i + 1) xs))) in
+    let at : each_steps device names (asts_of (map tree_view (drop i xs))) ≡ cost device names (tree_view t) + behind m (λ y. n) = ap (λ ts. each_steps device names ts) (rest_at xs i t is h) in
+    counts-from (failed (List Value) e) start old new (cost device names (tree_view t) + behind m (λ y. n)) total least (ap (λ (k : ℕ). old + k) (sym at) ∙ w)
+    (counts-behind Value (List Value) e m old new (cost device names (tree_view t)) (λ y. n) g c)
+
+pub values-step : (device : Device) (names : Bindings) (xs : List Tree) (i : ℕ) (t : Tree) (front front' : List Value) (x : Value) (whole : Result (List Value) EvalError) →
+    t ≡ get_or xs i t → i < length xs → means device names (tree_view t) ≡ Ok x → front' ≡ front ++ x ∷ [] →
+    behind_all front (each device names (asts_of (map tree_view (drop i xs)))) ≡ whole →
+    behind_all front' (each device names (asts_of (map tree_view (drop (i + 1) xs)))) ≡ whole
+values-step device names xs i t front front' x whole e h found put w =
+    let rest : Result (List Value) EvalError = each device names (asts_of (map tree_view (drop (i + 1) xs))) in
+    ap (λ (f : List Value). behind_all f rest) put
+    ∙ behind-more front x rest
+    ∙ ap (λ (r : Result Value EvalError). behind_all front (r >>= λ y. rest >>= λ ys. Ok (y ∷ ys))) (sym found)
+    ∙ ap (λ ts. behind_all front (each device names ts)) (sym (rest_at xs i t e h)) ∙ w
+
+pub values-count : (device : Device) (names : Bindings) (xs : List Tree) (i : ℕ) (t : Tree) (x : Value) (old new whole : ℕ) →
+    t ≡ get_or xs i t → i < length xs → means device names (tree_view t) ≡ Ok x → new ≡ old + cost device names (tree_view t) →
+    old + each_steps device names (asts_of (map tree_view (drop i xs))) ≡ whole →
+    new + each_steps device names (asts_of (map tree_view (drop (i + 1) xs))) ≡ whole
+values-count device names xs i t x old new whole e h found rose w =
+    let n : ℕ = each_steps device names (asts_of (map tree_view (drop (i + 1) xs))) in
+    let at : each_steps device names (asts_of (map tree_view (drop i xs))) ≡ cost device names (tree_view t) + n =
+    ap (λ ts. each_steps device names ts) (rest_at xs i t e h)
+    ∙ ap (λ (r : Result Value EvalError). cost device names (tree_view t) + behind r (λ y. n)) found in
     omega arith
 
 -- ---- the entries of a map literal
@@ -102,4 +148,57 @@ entries-count device names xs i t k x old mid new whole e h keyed found rose aga
     ap (λ es. entries_steps device names es) (entries_at xs i t e h)
     ∙ ap (λ (r : Result Key EvalError). cost device names (tree_view t.key) + behind r (λ q. cost device names (tree_view t.value) + behind (as_single (means device names (tree_view t.value))) (λ y. n))) keyed
     ∙ ap (λ (r : Result Single EvalError). cost device names (tree_view t.key) + (cost device names (tree_view t.value) + behind r (λ y. n))) found in
+    omega arith
+
+-- an error at a key, and at a value
+pub key-stop : (device : Device) (names : Bindings) (xs : List Entry) (i : ℕ) (t : Entry) (e : EvalError) (start old new total : ℕ) → t ≡ get_or xs i t → i < length xs →
+    Gives (failed Key e) (as_key (means device names (tree_view t.key))) → Counts (failed Key e) old new (cost device names (tree_view t.key)) → start ≤ old →
+    old + entries_steps device names (entries_of (map entry_view (drop i xs))) ≡ start + total → Counts (failed (List (Key × Single)) e) start new total
+key-stop device names xs i t e start old new total is h g c least w =
+    let m : Result Key EvalError = as_key (means device names (tree_view t.key)) in
+    let n : ℕ = entries_steps device names (entries_of (map entry_view (drop (i + 1) xs))) in
+    let f : Key → ℕ = λ q. cost device names (tree_view t.value) + behind (as_single (means device names (tree_view t.value))) (λ y. n) in
+    let at : entries_steps device names (entries_of (map entry_view (drop i xs))) ≡ cost device names (tree_view t.key) + behind m f = ap (λ es. entries_steps device names es) (entries_at xs i t is h) in
+    counts-from (failed (List (Key × Single)) e) start old new (cost device names (tree_view t.key) + behind m f) total least (ap (λ (k : ℕ). old + k) (sym at) ∙ w)
+    (counts-behind Key (List (Key × Single)) e m old new (cost device names (tree_view t.key)) f g c)
+
+pub value-stop : (device : Device) (names : Bindings) (xs : List Entry) (i : ℕ) (t : Entry) (k : Key) (e : EvalError) (start old mid new total : ℕ) → t ≡ get_or xs i t → i < length xs →
+    as_key (means device names (tree_view t.key)) ≡ Ok k → mid ≡ old + cost device names (tree_view t.key) →
+    Gives (failed Single e) (as_single (means device names (tree_view t.value))) → Counts (failed Single e) mid new (cost device names (tree_view t.value)) → start ≤ old →
+    old + entries_steps device names (entries_of (map entry_view (drop i xs))) ≡ start + total → Counts (failed (List (Key × Single)) e) start new total
+value-stop device names xs i t k e start old mid new total is h keyed rose g c least w =
+    let m : Result Single EvalError = as_single (means device names (tree_view t.value)) in
+    let n : ℕ = entries_steps device names (entries_of (map entry_view (drop (i + 1) xs))) in
+    let at : entries_steps device names (entries_of (map entry_view (drop i xs))) ≡ cost device names (tree_view t.key) + (cost device names (tree_view t.value) + behind m (λ y. n)) =
+    ap (λ es. entries_steps device names es) (entries_at xs i t is h)
+    ∙ ap (λ (r : Result Key EvalError). cost device names (tree_view t.key) + behind r (λ q. cost device names (tree_view t.value) + behind m (λ y. n))) keyed in
+    let rest : ℕ = cost device names (tree_view t.value) + behind m (λ y. n) in
+    let sums : mid + rest ≡ start + total = omega (arith, at, rose, w) in
+    let later : start ≤ mid = omega (arith, least, rose) in
+    counts-from (failed (List (Key × Single)) e) start mid new rest total later sums
+    (counts-behind Single (List (Key × Single)) e m mid new (cost device names (tree_view t.value)) (λ y. n) g c)
+
+-- ---- what `filter` and `map` make
+
+pub made-at : (make : Maker) (steps : Single → ℕ) (xs : List Single) (i : ℕ) (x : Single) → x ≡ get_or xs i x → i < length xs →
+    gathered_steps make steps (drop i xs) ≡ 2 + steps x + behind (make x) (λ y. gathered_steps make steps (drop (i + 1) xs))
+made-at make steps xs i x e h = ap (gathered_steps make steps) (drop_more xs i x h ∙ ap (λ u. u ∷ drop (i + 1) xs) (sym e))
+
+pub made-stop : (make : Maker) (steps : Single → ℕ) (xs : List Single) (i : ℕ) (x : Single) (e : EvalError) (start old new total : ℕ) → x ≡ get_or xs i x → i < length xs →
+    Gives (failed (Option Single) e) (make x) → Counts (failed (Option Single) e) (old + 2) new (steps x) → start ≤ old →
+    old + gathered_steps make steps (drop i xs) ≡ start + total → Counts (failed (List Single) e) start new total
+made-stop make steps xs i x e start old new total is h g c least w =
+    let n : ℕ = gathered_steps make steps (drop (i + 1) xs) in
+    let at : gathered_steps make steps (drop i xs) ≡ 2 + steps x + behind (make x) (λ y. n) = made-at make steps xs i x is h in
+    let rest : ℕ = steps x + behind (make x) (λ y. n) in
+    let sums : old + 2 + rest ≡ start + total = omega (arith, at, w) in
+    let later : start ≤ old + 2 = omega (arith, least) in
+    counts-from (failed (List Single) e) start (old + 2) new rest total later sums
+    (counts-behind (Option Single) (List Single) e (make x) (old + 2) new (steps x) (λ y. n) g c)
+
+pub made-count : (make : Maker) (steps : Single → ℕ) (xs : List Single) (i : ℕ) (x : Single) (y : Option Single) (old new whole : ℕ) → x ≡ get_or xs i x → i < length xs →
+    make x ≡ Ok y → new ≡ old + 2 + steps x → old + gathered_steps make steps (drop i xs) ≡ whole → new + gathered_steps make steps (drop (i + 1) xs) ≡ whole
+made-count make steps xs i x y old new whole is h found rose w =
+    let n : ℕ = gathered_steps make steps (drop (i + 1) xs) in
+    let at : gathered_steps make steps (drop i xs) ≡ 2 + steps x + n = made-at make steps xs i x is h ∙ ap (λ (r : Result (Option Single) EvalError). 2 + steps x + behind r (λ z. n)) found in
     omega arith

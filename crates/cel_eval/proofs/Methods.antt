@@ -1,25 +1,22 @@
 -- The arms of the evaluation that take more than a step.
-use Rattle.std.proofs.Common.{◌≡◌, ℕ, ◌+◌, ◌<◌, List, [], ◌∷◌, Bool, true, false, if◌then◌else◌, length, get_or, map, arith, refl, ap, sym, ◌∙◌, subst}
-use Rattle.std.specs.Prelude.{Option, Some, None, Result, Ok, Err, ◌||◌}
+use Rattle.std.proofs.Common.{◌≡◌, ℕ, ◌+◌, List, Bool, false, if◌then◌else◌, map, arith, ap, sym, ◌∙◌, subst}
+use Rattle.std.specs.Prelude.{Option, Some, Result, Ok, ◌||◌}
 use Rattle.cel_tree.specs.declared.tree.BinaryOp.{BinaryOp}
 use Rattle.cel_tree.specs.declared.tree.Tree.{Tree}
 use Rattle.cel_tree.specs.Ast.{Ast, Form, Binary, Index, Method, Asts, tree_view, asts_of}
 use Rattle.cel_tree.specs.Typing.{is_bind}
-use Rattle.cel_value.specs.declared.value.Single.{Single}
 use Rattle.cel_value.specs.declared.value.Value.{Value}
 use Rattle.cel_value.specs.declared.error.EvalError.{EvalError}
 use Rattle.cel_value.specs.Device.{Device}
 use Rattle.cel_value.specs.Values.{◌>>=◌, Gives}
 use Rattle.cel_meaning.specs.declared.connective.Connective.{Connective}
-use Rattle.cel_eval.specs.declared.making.Making.{Making}
-use Rattle.cel_eval.specs.declared.making.Making.TheVariants as making
-use Rattle.cel_meaning.specs.Folds.{tested, as_value, connective_of, joined, holds, by_map, by_test_and_map}
-use Rattle.cel_meaning.specs.Steps.{behind, decides, unless_decided, weighed, both_steps}
+use Rattle.cel_meaning.specs.Folds.{tested, as_value, connective_of, joined}
+use Rattle.cel_meaning.specs.Steps.{behind, decides, unless_decided, weighed}
 use Rattle.cel_meaning.specs.Meaning.{Bindings, means, form_means, bind_means, operation}
 use Rattle.cel_meaning.specs.Cost.{cost, within, bind_steps, by_connective}
 use Rattle.cel_meaning.specs.Memory.{is_memory, with_memory}
 use Rattle.cel_eval.specs.Answers.{Counts}
-use Rattle.cel_eval.specs.Parts.{method_means, method_steps, body, turn, bodies, all_turns, needed, maker, maker_steps}
+use Rattle.cel_eval.specs.Parts.{method_means, method_steps}
 use Rattle.cel_eval.proofs.Stops.{given, counted, not-memory, not-decided, join-means, join-count}
 
 pub method-means-is : (device : Device) (names : Bindings) (form : Form) (t : Ast) (word : List ℕ) (ts : Asts) (x : Value) →

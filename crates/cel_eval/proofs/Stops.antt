@@ -1,19 +1,15 @@
 -- Answers and counts that memory may stop.
-use Rattle.std.proofs.Common.{◌≡◌, ℕ, ◌+◌, Bool, true, false, refl, sym, ap, ◌∙◌, subst, arith}
-use Rattle.std.specs.Prelude.{Result, Ok, Err, ◌||◌, Some}
-use Rattle.cel_tree.specs.declared.tree.BinaryOp.{BinaryOp}
+use Rattle.std.proofs.Common.{◌≡◌, ℕ, ◌+◌, ◌≤◌, Bool, true, false, refl, sym, ap, subst, arith}
+use Rattle.std.specs.Prelude.{Result, Ok, Err, ◌||◌}
 use Rattle.cel_value.specs.declared.value.Value.{Value}
 use Rattle.cel_value.specs.declared.error.EvalError.{EvalError}
 use Rattle.cel_value.specs.declared.error.EvalError.TheVariants.{NoKey, NoOverload, Overflow, DivByZero, OutOfRange, BadConversion, Memory}
-use Rattle.cel_value.specs.Device.{Device}
 use Rattle.cel_value.specs.Values.{◌>>=◌, UnlessMemory, Gives}
 use Rattle.cel_meaning.specs.declared.connective.Connective.{Connective}
-use Rattle.cel_meaning.specs.declared.connective.Connective.TheVariants as connective
-use Rattle.cel_meaning.specs.Folds.{tested, as_value, connective_of, joined}
-use Rattle.cel_meaning.specs.Steps.{behind, decides, unless_decided}
-use Rattle.cel_meaning.specs.Meaning.{operation}
+use Rattle.cel_meaning.specs.Folds.{as_value, joined}
+use Rattle.cel_meaning.specs.Steps.{behind, decides}
 use Rattle.cel_meaning.specs.Memory.{is_memory, with_memory}
-use Rattle.cel_eval.specs.Answers.{Counts}
+use Rattle.cel_eval.specs.Answers.{Counts, RoseBy}
 
 -- what holds at all events
 pub unless-memory : {P : Type 0} (e : EvalError) → P → UnlessMemory e P
@@ -25,9 +21,18 @@ unless-memory OutOfRange p = p
 unless-memory BadConversion p = p
 unless-memory Memory p = tt
 
+rose-by : (e : EvalError) (old new steps : ℕ) → new ≡ old + steps → RoseBy e old new steps
+rose-by NoKey old new steps h = h
+rose-by NoOverload old new steps h = h
+rose-by Overflow old new steps h = h
+rose-by DivByZero old new steps h = h
+rose-by OutOfRange old new steps h = h
+rose-by BadConversion old new steps h = h
+rose-by Memory old new steps h = (omega (arith, h), omega (arith, h))
+
 pub counts-are : {A : Type 0} (r : Result A EvalError) (old new steps : ℕ) → new ≡ old + steps → Counts r old new steps
 counts-are (Ok x) old new steps h = h
-counts-are (Err e) old new steps h = unless-memory e h
+counts-are (Err e) old new steps h = rose-by e old new steps h
 
 pub gives-itself : {A : Type 0} (r : Result A EvalError) → Gives r r
 gives-itself (Ok x) = refl
@@ -93,7 +98,7 @@ join-count c left (Err Overflow) old mid new j k total e f h = counts-are _ old 
 join-count c left (Err DivByZero) old mid new j k total e f h = counts-are _ old new total (omega (arith, h))
 join-count c left (Err OutOfRange) old mid new j k total e f h = counts-are _ old new total (omega (arith, h))
 join-count c left (Err BadConversion) old mid new j k total e f h = counts-are _ old new total (omega (arith, h))
-join-count c left (Err Memory) old mid new j k total e f h = tt
+join-count c left (Err Memory) old mid new j k total e f h = (omega (arith, e, h.0), omega (arith, e, f, h.1))
 
 -- ---- on behind a value, or an error
 
@@ -117,7 +122,7 @@ counts-behind A B Overflow m old new k f g h = rw g (omega arith)
 counts-behind A B DivByZero m old new k f g h = rw g (omega arith)
 counts-behind A B OutOfRange m old new k f g h = rw g (omega arith)
 counts-behind A B BadConversion m old new k f g h = rw g (omega arith)
-counts-behind A B Memory m old new k f g h = tt
+counts-behind A B Memory m old new k f g h = (h.0, omega (arith, h.1))
 
 pub counts-after : {A : Type 0} (r : Result A EvalError) (old mid new j k total : ℕ) → mid ≡ old + j → total ≡ j + k → Counts r mid new k → Counts r old new total
 counts-after (Ok x) old mid new j k total e f h = omega (arith, h)
@@ -127,7 +132,22 @@ counts-after (Err Overflow) old mid new j k total e f h = omega (arith, h)
 counts-after (Err DivByZero) old mid new j k total e f h = omega (arith, h)
 counts-after (Err OutOfRange) old mid new j k total e f h = omega (arith, h)
 counts-after (Err BadConversion) old mid new j k total e f h = omega (arith, h)
-counts-after (Err Memory) old mid new j k total e f h = tt
+counts-after (Err Memory) old mid new j k total e f h = (omega (arith, e, h.0), omega (arith, e, f, h.1))
 
 pub counts-equal : {A : Type 0} (r : Result A EvalError) (old new j k : ℕ) → k ≡ j → Counts r old new j → Counts r old new k
 counts-equal {A = A} r old new j k e h = subst (λ (n : ℕ). Counts r old new n) (sym e) h
+
+-- an error behind what was counted before
+pub counts-from : {A : Type 0} (r : Result A EvalError) (start old new k total : ℕ) → start ≤ old → old + k ≡ start + total → Counts r old new k → Counts r start new total
+counts-from (Ok x) start old new k total least e h = omega (arith, e, h)
+counts-from (Err NoKey) start old new k total least e h = omega (arith, e, h)
+counts-from (Err NoOverload) start old new k total least e h = omega (arith, e, h)
+counts-from (Err Overflow) start old new k total least e h = omega (arith, e, h)
+counts-from (Err DivByZero) start old new k total least e h = omega (arith, e, h)
+counts-from (Err OutOfRange) start old new k total least e h = omega (arith, e, h)
+counts-from (Err BadConversion) start old new k total least e h = omega (arith, e, h)
+counts-from (Err Memory) start old new k total least e h = (omega (arith, least, h.0), omega (arith, e, h.1))
+
+-- memory ran out somewhere between
+pub counts-between : (A : Type 0) (start new k total : ℕ) → start ≤ new → new + k ≡ start + total → Counts (failed A Memory) start new total
+counts-between A start new k total least e = (least, omega (arith, e))

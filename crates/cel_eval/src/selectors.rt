@@ -21,8 +21,8 @@ use std::alloc::Global;
 /// The value has the expression's type. The count rises by the steps of what is evaluated, which are at
 /// most the estimate. An error is the first that the evaluation comes to from the left, but for those
 /// that `&&`, `||`, `all` and `exists` pass over; NoOverload comes only where a part of the expression
-/// is of a type with dyn in it. Memory comes only where memory runs out, and then nothing is said of the
-/// count.
+/// is of a type with dyn in it. Memory comes only where memory runs out, and then the count rises by at
+/// most the steps.
 pub fn eval(
     alloc: Global,
     device: &DeviceEnv,

@@ -79,7 +79,8 @@ impl Compiled {
 
     /// What the selector says of a device: Yes exactly where it is true, No exactly where it is false,
     /// and else Fault with the error or with NotBool. The one error is want of memory, and no Fault
-    /// has it. The evaluation takes at most 1,000,000 steps.
+    /// has it. By the table of steps the selector takes at most 1,000,000 on the device; that is said
+    /// of the selector and the device, since the call hands out no count of its own.
     pub fn matches(&self, alloc: Global, device: &DeviceEnv) -> Result<Verdict, AllocError>
         ensures verdict { IfOk result (λ v. v ≡ match_of device.now self.now.tree) }
         ensures no_memory { IfOk result (λ v. v ≢ Fault (Error Memory)) }

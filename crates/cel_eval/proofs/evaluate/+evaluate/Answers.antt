@@ -1,22 +1,22 @@
-use Rattle.std.proofs.Common.{◌≡◌, ℕ, ◌+◌, ◌<◌, length, subst, List, Bool, true, false, Some, Option, Ok, Err, refl, ap, sym, ◌∙◌, arith, rules, map, get_or}
+use Rattle.std.proofs.Common.{◌+◌, List, refl, ap, sym, ◌∙◌, arith, rules}
 use Rattle.std.proofs.lemmas.Result.{err_from_is_err_and}
 use Rattle.cel_tree.specs.declared.tree.Tree.{Tree}
 use Rattle.cel_tree.specs.declared.tree.Kind.TheFolds.{the_lemmas}
 use Rattle.cel_tree.proofs.tree.Tree.TheLaws.{the_size}
 use denote.Param.Weighed.{at_most}
-use Rattle.cel_tree.specs.Ast.{tree_view, kind_view, asts_of}
-use Rattle.cel_tree.specs.Typing.{is_bind, variable_of}
+use Rattle.cel_tree.specs.Ast.{tree_view, kind_view}
+use Rattle.cel_tree.specs.Typing.{is_bind}
+use Rattle.cel_value.specs.declared.value.Key.{Key}
 use Rattle.cel_value.specs.declared.value.Single.{Single}
 use Rattle.cel_value.specs.declared.value.Value.{Value}
-use Rattle.cel_eval.specs.declared.making.Making.{Making}
-use Rattle.cel_meaning.specs.Folds.{holds, gathered, as_value}
+use Rattle.cel_meaning.specs.Folds.{holds, as_value}
 use Rattle.cel_meaning.specs.Meaning.{means}
 use Rattle.cel_meaning.specs.Cost.{cost}
-use Rattle.cel_eval.specs.Parts.{body, turn, needed}
+use Rattle.cel_eval.specs.Parts.{body, turn, bodies, all_turns, maker, maker_steps}
 use Rattle.cel_eval.specs.Answers.{bindings}
-use Rattle.cel_eval.proofs.Stops.{counts-are, gives-equal, gives-behind, counts-behind, counts-after, counts-equal}
-use Rattle.cel_eval.proofs.Fronts.{items-step, items-count, entries-step, entries-count}
-use Rattle.cel_eval.proofs.Folding.{fold-step, fold-count}
+use Rattle.cel_eval.proofs.Stops.{counts-are, gives-behind, counts-behind, counts-after, counts-between}
+use Rattle.cel_eval.proofs.Fronts.{items-step, items-count, items-stop, values-count, values-step, values-stop, entries-step, entries-count, key-stop, value-stop, made-count, made-stop}
+use Rattle.cel_eval.proofs.Folding.{fold-step, fold-count, fold-least, fold-stop}
 use Rattle.cel_eval.proofs.Bodies.{has-other, has-other-steps, has-no_member, has-no_member-steps, bind-other, bind-other-steps, bind-is, bind-steps-are, with-name, with-name-steps, no-bodies, no-turns, neither, not-two, gives-value, gives-one, counts-one, one-body, filter-is, filter-steps, one-is, one-steps, map-is, map-steps, both-is, both-are}
 use Rattle.cel_eval.proofs.Methods.{method-arm, method-room, index-count, connect-arm, connect-count}
 use Rattle.cel_eval.proofs.evaluate.+evaluate.Goals as goal
@@ -45,6 +45,7 @@ with_two-returns-in_default t c = record {
 pub fold-loop-element-preserved : goal.fold-loop-element-preserved
 fold-loop-element-preserved t c = record {
   means = fold-step c.args.connective (holds (body c.args.device.now (bindings c.args.scope.now) c.args.name.now (tree_view c.args.test.now))) c.args.elements.now c.loop-element.element-index c.element-item.result c.loop-element.found c.join-found.result c.truth_at-side.result _ c.element-item.is c.loop-element-test.true (sym c.stops.ensures ∙ c.if-stops.false) c.truth_at-side.ensures.means c.join-found.ensures c.loop-element.invariant.means;
+  least = fold-least c.args.connective c.truth_at-side.result c.loop-element.steps.count c.truth_at-side.new.steps.count _ _ (sym c.stops.ensures ∙ c.if-stops.false) c.loop-element.invariant.least c.truth_at-side.ensures.counts;
   counts = fold-count c.args.connective (turn c.args.device.now (bindings c.args.scope.now) c.args.name.now (tree_view c.args.test.now)) c.args.elements.now c.loop-element.element-index c.element-item.result c.truth_at-side.result c.loop-element.steps.count (c.loop-element.steps.count + 2) c.truth_at-side.new.steps.count _ c.element-item.is c.loop-element-test.true (sym c.stops.ensures ∙ c.if-stops.false) c.truth_at-side.ensures.means refl c.truth_at-side.ensures.counts c.loop-element.invariant.counts;
 }
 
@@ -63,12 +64,14 @@ has_member-returns-in_default t c = record {
 pub items_of-loop-at-preserved : goal.items_of-loop-at-preserved
 items_of-loop-at-preserved t c = record {
   means = items-step c.args.device.now (bindings c.args.scope.now) c.args.trees.now c.loop-at.at c.index-trees-at.result c.loop-at.items c.push.new.self c.in_ok-item.item _ c.index-trees-at.is c.loop-at-test.true c.in_ok-item.ensures.means c.in_ok-push.ensures.ok c.loop-at.invariant.means;
+  least = omega (arith, c.loop-at.invariant.least, c.in_ok-item.ensures.counts);
   counts = items-count c.args.device.now (bindings c.args.scope.now) c.args.trees.now c.loop-at.at c.index-trees-at.result c.in_ok-item.item c.loop-at.steps.count c.single_of.new.steps.count _ c.index-trees-at.is c.loop-at-test.true c.in_ok-item.ensures.means c.in_ok-item.ensures.counts c.loop-at.invariant.counts;
 }
 
 pub table_of-loop-at-preserved : goal.table_of-loop-at-preserved
 table_of-loop-at-preserved t c = record {
   means = entries-step c.args.device.now (bindings c.args.scope.now) c.args.entries.now c.loop-at.at c.index-entries-at.result c.loop-at.table c.insert.new.self c.in_ok-key.key c.in_ok-value.value _ c.index-entries-at.is c.loop-at-test.true c.in_ok-key.ensures.means c.in_ok-value.ensures.means c.in_ok-insert.ensures.ok c.loop-at.invariant.means;
+  least = omega (arith, c.loop-at.invariant.least, c.in_ok-key.ensures.counts, c.in_ok-value.ensures.counts);
   counts = entries-count c.args.device.now (bindings c.args.scope.now) c.args.entries.now c.loop-at.at c.index-entries-at.result c.in_ok-key.key c.in_ok-value.value c.loop-at.steps.count c.key_of.new.steps.count c.single_of.new.steps.count _ c.index-entries-at.is c.loop-at-test.true c.in_ok-key.ensures.means c.in_ok-value.ensures.means c.in_ok-key.ensures.counts c.in_ok-value.ensures.counts c.loop-at.invariant.counts;
 }
 
@@ -168,3 +171,62 @@ pub bind-returns-in_err-value-clause-counts : goal.bind-returns-in_err-value-cla
 bind-returns-in_err-value-clause-counts t c =
     let p = err_from_is_err_and c.from_residual.result c.from_residual.ensures.1 in
     rw (p.1, p.2, bind-steps-are c.args.device.now (bindings c.args.scope.now) c.args.arguments.now c.index-arguments-0.result c.index-arguments-1.result c.in-Some.name.now c.index-arguments-0.is c.index-arguments-1.is c.if-arguments-ne3.false (sym c.in-Some.ensures)) (counts-behind Value Value c.in_err-value.field-0.0 (means c.args.device.now (bindings c.args.scope.now) (tree_view c.index-arguments-1.result)) _ _ _ _ c.in_err-value.ensures.means c.in_err-value.ensures.counts)
+
+pub items_of-returns-in_err-item-clause-counts : goal.items_of-returns-in_err-item-clause-counts
+items_of-returns-in_err-item-clause-counts t c =
+    let p = err_from_is_err_and c.from_residual.result c.from_residual.ensures.1 in
+    rw (p.1, p.2) (items-stop c.args.device.now (bindings c.args.scope.now) c.args.trees.now c.loop-at.at c.index-trees-at.result c.in_err-item.field-0.0 _ c.loop-at.steps.count c.single_of.new.steps.count _ c.index-trees-at.is c.loop-at-test.true c.in_err-item.ensures.means c.in_err-item.ensures.counts c.loop-at.invariant.least c.loop-at.invariant.counts)
+
+pub items_of-returns-in_err-push-clause-counts : goal.items_of-returns-in_err-push-clause-counts
+items_of-returns-in_err-push-clause-counts t c =
+    let p = err_from_is_err_and c.from_residual-in_err-push.result c.from_residual-in_err-push.ensures.1 in
+    rw (p.1, p.2) (counts-between (List Single) _ c.single_of.new.steps.count _ _ (omega (arith, c.loop-at.invariant.least, c.in_ok-item.ensures.counts))
+    (items-count c.args.device.now (bindings c.args.scope.now) c.args.trees.now c.loop-at.at c.index-trees-at.result c.in_ok-item.item c.loop-at.steps.count c.single_of.new.steps.count _ c.index-trees-at.is c.loop-at-test.true c.in_ok-item.ensures.means c.in_ok-item.ensures.counts c.loop-at.invariant.counts))
+
+pub values_of-returns-in_err-value-clause-counts : goal.values_of-returns-in_err-value-clause-counts
+values_of-returns-in_err-value-clause-counts t c =
+    let p = err_from_is_err_and c.from_residual.result c.from_residual.ensures.1 in
+    rw (p.1, p.2) (values-stop c.args.device.now (bindings c.args.scope.now) c.args.trees.now c.loop-at.at c.index-trees-at.result c.in_err-value.field-0.0 _ c.loop-at.steps.count c.value_of.new.steps.count _ c.index-trees-at.is c.loop-at-test.true c.in_err-value.ensures.means c.in_err-value.ensures.counts c.loop-at.invariant.least c.loop-at.invariant.counts)
+
+pub values_of-returns-in_err-push-clause-counts : goal.values_of-returns-in_err-push-clause-counts
+values_of-returns-in_err-push-clause-counts t c =
+    let p = err_from_is_err_and c.from_residual-in_err-push.result c.from_residual-in_err-push.ensures.1 in
+    rw (p.1, p.2) (counts-between (List Value) _ c.value_of.new.steps.count _ _ (omega (arith, c.loop-at.invariant.least, c.in_ok-value.ensures.counts))
+    (values-count c.args.device.now (bindings c.args.scope.now) c.args.trees.now c.loop-at.at c.index-trees-at.result c.in_ok-value.value c.loop-at.steps.count c.value_of.new.steps.count _ c.index-trees-at.is c.loop-at-test.true c.in_ok-value.ensures.means c.in_ok-value.ensures.counts c.loop-at.invariant.counts))
+
+pub table_of-returns-in_err-key-clause-counts : goal.table_of-returns-in_err-key-clause-counts
+table_of-returns-in_err-key-clause-counts t c =
+    let p = err_from_is_err_and c.from_residual.result c.from_residual.ensures.1 in
+    rw (p.1, p.2) (key-stop c.args.device.now (bindings c.args.scope.now) c.args.entries.now c.loop-at.at c.index-entries-at.result c.in_err-key.field-0.0 _ c.loop-at.steps.count c.key_of.new.steps.count _ c.index-entries-at.is c.loop-at-test.true c.in_err-key.ensures.means c.in_err-key.ensures.counts c.loop-at.invariant.least c.loop-at.invariant.counts)
+
+pub table_of-returns-in_err-value-clause-counts : goal.table_of-returns-in_err-value-clause-counts
+table_of-returns-in_err-value-clause-counts t c =
+    let p = err_from_is_err_and c.from_residual-in_err-value.result c.from_residual-in_err-value.ensures.1 in
+    rw (p.1, p.2) (value-stop c.args.device.now (bindings c.args.scope.now) c.args.entries.now c.loop-at.at c.index-entries-at.result c.in_ok-key.key c.in_err-value.field-0.0 _ c.loop-at.steps.count c.key_of.new.steps.count c.single_of.new.steps.count _ c.index-entries-at.is c.loop-at-test.true c.in_ok-key.ensures.means c.in_ok-key.ensures.counts c.in_err-value.ensures.means c.in_err-value.ensures.counts c.loop-at.invariant.least c.loop-at.invariant.counts)
+
+pub table_of-returns-in_err-insert-clause-counts : goal.table_of-returns-in_err-insert-clause-counts
+table_of-returns-in_err-insert-clause-counts t c =
+    let p = err_from_is_err_and c.from_residual-in_err-insert.result c.from_residual-in_err-insert.ensures.1 in
+    rw (p.1, p.2) (counts-between (List (Key × Single)) _ c.single_of.new.steps.count _ _ (omega (arith, c.loop-at.invariant.least, c.in_ok-key.ensures.counts, c.in_ok-value.ensures.counts))
+    (entries-count c.args.device.now (bindings c.args.scope.now) c.args.entries.now c.loop-at.at c.index-entries-at.result c.in_ok-key.key c.in_ok-value.value c.loop-at.steps.count c.key_of.new.steps.count c.single_of.new.steps.count _ c.index-entries-at.is c.loop-at-test.true c.in_ok-key.ensures.means c.in_ok-value.ensures.means c.in_ok-key.ensures.counts c.in_ok-value.ensures.counts c.loop-at.invariant.counts))
+
+pub gather-returns-in_err-made-clause-counts : goal.gather-returns-in_err-made-clause-counts
+gather-returns-in_err-made-clause-counts t c =
+    let p = err_from_is_err_and c.from_residual.result c.from_residual.ensures.1 in
+    rw (p.1, p.2) (made-stop (maker c.args.making (bodies c.args.device.now (bindings c.args.scope.now) c.args.name.now c.args.arguments.now)) (maker_steps c.args.making (all_turns c.args.device.now (bindings c.args.scope.now) c.args.name.now c.args.arguments.now)) c.args.elements.now c.loop-element.element-index c.element-item.result c.in_err-made.field-0.0 _ c.loop-element.steps.count c.make.new.steps.count _ c.element-item.is c.loop-element-test.true c.in_err-made.ensures.means c.in_err-made.ensures.counts c.loop-element.invariant.least c.loop-element.invariant.counts)
+
+pub gather-returns-in_err-push-clause-counts : goal.gather-returns-in_err-push-clause-counts
+gather-returns-in_err-push-clause-counts t c =
+    let p = err_from_is_err_and c.from_residual-in_err-push.result c.from_residual-in_err-push.ensures.1 in
+    rw (p.1, p.2) (counts-between (List Single) _ c.make.new.steps.count _ _ (omega (arith, c.loop-element.invariant.least, c.in_ok-made.ensures.counts))
+    (made-count (maker c.args.making (bodies c.args.device.now (bindings c.args.scope.now) c.args.name.now c.args.arguments.now)) (maker_steps c.args.making (all_turns c.args.device.now (bindings c.args.scope.now) c.args.name.now c.args.arguments.now)) c.args.elements.now c.loop-element.element-index c.element-item.result _ c.loop-element.steps.count c.make.new.steps.count _ c.element-item.is c.loop-element-test.true c.in_ok-made.ensures.means c.in_ok-made.ensures.counts c.loop-element.invariant.counts))
+
+pub fold-returns-then-stops-clause-counts : goal.fold-returns-then-stops-clause-counts
+fold-returns-then-stops-clause-counts t c = fold-stop c.args.connective (turn c.args.device.now (bindings c.args.scope.now) c.args.name.now (tree_view c.args.test.now)) c.args.elements.now c.loop-element.element-index c.element-item.result c.truth_at-side.result _ c.loop-element.steps.count c.truth_at-side.new.steps.count _ c.element-item.is c.loop-element-test.true (sym c.stops.ensures ∙ c.if-stops.true) c.truth_at-side.ensures.means c.truth_at-side.ensures.counts c.loop-element.invariant.least c.loop-element.invariant.counts
+
+pub values_of-loop-at-preserved : goal.values_of-loop-at-preserved
+values_of-loop-at-preserved t c = record {
+  means = values-step c.args.device.now (bindings c.args.scope.now) c.args.trees.now c.loop-at.at c.index-trees-at.result c.loop-at.values c.push.new.self c.in_ok-value.value _ c.index-trees-at.is c.loop-at-test.true c.in_ok-value.ensures.means c.in_ok-push.ensures.ok c.loop-at.invariant.means;
+  least = omega (arith, c.loop-at.invariant.least, c.in_ok-value.ensures.counts);
+  counts = values-count c.args.device.now (bindings c.args.scope.now) c.args.trees.now c.loop-at.at c.index-trees-at.result c.in_ok-value.value c.loop-at.steps.count c.value_of.new.steps.count _ c.index-trees-at.is c.loop-at-test.true c.in_ok-value.ensures.means c.in_ok-value.ensures.counts c.loop-at.invariant.counts;
+}
