@@ -10,12 +10,13 @@ use Rattle.std.proofs.lemmas.List.Folds.{list_any_at, list_any_none}
 use Rattle.walk.specs.Walk.{Open, IsChoice, IsAllocation as IsFilling}
 use Rattle.object_fields.specs.declared.key.DeviceId.{DeviceId}
 use Rattle.api_claim.specs.declared.types.ResourceClaim.{ResourceClaim}
-use Rattle.alloc_rules.specs.declared.state.State.{State}
-use Rattle.alloc_rules.specs.declared.plan.Grant.{Grant}
-use Rattle.alloc_rules.specs.Names.{at_name, device_eq}
+use Rattle.cluster.specs.declared.state.State.{State}
+use Rattle.cluster.specs.declared.plan.Grant.{Grant}
+use Rattle.pool_view.specs.Names.{at_name, device_eq}
 use Rattle.device_match.specs.declared.matching.Match.{Match}
 use Rattle.device_match.specs.declared.matching.Match.TheVariants.{Yes, No, Fault}
-use Rattle.alloc_rules.specs.Pools.{Offered, devices_on, held, id_in, is_free}
+use Rattle.pool_view.specs.Pools.{Offered, devices_on, id_in}
+use Rattle.cluster.specs.Held.{held, is_free}
 use Rattle.alloc_rules.specs.Claims.{Slot, slots_of}
 use Rattle.alloc_rules.specs.Match.{fault_for, is_met, is_yes, match_on}
 use Rattle.alloc_rules.specs.Rules.{devices_picked, fits, grants_for, ids_of, is_good, one_option, problem_of, same_device, shape_by, stands}
@@ -102,10 +103,10 @@ yes_is Yes e = refl
 yes_is No e = absurd (cc)
 yes_is (Fault n why) e = absurd (cc)
 
-pub allocation_from_filling : (s : State) (claims : List ResourceClaim) (node choice l : List ℕ) → IsSome (at_name s.nodes node) → IsFilling (problem_of s claims node) choice l → IsAllocation s claims node choice (grants_for claims (ids_of (devices_picked (devices_on s node) l)))
+pub allocation_from_filling : (s : State) (claims : List ResourceClaim) (node choice l : List ℕ) → IsSome (at_name s.inventory.nodes node) → IsFilling (problem_of s claims node) choice l → IsAllocation s claims node choice (grants_for claims (ids_of (devices_picked (devices_on s.inventory node) l)))
 unfolding problem_of fault_for
 allocation_from_filling s claims node choice l there_is f =
-    let ds = devices_on s node in
+    let ds = devices_on s.inventory node in
     let slots = slots_of claims in
     let shaped = open_unfaulted (fault_for s claims node choice) (length slots) (length l) f.whole in
     let whole : length slots ≡ length l = shaped.1 in
@@ -131,10 +132,10 @@ allocation_from_filling s claims node choice l there_is f =
     }
 
 pub filling_from_allocation : (s : State) (claims : List ResourceClaim) (node choice : List ℕ) (grants : List Grant) (a : IsAllocation s claims node choice grants)
-    → (l : List ℕ) × IsFilling (problem_of s claims node) choice l × (devices_picked (devices_on s node) l ≡ a.devices)
+    → (l : List ℕ) × IsFilling (problem_of s claims node) choice l × (devices_picked (devices_on s.inventory node) l ≡ a.devices)
 unfolding problem_of fault_for
 filling_from_allocation s claims node choice grants a =
-    let ds = devices_on s node in
+    let ds = devices_on s.inventory node in
     let slots = slots_of claims in
     let r = positions_of ds a.devices (recursion_from_gets (Contains ds) a.devices a.on_node) in
     let l = r.0 in

@@ -9,9 +9,9 @@ use Rattle.object_fields.specs.declared.key.DeviceId.{DeviceId}
 use Rattle.api_claim.specs.declared.types.ResourceClaim.{ResourceClaim}
 use Rattle.alloc_rules.specs.declared.fit.Fit.{Fit}
 use Rattle.alloc_rules.specs.declared.fit.Fit.TheVariants as fit
-use Rattle.alloc_rules.specs.declared.state.State.{State}
-use Rattle.alloc_rules.specs.declared.plan.SelectorFault.{SelectorFault}
-use Rattle.alloc_rules.specs.Pools.{Offered, devices_on}
+use Rattle.cluster.specs.declared.state.State.{State}
+use Rattle.cluster.specs.declared.plan.SelectorFault.{SelectorFault}
+use Rattle.pool_view.specs.Pools.{Offered, devices_on}
 use Rattle.alloc_rules.specs.Match.{fault_at, fault_for, fault_in, first_some, or_else}
 use Rattle.alloc_rules.specs.Claims.{Slot, slots_of}
 use Rattle.alloc_rules.specs.Rules.{devices_picked, fits, ids_of, is_good, one_option, problem_of, shape_by}
@@ -165,16 +165,16 @@ or_none None = refl
 or_none (Some f) = refl
 
 fits_with : (s : State) (node : List ℕ) (slots : List Slot) → length slots ≤ 1
-    → FitsWalk (walk (problem_with s (devices_on s node) slots (fault_in s slots (devices_on s node)))) (devices_on s node) (fault_in s slots (devices_on s node)) (fit_on s (slot_due slots) node)
-fits_with s node [] h = fits_none s (devices_on s node)
+    → FitsWalk (walk (problem_with s (devices_on s.inventory node) slots (fault_in s slots (devices_on s.inventory node)))) (devices_on s.inventory node) (fault_in s slots (devices_on s.inventory node)) (fit_on s (slot_due slots) node)
+fits_with s node [] h = fits_none s (devices_on s.inventory node)
 fits_with s node (slot ∷ []) h =
-    let ds = devices_on s node in
+    let ds = devices_on s.inventory node in
     let o = first_some (fault_at s slot) ds in
     subst (λ (p : Option SelectorFault). FitsWalk (walk (problem_with s ds (slot ∷ []) p)) ds p (fit_by s slot ds o)) (sym (or_none o)) (fits_slot s ds slot o)
 fits_with s node (a ∷ b ∷ slots) h = absurd (omega arith)
 
 -- what a node has for a pod is what the walk there meets
 pub fits_walk : (s : State) (claims : List ResourceClaim) (node choice : List ℕ) → length (slots_of claims) ≤ 1
-    → FitsWalk (walk (problem_of s claims node)) (devices_on s node) (fault_for s claims node choice) (fit_on s (slot_due (slots_of claims)) node)
+    → FitsWalk (walk (problem_of s claims node)) (devices_on s.inventory node) (fault_for s claims node choice) (fit_on s (slot_due (slots_of claims)) node)
 unfolding problem_of problem_with fault_for
 fits_walk s claims node choice h = fits_with s node (slots_of claims) h

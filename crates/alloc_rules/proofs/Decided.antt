@@ -15,14 +15,15 @@ use Rattle.api_cluster.specs.declared.types.Pod.{Pod}
 use Rattle.alloc_rules.specs.declared.fit.Fit.{Fit}
 use Rattle.alloc_rules.specs.declared.fit.Fit.TheVariants as fit
 use Rattle.alloc_rules.specs.declared.fit.NodeFit.{NodeFit}
-use Rattle.alloc_rules.specs.declared.plan.Cause.{Cause}
-use Rattle.alloc_rules.specs.declared.plan.Cause.TheVariants as cause
-use Rattle.alloc_rules.specs.declared.plan.Passed.{Passed}
-use Rattle.alloc_rules.specs.declared.state.State.{State}
-use Rattle.alloc_rules.specs.declared.state.PodState.{PodState}
-use Rattle.alloc_rules.specs.Names.{at_key, text_cmp, text_eq}
-use Rattle.alloc_rules.specs.Pools.{devices_on}
-use Rattle.alloc_rules.specs.Claims.{Slot, claim_keys, claims_built, schedule_built, slots_of, wanted}
+use Rattle.cluster.specs.declared.plan.Cause.{Cause}
+use Rattle.cluster.specs.declared.plan.Cause.TheVariants as cause
+use Rattle.cluster.specs.declared.plan.Passed.{Passed}
+use Rattle.cluster.specs.declared.state.State.{State}
+use Rattle.cluster.specs.declared.state.PodState.{PodState}
+use Rattle.pool_view.specs.Names.{at_key, text_cmp, text_eq}
+use Rattle.pool_view.specs.Pools.{devices_on}
+use Rattle.alloc_rules.specs.Claims.{Slot, claims_built, schedule_built, slots_of, wanted}
+use Rattle.cluster.specs.Claims.{claim_keys}
 use Rattle.alloc_rules.specs.Match.{fault_for}
 use Rattle.alloc_rules.specs.Rules.{grants_for, outcome_on, walk_on}
 use Rattle.alloc_rules.specs.Plans.{CauseBy, CauseTrue, IsUnsat, names_before, nodes_of}
@@ -134,7 +135,7 @@ due s pod = slot_due (slots_of (wanted s pod))
 
 -- what each node has is what its walk meets
 abbrev Walked : State → Pod → Type 0
-Walked s pod = (node choice : List ℕ) → FitsWalk (walk_on s pod node) (devices_on s node) (fault_for s (wanted s pod) node choice) (fit_on s (due s pod) node)
+Walked s pod = (node choice : List ℕ) → FitsWalk (walk_on s pod node) (devices_on s.inventory node) (fault_for s (wanted s pod) node choice) (fit_on s (due s pod) node)
 
 walked : (s : State) (pod : Pod) → claims_built s (claim_keys pod) ≡ true → Walked s pod
 unfolding walk_on
@@ -142,7 +143,7 @@ walked s pod h node choice = fits_walk s (wanted s pod) node choice (one_slot s 
 
 -- why a node isn't taken is what a search of it answers
 cause_by : (s : State) (pod : Pod) (node : List ℕ) (f : Fit) (b : ℕ) → is_fit f ≡ false → 2 ≤ b
-    → ((choice : List ℕ) → FitsWalk (walk_on s pod node) (devices_on s node) (fault_for s (wanted s pod) node choice) f) → CauseBy s pod b node (cause_of f)
+    → ((choice : List ℕ) → FitsWalk (walk_on s pod node) (devices_on s.inventory node) (fault_for s (wanted s pod) node choice) f) → CauseBy s pod b node (cause_of f)
 unfolding outcome_on
 cause_by s pod node fit.Nothing b e h w = absurd (cc)
 cause_by s pod node (fit.Device d) b e h w = absurd (cc)
@@ -170,11 +171,11 @@ all_causes_by s pod b h w ns ps e a = subst (λ (l : List Passed). All (λ p. Ca
 all_causes_true : (s : State) (pod : Pod) → Unsats → Walked s pod → (ns : List (List ℕ)) (ps : List Passed) → ps ≡ map (passed_at s (due s pod)) ns → AllByRecursion (IsPassed s (due s pod)) ns → All (λ p. CauseTrue s pod p.node p.cause) ps
 all_causes_true s pod law w ns ps e a = subst (λ (l : List Passed). All (λ p. CauseTrue s pod p.node p.cause) l) (sym e) (All-from_recursion (λ p. CauseTrue s pod p.node p.cause) (map (passed_at s (due s pod)) ns) (causes_true s pod law w ns a))
 
-met : (s : State) (pod : Pod) (f : NodeFit) → Walked s pod → f.fit ≡ fit_on s (due s pod) f.node → is_fit f.fit ≡ true → Meets (walk_on s pod f.node) (devices_on s f.node) (devices_for f.fit)
-met s pod f w e m = meets_fit (walk_on s pod f.node) (devices_on s f.node) (fault_for s (wanted s pod) f.node []) f.fit (subst (λ (x : Fit). FitsWalk (walk_on s pod f.node) (devices_on s f.node) (fault_for s (wanted s pod) f.node []) x) (sym e) (w f.node [])) m
+met : (s : State) (pod : Pod) (f : NodeFit) → Walked s pod → f.fit ≡ fit_on s (due s pod) f.node → is_fit f.fit ≡ true → Meets (walk_on s pod f.node) (devices_on s.inventory f.node) (devices_for f.fit)
+met s pod f w e m = meets_fit (walk_on s pod f.node) (devices_on s.inventory f.node) (fault_for s (wanted s pod) f.node []) f.fit (subst (λ (x : Fit). FitsWalk (walk_on s pod f.node) (devices_on s.inventory f.node) (fault_for s (wanted s pod) f.node []) x) (sym e) (w f.node [])) m
 
-reserve_is : (s : State) (pod : Key) (p : PodState) (at : ℕ) (f : NodeFit) → Unsats → schedule_built s pod ≡ true → Some p ≡ at_key s.pods pod → IsStrictlySortedBy text_cmp (keys_of s.nodes)
-    → Chosen s (due s p.pod.object) (keys_of s.nodes) f → IsReserve s pod at (plan_with s p at (fits_for s p) f)
+reserve_is : (s : State) (pod : Key) (p : PodState) (at : ℕ) (f : NodeFit) → Unsats → schedule_built s pod ≡ true → Some p ≡ at_key s.pods pod → IsStrictlySortedBy text_cmp (keys_of s.inventory.nodes)
+    → Chosen s (due s p.pod.object) (keys_of s.inventory.nodes) f → IsReserve s pod at (plan_with s p at (fits_for s p) f)
 unfolding plan_with outcome_on
 reserve_is s pod p at f law h e o c =
     let parts = built_parts s pod p h e in
@@ -207,7 +208,7 @@ reserve_is s pod p at f law h e o c =
     }
 
 verdict_is : (s : State) (pod : Key) (p : PodState) (at : ℕ) → Unsats → schedule_built s pod ≡ true → Some p ≡ at_key s.pods pod
-    → NoneFits s (due s p.pod.object) (keys_of s.nodes) → IsJudge s pod at (record { at = at; nodes = passed_over (fits_for s p) })
+    → NoneFits s (due s p.pod.object) (keys_of s.inventory.nodes) → IsJudge s pod at (record { at = at; nodes = passed_over (fits_for s p) })
 verdict_is s pod p at law h e c =
     let parts = built_parts s pod p h e in
     let w = walked s p.pod.object parts.1 in
@@ -217,20 +218,20 @@ verdict_is s pod p at law h e c =
         state = p;
         idle = record { there = sym e; idle = idle_is p.phase parts.0 };
         built = h;
-        nodes = ap nodes_of c.passed ∙ nodes_passed s (due s p.pod.object) (keys_of s.nodes);
-        causes = all_causes_true s p.pod.object law w (keys_of s.nodes) (passed_over (fits_for s p)) c.passed c.unsat;
+        nodes = ap nodes_of c.passed ∙ nodes_passed s (due s p.pod.object) (keys_of s.inventory.nodes);
+        causes = all_causes_true s p.pod.object law w (keys_of s.inventory.nodes) (passed_over (fits_for s p)) c.passed c.unsat;
       };
       found = λ b n. record {
         state = p;
         there = sym e;
-        causes = all_causes_by s p.pod.object b n w (keys_of s.nodes) (passed_over (fits_for s p)) c.passed c.unsat;
+        causes = all_causes_by s p.pod.object b n w (keys_of s.inventory.nodes) (passed_over (fits_for s p)) c.passed c.unsat;
       };
     }
 
-decision_by : (s : State) (pod : Key) (p : PodState) (at : ℕ) (o : Option NodeFit) → find is_found (fits_for s p) ≡ o → Unsats → schedule_built s pod ≡ true → Some p ≡ at_key s.pods pod → IsStrictlySortedBy text_cmp (keys_of s.nodes)
+decision_by : (s : State) (pod : Key) (p : PodState) (at : ℕ) (o : Option NodeFit) → find is_found (fits_for s p) ≡ o → Unsats → schedule_built s pod ≡ true → Some p ≡ at_key s.pods pod → IsStrictlySortedBy text_cmp (keys_of s.inventory.nodes)
     → IsDecision s pod at (decision_with s p at (fits_for s p) o)
-decision_by s pod p at None f law h e k = verdict_is s pod p at law h e (none_fits s (due s p.pod.object) (keys_of s.nodes) f)
-decision_by s pod p at (Some x) f law h e k = reserve_is s pod p at x law h e k (chosen s (due s p.pod.object) (keys_of s.nodes) x f)
+decision_by s pod p at None f law h e k = verdict_is s pod p at law h e (none_fits s (due s p.pod.object) (keys_of s.inventory.nodes) f)
+decision_by s pod p at (Some x) f law h e k = reserve_is s pod p at x law h e k (chosen s (due s p.pod.object) (keys_of s.inventory.nodes) x f)
 
-pub decision_is : (s : State) (pod : Key) (p : PodState) (at : ℕ) → Unsats → schedule_built s pod ≡ true → Some p ≡ at_key s.pods pod → IsStrictlySortedBy text_cmp (keys_of s.nodes) → IsDecision s pod at (decision_among s p at (fits_for s p))
+pub decision_is : (s : State) (pod : Key) (p : PodState) (at : ℕ) → Unsats → schedule_built s pod ≡ true → Some p ≡ at_key s.pods pod → IsStrictlySortedBy text_cmp (keys_of s.inventory.nodes) → IsDecision s pod at (decision_among s p at (fits_for s p))
 decision_is s pod p at law h e k = decision_by s pod p at (find is_found (fits_for s p)) refl law h e k

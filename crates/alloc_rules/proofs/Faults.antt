@@ -5,13 +5,13 @@ use Rattle.walk.specs.Walk.{Shape, Open}
 use Rattle.device_match.specs.declared.matching.Match.{Match}
 use Rattle.device_match.specs.declared.matching.Match.TheVariants.{Yes, No, Fault}
 use Rattle.device_match.specs.declared.verdict.Cause.{Cause}
-use Rattle.alloc_rules.specs.declared.plan.SelectorFault.{SelectorFault}
-use Rattle.alloc_rules.specs.declared.state.State.{State}
+use Rattle.cluster.specs.declared.plan.SelectorFault.{SelectorFault}
+use Rattle.cluster.specs.declared.state.State.{State}
 use Rattle.api_claim.specs.declared.types.ResourceClaim.{ResourceClaim}
 use Rattle.alloc_rules.specs.Claims.{Slot, slots_of}
 use Rattle.alloc_rules.specs.Faults.{GivesNone, IsFirstFault}
 use Rattle.alloc_rules.specs.Match.{fault_at, fault_by, fault_for, first_some, match_on, or_else}
-use Rattle.alloc_rules.specs.Pools.{Offered, devices_on, id_in}
+use Rattle.pool_view.specs.Pools.{Offered, devices_on, id_in}
 use Rattle.alloc_rules.specs.Rules.{shape_by}
 
 -- an open shape has no fault
@@ -128,11 +128,11 @@ first_in s slots ds fault e =
     }
 
 pub first_fault : (s : State) (claims : List ResourceClaim) (node choice : List ℕ) (fault : SelectorFault)
-    → fault_for s claims node choice ≡ Some fault → IsFirstFault s (slots_of claims) (devices_on s node) fault
+    → fault_for s claims node choice ≡ Some fault → IsFirstFault s (slots_of claims) (devices_on s.inventory node) fault
 unfolding fault_for
-first_fault s claims node choice fault e = first_in s (slots_of claims) (devices_on s node) fault e
+first_fault s claims node choice fault e = first_in s (slots_of claims) (devices_on s.inventory node) fault e
 
 pub no_faults : (s : State) (claims : List ResourceClaim) (node choice : List ℕ) (slot : Slot)
-    → fault_for s claims node choice ≡ None → Contains (slots_of claims) slot → GivesNone s slot (devices_on s node)
+    → fault_for s claims node choice ≡ None → Contains (slots_of claims) slot → GivesNone s slot (devices_on s.inventory node)
 unfolding fault_for
-no_faults s claims node choice slot e among = record { none = λ d n why here says. never_faults s (slots_of claims) (devices_on s node) e slot d n why among here says }
+no_faults s claims node choice slot e among = record { none = λ d n why here says. never_faults s (slots_of claims) (devices_on s.inventory node) e slot d n why among here says }

@@ -13,26 +13,33 @@ use Rattle.object_fields.specs.declared.key.DeviceId.{DeviceId}
 use Rattle.object_fields.specs.declared.key.Key.{Key}
 use Rattle.api_claim.specs.declared.types.DeviceRequest.{DeviceRequest}
 use Rattle.api_claim.specs.declared.types.ResourceClaim.{ResourceClaim}
-use Rattle.alloc_rules.specs.declared.object.Object.{Object}
-use Rattle.alloc_rules.specs.declared.object.Object.TheVariants as object
-use Rattle.alloc_rules.specs.declared.plan.Grant.{Grant}
-use Rattle.alloc_rules.specs.declared.plan.DeviceResult.{DeviceResult}
-use Rattle.alloc_rules.specs.declared.plan.Plan.{Plan}
-use Rattle.alloc_rules.specs.declared.state.ClaimState.{ClaimState}
-use Rattle.alloc_rules.specs.declared.state.Granted.{Granted}
-use Rattle.alloc_rules.specs.declared.state.State.{State}
-use Rattle.alloc_rules.specs.declared.state.Use.TheVariants.{Assumed}
-use Rattle.alloc_rules.specs.Names.{at_key, key_cmp, key_eq, text_cmp, text_eq}
+use Rattle.cluster.specs.declared.object.Object.{Object}
+use Rattle.cluster.specs.declared.object.Object.TheVariants as object
+use Rattle.cluster.specs.declared.plan.Grant.{Grant}
+use Rattle.cluster.specs.declared.plan.DeviceResult.{DeviceResult}
+use Rattle.cluster.specs.declared.plan.Plan.{Plan}
+use Rattle.cluster.specs.declared.state.ClaimState.{ClaimState}
+use Rattle.cluster.specs.declared.state.Granted.{Granted}
+use Rattle.cluster.specs.declared.state.State.{State}
+use Rattle.cluster.specs.declared.state.Use.TheVariants.{Assumed}
+use Rattle.pool_view.specs.Names.{at_key, key_cmp, key_eq, text_cmp, text_eq}
 use Rattle.alloc_rules.proofs.Names.{same_from_text_eq, text_eq-same}
 use Rattle.std.proofs.lemmas.Bool.{and_from}
 use Rattle.std.specs.List.{list_any}
 use Rattle.std.specs.Cmp.Lexicographic.{texts_ties}
-use Rattle.alloc_rules.specs.State.{as_published, created, empty_state, IsAbsent, with_bound, with_grant, with_grants, with_object, with_reserved, with_written, written_by}
-use Rattle.alloc_rules.specs.Pools.{devices_held, held, held_by, id_in}
-use Rattle.alloc_rules.specs.Claims.{add_ungranted, add_wanted, claim_keys, first_places, wanted, wanted_of}
+use Rattle.cluster.specs.Wrote.{as_published, with_written, written_by}
+use Rattle.pool_view.specs.Inventory.{created}
+use Rattle.cluster.specs.State.{empty_state, IsAbsent}
+use Rattle.cluster.specs.Bound.{with_bound}
+use Rattle.cluster.specs.Reserved.{with_grant, with_grants, with_reserved}
+use Rattle.cluster.specs.Applied.{with_object}
+use Rattle.cluster.specs.Held.{devices_held, held, held_by}
+use Rattle.pool_view.specs.Pools.{id_in}
+use Rattle.alloc_rules.specs.Claims.{add_ungranted, add_wanted, wanted, wanted_of}
+use Rattle.cluster.specs.Claims.{claim_keys, first_places}
 use Rattle.alloc_rules.specs.Rules.{ids_of, grants_for, results_for}
 use Rattle.alloc_rules.specs.Plans.{Holds}
-use Rattle.alloc_rules.specs.Held.{HeldOnce}
+use Rattle.cluster.specs.Held.{HeldOnce}
 use Rattle.alloc_rules.proofs.Picked.{Contains-from_get}
 
 -- ---- lists whose elements differ

@@ -1,4 +1,3 @@
-pub mod Usable
 pub mod OneGrant
 pub mod Lists
 pub mod Names

@@ -13,17 +13,18 @@ use Rattle.api_claim.specs.declared.types.ResourceClaim.{ResourceClaim}
 use Rattle.device_match.specs.declared.matching.Match.{Match}
 use Rattle.device_match.specs.declared.matching.Match.TheVariants.{Yes, No, Fault}
 use Rattle.alloc_rules.specs.declared.candidates.Candidate.{Candidate}
-use Rattle.alloc_rules.specs.declared.plan.SelectorFault.{SelectorFault}
-use Rattle.alloc_rules.specs.declared.state.State.{State}
-use Rattle.alloc_rules.specs.declared.state.Stored.{Stored}
-use Rattle.alloc_rules.specs.Names.{at_name}
+use Rattle.cluster.specs.declared.plan.SelectorFault.{SelectorFault}
+use Rattle.cluster.specs.declared.state.State.{State}
+use Rattle.pool_view.specs.declared.stored.Stored.{Stored}
+use Rattle.pool_view.specs.Names.{at_name}
 use Rattle.alloc_rules.specs.Candidates.{candidate_by, fault_from, fault_said, may_take}
 use Rattle.alloc_rules.specs.Claims.{Slot, slots_of}
 use Rattle.alloc_rules.specs.declared.fit.NodeFit.{NodeFit}
 use Rattle.alloc_rules.specs.Fits.{fit_among, fit_by, fit_from, fit_or, fit_taken, fit_with, may_stand, node_fit, slot_due}
 use Rattle.alloc_rules.specs.Match.{fault_at, fault_by, first_some, is_yes, match_ask, match_on, or_else, seen}
 use Rattle.alloc_rules.specs.Plain.{is_one_plain, is_plain_claim, plain_ask}
-use Rattle.alloc_rules.specs.Pools.{Offered, id_in, is_free}
+use Rattle.pool_view.specs.Pools.{Offered, id_in}
+use Rattle.cluster.specs.Held.{is_free}
 use Rattle.alloc_rules.proofs.Lists.{ok_as}
 
 pub first_some_map : {X Y Z : Type 0} (f : Y → Option Z) (g : X → Y) (xs : List X) → first_some f (map g xs) ≡ first_some (λ x. f (g x)) xs
@@ -98,5 +99,5 @@ due_of k c r e h = due_in k c c.requests r (and_parts (is_one_plain c.requests) 
 
 -- what each node has for what is due, where the same is due
 pub fits_same : {E : Type 0} (s : State) (o p : Option Slot) (r : Result (List NodeFit) E)
-    → IfOk r (λ fits. fits ≡ map (node_fit s o) (keys_of s.nodes)) → o ≡ p → IfOk r (λ fits. fits ≡ map (node_fit s p) (keys_of s.nodes))
-fits_same s o p r h e = ok_as r (map (node_fit s o) (keys_of s.nodes)) (map (node_fit s p) (keys_of s.nodes)) h (ap (λ q. map (node_fit s q) (keys_of s.nodes)) e)
+    → IfOk r (λ fits. fits ≡ map (node_fit s o) (keys_of s.inventory.nodes)) → o ≡ p → IfOk r (λ fits. fits ≡ map (node_fit s p) (keys_of s.inventory.nodes))
+fits_same s o p r h e = ok_as r (map (node_fit s o) (keys_of s.inventory.nodes)) (map (node_fit s p) (keys_of s.inventory.nodes)) h (ap (λ q. map (node_fit s q) (keys_of s.inventory.nodes)) e)

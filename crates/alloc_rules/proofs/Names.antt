@@ -8,7 +8,7 @@ use Rattle.std.proofs.lemmas.Bool.{and_parts, and_from}
 use Rattle.std.proofs.lemmas.Cmp.{nat_list_eq_equiv, nat_list_cmp_total, eq_by_cmp_equiv}
 use Rattle.std.proofs.lemmas.Map.Views.{IsSome-lookup_from_Contains}
 use Rattle.object_fields.specs.declared.key.DeviceId.{DeviceId}
-use Rattle.alloc_rules.specs.Names.{at_name, device_eq, text_eq}
+use Rattle.pool_view.specs.Names.{at_name, device_eq, text_eq}
 
 pub text_eq-same : (a : List ℕ) → text_eq a a ≡ true
 text_eq-same a = nat_list_eq_equiv.refl a

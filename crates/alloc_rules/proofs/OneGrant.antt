@@ -5,14 +5,16 @@ use Rattle.std.proofs.lemmas.Bool.{and_parts}
 use Rattle.object_fields.specs.declared.key.Key.{Key}
 use Rattle.object_fields.specs.declared.key.DeviceId.{DeviceId}
 use Rattle.api_claim.specs.declared.types.ResourceClaim.{ResourceClaim}
-use Rattle.alloc_rules.specs.declared.state.State.{State}
-use Rattle.alloc_rules.specs.declared.state.PodState.{PodState}
-use Rattle.alloc_rules.specs.declared.state.ClaimState.{ClaimState}
-use Rattle.alloc_rules.specs.declared.state.Granted.{Granted}
-use Rattle.alloc_rules.specs.declared.plan.Plan.{Plan}
-use Rattle.alloc_rules.specs.Names.{key_eq, at_key}
-use Rattle.alloc_rules.specs.Pools.{devices_on}
-use Rattle.alloc_rules.specs.Claims.{claim_keys, first_places, add_ungranted, add_wanted, wanted_of, wanted, is_idle, claims_built, pod_built, schedule_built}
+use Rattle.cluster.specs.declared.state.State.{State}
+use Rattle.cluster.specs.declared.state.PodState.{PodState}
+use Rattle.cluster.specs.declared.state.ClaimState.{ClaimState}
+use Rattle.cluster.specs.declared.state.Granted.{Granted}
+use Rattle.cluster.specs.declared.plan.Plan.{Plan}
+use Rattle.pool_view.specs.Names.{key_eq, at_key}
+use Rattle.pool_view.specs.Pools.{devices_on}
+use Rattle.cluster.specs.Claims.{claim_keys, first_places}
+use Rattle.alloc_rules.specs.Claims.{add_ungranted, add_wanted, wanted_of, wanted, claims_built, pod_built, schedule_built}
+use Rattle.cluster.specs.State.{is_idle}
 use Rattle.alloc_rules.specs.Rules.{devices_picked, grants_for, ids_of}
 use Rattle.alloc_rules.specs.Plans.{PlanTrue}
 
@@ -61,4 +63,4 @@ pub one_grant : (s : State) (pod : Key) (plan : Plan) â†’ PlanTrue s pod plan â†
 one_grant s pod plan t =
     let le = wanted_le s pod t.state t.idle.there t.built in
     let len = ap length t.grants in
-    omega (arith, le, len, grants_len (wanted s t.state.pod.object) (ids_of (devices_picked (devices_on s plan.node) t.item.positions)))
+    omega (arith, le, len, grants_len (wanted s t.state.pod.object) (ids_of (devices_picked (devices_on s.inventory plan.node) t.item.positions)))

@@ -4,7 +4,7 @@ use Rattle.std.specs.List.{AllByRecursion, Contains, find, slice_get}
 use Rattle.std.proofs.lemmas.Option.{slice_get_within, get_or_from_slice_get, slice_get_read}
 use Rattle.std.proofs.lemmas.List.Folds.{find_at}
 use Rattle.std.specs.List.{position_or_len}
-use Rattle.alloc_rules.specs.Pools.{Offered}
+use Rattle.pool_view.specs.Pools.{Offered}
 use Rattle.alloc_rules.specs.Rules.{add_device, devices_picked}
 
 pub there : {X : Type 0} (xs : List X) (i : ℕ) → i < length xs → (x : X) × (slice_get xs i ≡ Some x)

@@ -6,11 +6,11 @@ use Rattle.walk.specs.Walk.{Problem, Item, Full, Fault, IsBefore, IsAllocation a
 use Rattle.walk.specs.Outcome.{Unsat, ends, is_full, outcome}
 use Rattle.object_fields.specs.declared.key.Key.{Key}
 use Rattle.api_cluster.specs.declared.types.Pod.{Pod}
-use Rattle.alloc_rules.specs.declared.state.State.{State}
-use Rattle.alloc_rules.specs.declared.plan.Grant.{Grant}
-use Rattle.alloc_rules.specs.declared.plan.Plan.{Plan}
-use Rattle.alloc_rules.specs.Names.{at_name}
-use Rattle.alloc_rules.specs.Pools.{devices_on}
+use Rattle.cluster.specs.declared.state.State.{State}
+use Rattle.cluster.specs.declared.plan.Grant.{Grant}
+use Rattle.cluster.specs.declared.plan.Plan.{Plan}
+use Rattle.pool_view.specs.Names.{at_name}
+use Rattle.pool_view.specs.Pools.{devices_on}
 use Rattle.alloc_rules.specs.Claims.{wanted}
 use Rattle.alloc_rules.specs.Rules.{devices_picked, grants_for, ids_of, outcome_on, problem_of, walk_on}
 use Rattle.alloc_rules.specs.Allocation.{IsAllocation}
@@ -35,13 +35,13 @@ Nones = (p : Problem) (b : ℕ) (c l : List ℕ) → outcome b (walk p) ≡ Unsa
 abbrev pub Unfaulteds : Type 0
 Unfaulteds = (p : Problem) (b : ℕ) (x : Item) → outcome b (walk p) ≡ Unsat → Contains (walk p) x → x.mark ≡ Fault → ⊥
 
-pub full_on : Fulls → (s : State) (pod : Pod) (node : List ℕ) (x : Item) → IsSome (at_name s.nodes node) → Contains (walk_on s pod node) x → x.mark ≡ Full
-    → IsAllocation s (wanted s pod) node x.choice (grants_for (wanted s pod) (ids_of (devices_picked (devices_on s node) x.positions)))
+pub full_on : Fulls → (s : State) (pod : Pod) (node : List ℕ) (x : Item) → IsSome (at_name s.inventory.nodes node) → Contains (walk_on s pod node) x → x.mark ≡ Full
+    → IsAllocation s (wanted s pod) node x.choice (grants_for (wanted s pod) (ids_of (devices_picked (devices_on s.inventory node) x.positions)))
 unfolding walk_on
 full_on law s pod node x there i m = allocation_from_filling s (wanted s pod) node x.choice x.positions there (law (problem_of s (wanted s pod) node) x i m)
 
 pub every_on : Everys → (s : State) (pod : Pod) (node choice : List ℕ) (grants : List Grant) (a : IsAllocation s (wanted s pod) node choice grants)
-    → (l : List ℕ) × (Contains (walk_on s pod node) (record { choice = choice; positions = l; mark = Full }) × (devices_picked (devices_on s node) l ≡ a.devices))
+    → (l : List ℕ) × (Contains (walk_on s pod node) (record { choice = choice; positions = l; mark = Full }) × (devices_picked (devices_on s.inventory node) l ≡ a.devices))
 unfolding walk_on
 every_on law s pod node choice grants a =
     let f = filling_from_allocation s (wanted s pod) node choice grants a in
@@ -65,5 +65,5 @@ holds_by law s pod plan t = record {
   known = t.known;
   choice = t.item.choice;
   allocation = subst (λ (g : List Grant). IsAllocation s (wanted s t.state.pod.object) plan.node t.item.choice g) (sym t.grants)
-      (full_on law s t.state.pod.object plan.node t.item (there_by_name s.nodes plan.node t.node_known) (Contains-found ends (walk_on s t.state.pod.object plan.node) t.item t.first) t.full);
+      (full_on law s t.state.pod.object plan.node t.item (there_by_name s.inventory.nodes plan.node t.node_known) (Contains-found ends (walk_on s t.state.pod.object plan.node) t.item t.first) t.full);
 }

@@ -7,16 +7,18 @@ use Rattle.object_fields.specs.declared.key.DeviceId.{DeviceId}
 use Rattle.object_fields.specs.declared.key.Key.{Key}
 use Rattle.api_claim.specs.declared.types.DeviceRequest.{DeviceRequest}
 use Rattle.api_cluster.specs.declared.types.Pod.{Pod}
-use Rattle.alloc_rules.specs.declared.plan.Grant.{Grant}
-use Rattle.alloc_rules.specs.declared.state.ClaimState.{ClaimState}
-use Rattle.alloc_rules.specs.declared.state.Granted.{Granted}
-use Rattle.alloc_rules.specs.declared.state.Phase.{Phase}
-use Rattle.alloc_rules.specs.declared.state.Phase.TheVariants.{Idle, Taken, Bound}
-use Rattle.alloc_rules.specs.declared.state.PodState.{PodState}
-use Rattle.alloc_rules.specs.declared.state.State.{State}
-use Rattle.alloc_rules.specs.Names.{at_key}
+use Rattle.cluster.specs.declared.plan.Grant.{Grant}
+use Rattle.cluster.specs.declared.state.ClaimState.{ClaimState}
+use Rattle.cluster.specs.declared.state.Granted.{Granted}
+use Rattle.cluster.specs.declared.state.Phase.{Phase}
+use Rattle.cluster.specs.declared.state.Phase.TheVariants.{Idle, Taken, Bound}
+use Rattle.cluster.specs.declared.state.PodState.{PodState}
+use Rattle.cluster.specs.declared.state.State.{State}
+use Rattle.pool_view.specs.Names.{at_key}
 use Rattle.alloc_rules.specs.Plain.{is_one_plain, is_plain_claim}
-use Rattle.alloc_rules.specs.Claims.{add_ungranted, add_wanted, claim_built, claim_keys, claims_built, first_places, is_idle, most_users, pod_built, schedule_built, slots_of, wanted, wanted_of}
+use Rattle.alloc_rules.specs.Claims.{add_ungranted, add_wanted, claim_built, claims_built, pod_built, schedule_built, slots_of, wanted, wanted_of}
+use Rattle.cluster.specs.Claims.{claim_keys, first_places}
+use Rattle.cluster.specs.State.{is_idle, most_users}
 use Rattle.alloc_rules.specs.Rules.{grants_for, results_for}
 use Rattle.alloc_rules.specs.Fits.{slot_due, fits_by, fits_for, fits_of}
 

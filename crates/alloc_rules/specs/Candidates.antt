@@ -5,11 +5,12 @@ use Rattle.api_cluster.specs.declared.types.DeviceClass.{DeviceClass}
 use Rattle.device_match.specs.declared.matching.Match.{Match}
 use Rattle.device_match.specs.declared.matching.Match.TheVariants.{Yes, No, Fault}
 use Rattle.alloc_rules.specs.declared.candidates.Candidate.{Candidate}
-use Rattle.alloc_rules.specs.declared.plan.SelectorFault.{SelectorFault}
-use Rattle.alloc_rules.specs.declared.state.State.{State}
-use Rattle.alloc_rules.specs.declared.state.Stored.{Stored}
+use Rattle.cluster.specs.declared.plan.SelectorFault.{SelectorFault}
+use Rattle.cluster.specs.declared.state.State.{State}
+use Rattle.pool_view.specs.declared.stored.Stored.{Stored}
 use Rattle.alloc_rules.specs.Match.{is_yes, match_class, seen}
-use Rattle.alloc_rules.specs.Pools.{Offered, id_in, is_free}
+use Rattle.pool_view.specs.Pools.{Offered, id_in}
+use Rattle.cluster.specs.Held.{is_free}
 
 abbrev pub candidate_by : Option (Stored DeviceClass) → List (List ℕ) → Offered → Candidate
 candidate_by class own o = record { device = id_in o; matched = match_class class own (seen o) }

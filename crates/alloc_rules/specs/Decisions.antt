@@ -4,10 +4,10 @@ use Rattle.object_fields.specs.declared.key.Key.{Key}
 use Rattle.alloc_rules.specs.declared.decision.Decision.{Decision}
 use Rattle.alloc_rules.specs.declared.decision.Decision.TheVariants.{Reserve, Judge}
 use Rattle.alloc_rules.specs.declared.fit.NodeFit.{NodeFit}
-use Rattle.alloc_rules.specs.declared.plan.Plan.{Plan}
-use Rattle.alloc_rules.specs.declared.plan.Verdict.{Verdict}
-use Rattle.alloc_rules.specs.declared.state.State.{State}
-use Rattle.alloc_rules.specs.declared.state.PodState.{PodState}
+use Rattle.cluster.specs.declared.plan.Plan.{Plan}
+use Rattle.cluster.specs.declared.plan.Verdict.{Verdict}
+use Rattle.cluster.specs.declared.state.State.{State}
+use Rattle.cluster.specs.declared.state.PodState.{PodState}
 use Rattle.alloc_rules.specs.Fits.{is_found, passed_over, plan_with}
 use Rattle.alloc_rules.specs.Plans.{PlanBy, PlanTrue, VerdictBy, VerdictTrue}
 

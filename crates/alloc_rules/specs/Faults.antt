@@ -2,11 +2,11 @@
 use Rattle.std.specs.Prelude.{ℕ, ◌≡◌, ◌≢◌, List, ◌∷◌, ◌++◌, Contains}
 use Rattle.device_match.specs.declared.matching.Match.TheVariants.{Fault}
 use Rattle.device_match.specs.declared.verdict.Cause.{Cause}
-use Rattle.alloc_rules.specs.declared.plan.SelectorFault.{SelectorFault}
-use Rattle.alloc_rules.specs.declared.state.State.{State}
+use Rattle.cluster.specs.declared.plan.SelectorFault.{SelectorFault}
+use Rattle.cluster.specs.declared.state.State.{State}
 use Rattle.alloc_rules.specs.Claims.{Slot}
 use Rattle.alloc_rules.specs.Match.{match_on}
-use Rattle.alloc_rules.specs.Pools.{Offered, id_in}
+use Rattle.pool_view.specs.Pools.{Offered, id_in}
 
 -- the request gives no fault on these devices
 pub record GivesNone (s : State) (slot : Slot) (devices : List Offered) : Type 0 where

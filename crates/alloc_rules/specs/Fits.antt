@@ -7,16 +7,18 @@ use Rattle.alloc_rules.specs.declared.candidates.Candidate.{Candidate}
 use Rattle.alloc_rules.specs.declared.fit.Fit.{Fit}
 use Rattle.alloc_rules.specs.declared.fit.Fit.TheVariants as fit
 use Rattle.alloc_rules.specs.declared.fit.NodeFit.{NodeFit}
-use Rattle.alloc_rules.specs.declared.plan.Cause.{Cause}
-use Rattle.alloc_rules.specs.declared.plan.Cause.TheVariants as cause
-use Rattle.alloc_rules.specs.declared.plan.Passed.{Passed}
-use Rattle.alloc_rules.specs.declared.plan.Plan.{Plan}
-use Rattle.alloc_rules.specs.declared.plan.SelectorFault.{SelectorFault}
-use Rattle.alloc_rules.specs.declared.state.State.{State}
-use Rattle.alloc_rules.specs.declared.state.PodState.{PodState}
-use Rattle.alloc_rules.specs.Names.{at_key}
-use Rattle.alloc_rules.specs.Pools.{Offered, devices_on, id_in, is_free}
-use Rattle.alloc_rules.specs.Claims.{Slot, known_of, slots_of, wanted}
+use Rattle.cluster.specs.declared.plan.Cause.{Cause}
+use Rattle.cluster.specs.declared.plan.Cause.TheVariants as cause
+use Rattle.cluster.specs.declared.plan.Passed.{Passed}
+use Rattle.cluster.specs.declared.plan.Plan.{Plan}
+use Rattle.cluster.specs.declared.plan.SelectorFault.{SelectorFault}
+use Rattle.cluster.specs.declared.state.State.{State}
+use Rattle.cluster.specs.declared.state.PodState.{PodState}
+use Rattle.pool_view.specs.Names.{at_key}
+use Rattle.pool_view.specs.Pools.{Offered, devices_on, id_in}
+use Rattle.cluster.specs.Held.{is_free}
+use Rattle.alloc_rules.specs.Claims.{Slot, slots_of, wanted}
+use Rattle.cluster.specs.Claims.{known_of}
 use Rattle.alloc_rules.specs.Candidates.{fault_from, may_take}
 use Rattle.alloc_rules.specs.Match.{fault_at, first_some, is_met}
 use Rattle.alloc_rules.specs.Rules.{grants_for}
@@ -55,14 +57,14 @@ fit_from s claim request candidates = fit_or s candidates (first_some (fault_fro
 
 abbrev pub fit_on : State → Option Slot → List ℕ → Fit
 fit_on s None node = fit.Nothing
-fit_on s (Some slot) node = fit_among s slot (devices_on s node)
+fit_on s (Some slot) node = fit_among s slot (devices_on s.inventory node)
 
 abbrev pub node_fit : State → Option Slot → List ℕ → NodeFit
 node_fit s slot node = record { node = node; fit = fit_on s slot node }
 
 -- what the pod finds on each node, in the order of names
 abbrev pub fits_for : State → PodState → List NodeFit
-fits_for s p = map (node_fit s (slot_due (slots_of (wanted s p.pod.object)))) (keys_of s.nodes)
+fits_for s p = map (node_fit s (slot_due (slots_of (wanted s p.pod.object)))) (keys_of s.inventory.nodes)
 
 abbrev pub fits_by : State → Option PodState → List NodeFit
 fits_by s None = []

@@ -1,9 +1,4 @@
-pub mod Names
 pub mod Plain
-pub mod Limits
-pub mod Ready
-pub mod State
-pub mod Pools
 pub mod Claims
 pub mod Match
 pub mod Candidates
@@ -13,4 +8,3 @@ pub mod Allocation
 pub mod Plans
 pub mod Fits
 pub mod Decisions
-pub mod Held

@@ -9,12 +9,12 @@ use Rattle.device_match.specs.declared.matching.Match.{Match}
 use Rattle.device_match.specs.declared.matching.Match.TheVariants.{Yes, No, Fault}
 use Rattle.device_match.specs.Devices.{device_of}
 use Rattle.device_match.specs.Match.{match_from}
-use Rattle.alloc_rules.specs.declared.state.State.{State}
-use Rattle.alloc_rules.specs.declared.state.Stored.{Stored}
-use Rattle.alloc_rules.specs.declared.plan.SelectorFault.{SelectorFault}
-use Rattle.alloc_rules.specs.Names.{at_name}
+use Rattle.cluster.specs.declared.state.State.{State}
+use Rattle.pool_view.specs.declared.stored.Stored.{Stored}
+use Rattle.cluster.specs.declared.plan.SelectorFault.{SelectorFault}
+use Rattle.pool_view.specs.Names.{at_name}
 use Rattle.alloc_rules.specs.Plain.{plain_ask}
-use Rattle.alloc_rules.specs.Pools.{Offered, devices_on, id_in}
+use Rattle.pool_view.specs.Pools.{Offered, devices_on, id_in}
 use Rattle.alloc_rules.specs.Claims.{Slot, slots_of}
 
 -- the device as selectors see it
@@ -68,4 +68,4 @@ fault_in s slots devices = first_some (λ slot. first_some (fault_at s slot) dev
 
 -- the same for a choice; requests with `exactly` have one
 unfoldable pub fault_for : State → List ResourceClaim → List ℕ → List ℕ → Option SelectorFault
-fault_for s claims node choice = fault_in s (slots_of claims) (devices_on s node)
+fault_for s claims node choice = fault_in s (slots_of claims) (devices_on s.inventory node)

@@ -1,10 +1,6 @@
--- The plain forms of objects. What stands beside them isn't looked at by the rules here, so the
+-- The plain form of claims. What stands beside them isn't looked at by the rules here, so the
 -- program does nothing with it yet.
 use Rattle.std.specs.Prelude.{ℕ, ◌==◌, List, [], ◌∷◌, Bool, false, ◌&&◌, Option, None, Some, is_some, length, if◌then◌else◌}
-use Rattle.api_slice.specs.declared.types.Nodes.{Nodes}
-use Rattle.api_slice.specs.declared.types.Nodes.TheVariants.{Named, Selected, All}
-use Rattle.api_slice.specs.declared.types.SliceNodes.{SliceNodes}
-use Rattle.api_slice.specs.declared.types.SliceNodes.TheVariants as slice
 use Rattle.api_claim.specs.declared.types.AllocationMode.{AllocationMode}
 use Rattle.api_claim.specs.declared.types.AllocationMode.TheVariants as mode
 use Rattle.api_claim.specs.declared.types.DeviceAsk.{DeviceAsk}
@@ -12,21 +8,6 @@ use Rattle.api_claim.specs.declared.types.DeviceRequest.{DeviceRequest}
 use Rattle.api_claim.specs.declared.types.RequestKind.{RequestKind}
 use Rattle.api_claim.specs.declared.types.RequestKind.TheVariants.{Exactly, FirstAvailable}
 use Rattle.api_claim.specs.declared.types.ResourceClaim.{ResourceClaim}
-
--- ---- slices
-
--- the node, where one is named
-abbrev pub node_named : Nodes → Option (List ℕ)
-node_named (Named n) = Some n
-node_named (Selected selector) = None
-node_named All = None
-
--- the one node on which all devices of a slice are, where it names one
-abbrev pub named_node : SliceNodes → Option (List ℕ)
-named_node (slice.Nodes nodes) = node_named nodes
-named_node slice.PerDevice = None
-
--- ---- claims
 
 abbrev pub is_one : AllocationMode → Bool
 is_one (mode.ExactCount n) = n == 1

@@ -5,19 +5,20 @@ use Rattle.walk.specs.Walk.{Item, Full, Fault}
 use Rattle.walk.specs.Outcome.{Ended, Unsat, ends}
 use Rattle.object_fields.specs.declared.key.Key.{Key}
 use Rattle.api_cluster.specs.declared.types.Pod.{Pod}
-use Rattle.alloc_rules.specs.declared.state.State.{State}
-use Rattle.alloc_rules.specs.declared.state.PodState.{PodState}
-use Rattle.alloc_rules.specs.declared.state.Phase.TheVariants.{Idle}
-use Rattle.alloc_rules.specs.declared.plan.Cause.{Cause}
-use Rattle.alloc_rules.specs.declared.plan.Cause.TheVariants as cause
-use Rattle.alloc_rules.specs.declared.plan.Grant.{Grant}
-use Rattle.alloc_rules.specs.declared.plan.Passed.{Passed}
-use Rattle.alloc_rules.specs.declared.plan.Plan.{Plan}
-use Rattle.alloc_rules.specs.declared.plan.SelectorFault.{SelectorFault}
-use Rattle.alloc_rules.specs.declared.plan.Verdict.{Verdict}
-use Rattle.alloc_rules.specs.Names.{text_eq, at_key}
-use Rattle.alloc_rules.specs.Pools.{devices_on}
-use Rattle.alloc_rules.specs.Claims.{known_of, schedule_built, wanted}
+use Rattle.cluster.specs.declared.state.State.{State}
+use Rattle.cluster.specs.declared.state.PodState.{PodState}
+use Rattle.cluster.specs.declared.state.Phase.TheVariants.{Idle}
+use Rattle.cluster.specs.declared.plan.Cause.{Cause}
+use Rattle.cluster.specs.declared.plan.Cause.TheVariants as cause
+use Rattle.cluster.specs.declared.plan.Grant.{Grant}
+use Rattle.cluster.specs.declared.plan.Passed.{Passed}
+use Rattle.cluster.specs.declared.plan.Plan.{Plan}
+use Rattle.cluster.specs.declared.plan.SelectorFault.{SelectorFault}
+use Rattle.cluster.specs.declared.plan.Verdict.{Verdict}
+use Rattle.pool_view.specs.Names.{text_eq, at_key}
+use Rattle.pool_view.specs.Pools.{devices_on}
+use Rattle.cluster.specs.Claims.{known_of}
+use Rattle.alloc_rules.specs.Claims.{schedule_built, wanted}
 use Rattle.alloc_rules.specs.Match.{fault_for}
 use Rattle.alloc_rules.specs.Rules.{devices_picked, grants_for, ids_of, outcome_on, walk_on}
 use Rattle.alloc_rules.specs.Allocation.{IsAllocation}
@@ -61,13 +62,13 @@ pub record PlanTrue (s : State) (pod : Key) (plan : Plan) : Type 0 where
   pub state : PodState
   pub idle : IsIdle s pod state
   pub built : schedule_built s pod ≡ true
-  pub node_known : Contains (keys_of s.nodes) plan.node
-  pub passed : nodes_of plan.passed ≡ names_before plan.node (keys_of s.nodes)
+  pub node_known : Contains (keys_of s.inventory.nodes) plan.node
+  pub passed : nodes_of plan.passed ≡ names_before plan.node (keys_of s.inventory.nodes)
   pub causes : All (λ p. CauseTrue s state.pod.object p.node p.cause) plan.passed
   pub item : Item
   pub first : find ends (walk_on s state.pod.object plan.node) ≡ Some item
   pub full : item.mark ≡ Full
-  pub grants : plan.grants ≡ grants_for (wanted s state.pod.object) (ids_of (devices_picked (devices_on s plan.node) item.positions))
+  pub grants : plan.grants ≡ grants_for (wanted s state.pod.object) (ids_of (devices_picked (devices_on s.inventory plan.node) item.positions))
   pub joins : plan.joins ≡ []
   pub known : plan.known ≡ known_of s state
 
@@ -94,7 +95,7 @@ pub record VerdictTrue (s : State) (pod : Key) (verdict : Verdict) : Type 0 wher
   pub state : PodState
   pub idle : IsIdle s pod state
   pub built : schedule_built s pod ≡ true
-  pub nodes : nodes_of verdict.nodes ≡ keys_of s.nodes
+  pub nodes : nodes_of verdict.nodes ≡ keys_of s.inventory.nodes
   pub causes : All (λ p. CauseTrue s state.pod.object p.node p.cause) verdict.nodes
 
 -- the verdict is what searches answer within the budget

@@ -7,12 +7,13 @@ use Rattle.object_fields.specs.declared.key.DeviceId.{DeviceId}
 use Rattle.api_claim.specs.declared.types.ResourceClaim.{ResourceClaim}
 use Rattle.api_claim.specs.declared.types.DeviceRequest.{DeviceRequest}
 use Rattle.api_cluster.specs.declared.types.Pod.{Pod}
-use Rattle.alloc_rules.specs.declared.state.State.{State}
-use Rattle.alloc_rules.specs.declared.plan.Grant.{Grant}
-use Rattle.alloc_rules.specs.declared.plan.DeviceResult.{DeviceResult}
-use Rattle.alloc_rules.specs.declared.plan.SelectorFault.{SelectorFault}
-use Rattle.alloc_rules.specs.Names.{device_eq}
-use Rattle.alloc_rules.specs.Pools.{Offered, devices_on, id_in, is_free}
+use Rattle.cluster.specs.declared.state.State.{State}
+use Rattle.cluster.specs.declared.plan.Grant.{Grant}
+use Rattle.cluster.specs.declared.plan.DeviceResult.{DeviceResult}
+use Rattle.cluster.specs.declared.plan.SelectorFault.{SelectorFault}
+use Rattle.pool_view.specs.Names.{device_eq}
+use Rattle.pool_view.specs.Pools.{Offered, devices_on, id_in}
+use Rattle.cluster.specs.Held.{is_free}
 use Rattle.alloc_rules.specs.Claims.{Slot, slots_of, wanted}
 use Rattle.alloc_rules.specs.Match.{fault_for, is_met}
 
@@ -53,9 +54,9 @@ shape_by None slots = Open slots
 unfoldable pub problem_of : State → List ResourceClaim → List ℕ → Problem
 problem_of s claims node = record {
   options = map one_option (slots_of claims);
-  devices = length (devices_on s node);
+  devices = length (devices_on s.inventory node);
   shape = λ c. shape_by (fault_for s claims node c) (length (slots_of claims));
-  good = λ c l. is_good s (devices_on s node) (slots_of claims) l;
+  good = λ c l. is_good s (devices_on s.inventory node) (slots_of claims) l;
 }
 
 -- the walk of a node for a pod

@@ -1,18 +1,17 @@
 ghost use Rattle.std.specs.Prelude.{◌≡◌, ◌++◌, [], IfOk, map, find, option_copied, if◌then◌else◌};
 ghost use Rattle.alloc_rules.specs.Candidates.{candidate_by, fault_from, may_take};
 ghost use Rattle.alloc_rules.specs.Match.{first_some, match_class};
-ghost use Rattle.alloc_rules.specs.Plain.{named_node};
-ghost use Rattle.alloc_rules.specs.Pools.{devices_at, devices_on, id_of, is_on, offered_by, used_places};
+ghost use Rattle.pool_view.specs.Nodes.{named_node};
+ghost use Rattle.pool_view.specs.Pools.{devices_at, devices_on, id_of, is_on, offered_by, used_places};
 
 use crate::free::is_free;
-use crate::order::SlicePlace;
-use crate::plain::named_node;
-use crate::{SelectorFault, State, Stored};
 use api_slice::{Device, ResourceSlice, SliceNodes};
 use cel_value::DeviceEnv;
+use cluster::{SelectorFault, State};
 use device_match::{DeviceSelector, Match, device_env, match_both};
 use dra_values::Text;
 use object_fields::{DeviceId, Key};
+use pool_view::{SlicePlace, Stored, named_node};
 use ready_objects::ReadyClass;
 use std::alloc::{AllocError, Global};
 use std::collections::BTreeSet;
@@ -120,9 +119,9 @@ fn push_at(
     node: &Text,
     place: &SlicePlace,
 ) -> Result<(), AllocError>
-    ensures { IfOk result (λ _. out.new.items ≡ out.old.items ++ map (candidate_by (option_copied class.entry) own.now) (devices_at state.now node.now place.now)) }
+    ensures { IfOk result (λ _. out.new.items ≡ out.old.items ++ map (candidate_by (option_copied class.entry) own.now) (devices_at state.now.inventory node.now place.now)) }
 {
-    match state.slices.get(&place.slice) {
+    match state.inventory.slices().get(&place.slice) {
         None => Ok(()),
         Some(stored) => push_where(out, alloc, class, own, node, &stored.object),
     }
@@ -130,7 +129,7 @@ fn push_at(
 
 /// All devices of the node in order, where these are the places in use, with what a request of the
 /// class with selectors of its own says of each.
-#[tactic(auto, unfolding(crate::specs::Pools::devices_on))]
+#[tactic(auto, unfolding(pool_view::specs::Pools::devices_on))]
 pub fn candidates_on(
     alloc: Global,
     state: &State,
@@ -139,8 +138,8 @@ pub fn candidates_on(
     own: &[DeviceSelector],
     node: &Text,
 ) -> Result<Vec<Candidate>, AllocError>
-    requires { places.now.keys ≡ used_places state.now }
-    ensures { IfOk result (λ cs. cs.items ≡ map (candidate_by (option_copied class.entry) own.now) (devices_on state.now node.now)) }
+    requires { places.now.keys ≡ used_places state.now.inventory }
+    ensures { IfOk result (λ cs. cs.items ≡ map (candidate_by (option_copied class.entry) own.now) (devices_on state.now.inventory node.now)) }
 {
     let mut out = Vec::new(alloc);
     for place in places {

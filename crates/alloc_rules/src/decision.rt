@@ -1,18 +1,20 @@
 ghost use Rattle.std.specs.Prelude.{◌≡◌, [], ◌∷◌, true, false, find, IfOk, option_copied, option_map};
-ghost use Rattle.alloc_rules.specs.Names.{at_key};
-ghost use Rattle.alloc_rules.specs.Claims.{add_known, add_wanted, claim_built, claim_keys, claims_built, first_places, known_claim, known_claims, known_of, schedule_built, wanted};
+ghost use Rattle.pool_view.specs.Names.{at_key};
+ghost use Rattle.cluster.specs.Claims.{add_known, claim_keys, first_places, known_claim, known_claims, known_of};
+ghost use Rattle.alloc_rules.specs.Claims.{add_wanted, claim_built, claims_built, schedule_built, wanted};
 ghost use Rattle.alloc_rules.specs.Rules.{grants_for, results_for};
 ghost use Rattle.alloc_rules.specs.Fits.{cause_of, devices_for, fits_for, is_found, pass, passed_over, plan_with};
 ghost use Rattle.alloc_rules.specs.Decisions.{IsDecision, decision_among};
 
 use crate::fit::{fits_of_pod, key_of_claim};
 use crate::laws::unsat_is_true;
-use crate::{
-    Cause, ClaimState, DeviceResult, Fit, Grant, Granted, Known, KnownClaim, NodeFit, Passed, Plan,
-    PodState, State, Verdict,
-};
+use crate::{Fit, NodeFit};
 use api_claim::DeviceRequest;
 use api_cluster::Pod;
+use cluster::{
+    Cause, ClaimState, DeviceResult, Grant, Granted, Known, KnownClaim, Passed, Plan, PodState,
+    State, Verdict,
+};
 use dra_values::{Seq, Text};
 use object_fields::{DeviceId, Key};
 use std::alloc::{AllocError, Global};
@@ -35,7 +37,7 @@ pub fn decide(alloc: Global, state: &State, pod: &Key, at: u64) -> Result<Decisi
     ensures { IfOk result (IsDecision state.now pod.now at) }
 {
     unsat_is_true();
-    state.nodes.in_order();
+    state.inventory.nodes().in_order();
     match state.pods.get(pod) {
         Some(pod) => decide_for(alloc, state, pod, at),
         None => unreachable!(),
@@ -232,7 +234,7 @@ fn one_result(
 }
 
 /// What a plan knows of the pod and its claim.
-#[tactic(auto, unfolding(crate::specs::Claims::known_of))]
+#[tactic(auto, unfolding(cluster::specs::Claims::known_of))]
 fn known(alloc: Global, state: &State, pod: &PodState) -> Result<Known, AllocError>
     requires { claims_built state.now (claim_keys pod.now.pod.object) ≡ true }
     ensures { IfOk result (λ known. known ≡ known_of state.now pod.now) }

@@ -1,26 +1,26 @@
 ghost use Rattle.std.specs.Prelude.{◌≡◌, [], ◌∷◌, ◌≤◌, true, IfOk, length, map, option_copied, None, Some};
 ghost use Rattle.std.specs.Option.{option_to_list};
 ghost use Rattle.std.specs.Map.{keys_of};
-ghost use Rattle.alloc_rules.specs.Names.{at_key};
-ghost use Rattle.alloc_rules.specs.Pools.{used_places};
+ghost use Rattle.pool_view.specs.Names.{at_key};
+ghost use Rattle.pool_view.specs.Pools.{used_places};
 ghost use Rattle.ready_objects.specs.Ready.{claim_selectors};
 ghost use Rattle.alloc_rules.specs.Plain.{is_plain_claim, plain_ask};
-ghost use Rattle.alloc_rules.specs.Pools.{devices_on};
+ghost use Rattle.pool_view.specs.Pools.{devices_on};
 ghost use Rattle.alloc_rules.specs.Candidates.{candidate_by};
-ghost use Rattle.alloc_rules.specs.Claims.{add_wanted, claim_built, claim_keys, claims_built, schedule_built, slots_of};
+ghost use Rattle.alloc_rules.specs.Claims.{add_wanted, claim_built, claims_built, schedule_built, slots_of};
+ghost use Rattle.cluster.specs.Claims.{claim_keys};
 ghost use Rattle.alloc_rules.specs.Fits.{fit_from, fit_on, fits_for, fits_of, node_fit, slot_due};
 
 use crate::candidates::{Candidate, candidates_on, fault_among, first_free};
-use crate::order::SlicePlace;
 use crate::plain::plain_ask;
-use crate::pool::places_in_use;
-use crate::state::claim_key;
-use crate::{PodState, SelectorFault, State};
+use crate::schedule::claim_key;
 use api_claim::{DeviceAsk, DeviceRequest};
 use api_cluster::Pod;
+use cluster::{PodState, SelectorFault, State};
 use device_match::DeviceSelector;
 use dra_values::{Seq, Text};
 use object_fields::{DeviceId, Key};
+use pool_view::{SlicePlace, places_in_use};
 use ready_objects::ReadyClaim;
 use std::alloc::{AllocError, Global};
 use std::collections::BTreeSet;
@@ -81,10 +81,10 @@ pub fn key_of_claim(alloc: Global, pod: &Pod) -> Result<Option<Key>, AllocError>
 
 /// Each node, for a pod that wants no device.
 fn fits_of_none(alloc: Global, state: &State) -> Result<Seq<NodeFit>, AllocError>
-    ensures { IfOk result (λ fits. fits ≡ map (node_fit state.now None) (keys_of state.now.nodes)) }
+    ensures { IfOk result (λ fits. fits ≡ map (node_fit state.now None) (keys_of state.now.inventory.nodes)) }
 {
     let mut fits = Seq::empty(alloc);
-    for (name, _) in state.nodes.as_map() {
+    for (name, _) in state.inventory.nodes().as_map() {
         let node = name.copy(alloc)?;
         fits.push(NodeFit {
             node,
@@ -97,7 +97,7 @@ fn fits_of_none(alloc: Global, state: &State) -> Result<Seq<NodeFit>, AllocError
 /// What each node has for the one claim of a pod.
 fn fits_at(alloc: Global, state: &State, key: &Key) -> Result<Seq<NodeFit>, AllocError>
     requires { claim_built (at_key state.now.claims key.now) ≡ true }
-    ensures { IfOk result (λ fits. fits ≡ map (node_fit state.now (slot_due (slots_of (add_wanted key.now (at_key state.now.claims key.now) [])))) (keys_of state.now.nodes)) }
+    ensures { IfOk result (λ fits. fits ≡ map (node_fit state.now (slot_due (slots_of (add_wanted key.now (at_key state.now.claims key.now) [])))) (keys_of state.now.inventory.nodes)) }
 {
     match state.claims.get(key) {
         None => unreachable!(),
@@ -120,7 +120,7 @@ fn fits_of_claim(
     claim: &ReadyClaim,
 ) -> Result<Seq<NodeFit>, AllocError>
     requires { is_plain_claim claim.now ≡ true }
-    ensures { IfOk result (λ fits. fits ≡ map (node_fit state.now (slot_due (slots_of (record claim.now { key = key.now } ∷ [])))) (keys_of state.now.nodes)) }
+    ensures { IfOk result (λ fits. fits ≡ map (node_fit state.now (slot_due (slots_of (record claim.now { key = key.now } ∷ [])))) (keys_of state.now.inventory.nodes)) }
 {
     let request = &claim.claim().requests.as_slice()[0];
     match plain_ask(request) {
@@ -140,11 +140,11 @@ fn fits_of_ask(
 ) -> Result<Seq<NodeFit>, AllocError>
     requires ask { plain_ask request.now ≡ Some ask.now }
     requires own { own.now ≡ ask.now.selectors }
-    ensures { IfOk result (λ fits. fits ≡ map (node_fit state.now (Some (record { claim = key.now; request = request.now }))) (keys_of state.now.nodes)) }
+    ensures { IfOk result (λ fits. fits ≡ map (node_fit state.now (Some (record { claim = key.now; request = request.now }))) (keys_of state.now.inventory.nodes)) }
 {
-    let places = places_in_use(alloc, state)?;
+    let places = places_in_use(alloc, &state.inventory)?;
     let mut fits = Seq::empty(alloc);
-    for (name, _) in state.nodes.as_map() {
+    for (name, _) in state.inventory.nodes().as_map() {
         let fit = fit_on(alloc, state, &places, key, request, ask, own, name)?;
         let node = name.copy(alloc)?;
         fits.push(NodeFit { node, fit })?;
@@ -162,7 +162,7 @@ fn fit_on(
     own: &[DeviceSelector],
     node: &Text,
 ) -> Result<Fit, AllocError>
-    requires places { places.now.keys ≡ used_places state.now }
+    requires places { places.now.keys ≡ used_places state.now.inventory }
     requires ask { plain_ask request.now ≡ Some ask.now }
     requires own { own.now ≡ ask.now.selectors }
     ensures { IfOk result (λ fit. fit ≡ fit_on state.now (Some (record { claim = key.now; request = request.now })) node.now) }

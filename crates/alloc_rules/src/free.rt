@@ -1,9 +1,9 @@
 ghost use Rattle.std.specs.Prelude.{◌≡◌};
 ghost use Rattle.std.specs.List.{list_any};
-ghost use Rattle.alloc_rules.specs.Names.{device_eq};
-ghost use Rattle.alloc_rules.specs.Pools.{devices_held, held, held_by, is_free};
+ghost use Rattle.pool_view.specs.Names.{device_eq};
+ghost use Rattle.cluster.specs.Held.{devices_held, held, held_by, is_free};
 
-use crate::{DeviceResult, Granted, State};
+use cluster::{DeviceResult, Granted, State};
 use object_fields::DeviceId;
 
 /// Whether one of the results has the device without admin access.
@@ -28,7 +28,7 @@ fn has_device(grant: &Option<Granted>, device: &DeviceId) -> bool
 }
 
 /// Whether a claim holds the device.
-#[tactic(auto, using(crate::proofs::Lists::any_joined), unfolding(crate::specs::Pools::held))]
+#[tactic(auto, using(crate::proofs::Lists::any_joined), unfolding(cluster::specs::Held::held))]
 fn is_held(state: &State, device: &DeviceId) -> bool
     ensures { result ≡ list_any (λ h. device_eq h device.now) (held state.now) }
 {
@@ -41,7 +41,7 @@ fn is_held(state: &State, device: &DeviceId) -> bool
 }
 
 /// Whether no claim holds the device.
-#[tactic(auto, unfolding(crate::specs::Pools::is_free))]
+#[tactic(auto, unfolding(cluster::specs::Held::is_free))]
 pub fn is_free(state: &State, device: &DeviceId) -> bool
     ensures { result ≡ is_free state.now device.now }
 {

@@ -1,15 +1,19 @@
 ghost use Rattle.std.specs.Prelude.{◌≡◌, ℕ, List, Some, Contains};
 ghost use Rattle.object_fields.specs.declared.key.Key.{Key};
 ghost use Rattle.object_fields.specs.declared.key.DeviceId.{DeviceId};
-ghost use Rattle.alloc_rules.specs.declared.object.Object.{Object};
-ghost use Rattle.alloc_rules.specs.declared.state.State.{State};
-ghost use Rattle.alloc_rules.specs.declared.state.ClaimState.{ClaimState};
-ghost use Rattle.alloc_rules.specs.declared.plan.Plan.{Plan};
-ghost use Rattle.alloc_rules.specs.Names.{at_key};
-ghost use Rattle.alloc_rules.specs.Pools.{held_by};
-ghost use Rattle.alloc_rules.specs.State.{empty_state, with_bound, with_object, with_reserved, with_written, IsAbsent};
+ghost use Rattle.cluster.specs.declared.object.Object.{Object};
+ghost use Rattle.cluster.specs.declared.state.State.{State};
+ghost use Rattle.cluster.specs.declared.state.ClaimState.{ClaimState};
+ghost use Rattle.cluster.specs.declared.plan.Plan.{Plan};
+ghost use Rattle.pool_view.specs.Names.{at_key};
+ghost use Rattle.cluster.specs.Held.{held_by};
+ghost use Rattle.cluster.specs.State.{empty_state, IsAbsent};
+ghost use Rattle.cluster.specs.Bound.{with_bound};
+ghost use Rattle.cluster.specs.Applied.{with_object};
+ghost use Rattle.cluster.specs.Reserved.{with_reserved};
+ghost use Rattle.cluster.specs.Wrote.{with_written};
 ghost use Rattle.alloc_rules.specs.Plans.{Holds};
-ghost use Rattle.alloc_rules.specs.Held.{HeldOnce};
+ghost use Rattle.cluster.specs.Held.{HeldOnce};
 
 /// Each device has one holder: it is so where there is nothing yet, and every change keeps it so. A
 /// change that reserves keeps it where nothing stands against the plan, however many claims the plan

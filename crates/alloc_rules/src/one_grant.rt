@@ -1,7 +1,7 @@
 ghost use Rattle.std.specs.Prelude.{◌≤◌, length};
 ghost use Rattle.object_fields.specs.declared.key.Key.{Key};
-ghost use Rattle.alloc_rules.specs.declared.state.State.{State};
-ghost use Rattle.alloc_rules.specs.declared.plan.Plan.{Plan};
+ghost use Rattle.cluster.specs.declared.state.State.{State};
+ghost use Rattle.cluster.specs.declared.plan.Plan.{Plan};
 ghost use Rattle.alloc_rules.specs.Plans.{PlanTrue};
 
 /// A true plan for a pod of the form that is built grants at most one claim.

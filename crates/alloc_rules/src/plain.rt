@@ -2,18 +2,6 @@ ghost use Rattle.std.specs.Prelude.{◌≡◌, option_copied};
 ghost use Rattle.alloc_rules.specs.Plain as plain;
 
 use api_claim::{AllocationMode, DeviceAsk, DeviceRequest, RequestKind, ResourceClaim};
-use api_slice::{Nodes, SliceNodes};
-use dra_values::Text;
-
-/// The one node on which all devices of a slice are, where the slice names one.
-pub fn named_node(nodes: &SliceNodes) -> Option<&Text>
-    ensures { option_copied result ≡ plain.named_node nodes.now }
-{
-    match nodes {
-        SliceNodes::Nodes(Nodes::Named(name)) => Some(name),
-        SliceNodes::Nodes(Nodes::Selected(_) | Nodes::All) | SliceNodes::PerDevice => None,
-    }
-}
 
 fn is_one(mode: AllocationMode) -> bool
     ensures { result ≡ plain.is_one mode }

@@ -9,7 +9,7 @@ use Rattle.serde_json.specs.Find.{get, as_str, as_array}
 use Rattle.object_fields.specs.Fields.{items_length, member_of}
 use Rattle.object_fields.specs.declared.error.FieldError.{FieldError}
 use Rattle.object_fields.specs.declared.key.Key.{Key}
-use Rattle.alloc_rules.specs.declared.object.Object.{Object}
+use Rattle.cluster.specs.declared.object.Object.{Object}
 use Rattle.commands.specs.Documents.{document_of, object_kinds, row_of, text_at}
 use Rattle.commands.specs.Objects.{ready_object}
 use Rattle.commands.specs.declared.document.ObjectKind.{ObjectKind}

@@ -8,9 +8,9 @@ use Rattle.api_claim.specs.Claims.{claim_of}
 use Rattle.api_cluster.specs.Classes.{class_of}
 use Rattle.api_cluster.specs.Nodes.{node_of}
 use Rattle.api_cluster.specs.Pods.{pod_of}
-use Rattle.alloc_rules.specs.declared.object.Object.{Object}
-use Rattle.alloc_rules.specs.declared.object.Object.TheVariants as object
-use Rattle.alloc_rules.specs.Ready.{ready_of}
+use Rattle.cluster.specs.declared.object.Object.{Object}
+use Rattle.cluster.specs.declared.object.Object.TheVariants as object
+use Rattle.cluster.specs.Ready.{ready_of}
 use Rattle.commands.specs.declared.document.ObjectKind.{ObjectKind}
 use Rattle.commands.specs.declared.document.ObjectKind.TheVariants.{ResourceSlice, DeviceClass, ResourceClaim, Node, Pod}
 

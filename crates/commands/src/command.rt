@@ -6,7 +6,7 @@ ghost use Rattle.commands.specs.Documents as documents;
 use crate::document::{Document, ObjectKind, document_of};
 use crate::fields::{has_key, is_delete, is_together, read_key};
 use crate::objects::read_ready;
-use alloc_rules::Ready;
+use cluster::Ready;
 use dra_values::Seq;
 use object_fields::{FieldError, Key, Kind};
 use serde_json::Value;

@@ -3,10 +3,10 @@ ghost use Rattle.object_fields.specs.Fields.{Reads};
 ghost use Rattle.commands.specs.Objects as spec;
 
 use crate::document::ObjectKind;
-use alloc_rules::{Object, Ready};
 use api_claim::ResourceClaim;
 use api_cluster::{DeviceClass, Node, Pod};
 use api_slice::ResourceSlice;
+use cluster::{Object, Ready};
 use object_fields::FieldError;
 use serde_json::Value;
 use std::alloc::Global;

@@ -1,13 +1,14 @@
 -- What the journal that a run prints says.
 use Rattle.std.specs.Prelude.{ℕ, ◌≡◌, List, ◌∷◌, ◌++◌, Option}
 use Rattle.object_fields.specs.declared.key.Key.{Key}
-use Rattle.alloc_rules.specs.declared.plan.Plan.{Plan}
-use Rattle.alloc_rules.specs.declared.plan.Verdict.{Verdict}
-use Rattle.alloc_rules.specs.Held.{HeldOnce}
-use Rattle.ledger_core.specs.declared.entry.Denial.{Denial}
-use Rattle.ledger_core.specs.declared.entry.Entry.{Entry}
-use Rattle.ledger_core.specs.declared.entry.Event.TheVariants.{Reserved, Judged, Denied}
-use Rattle.ledger_core.specs.History.{MayDeny, state_at, state_of}
+use Rattle.cluster.specs.declared.plan.Plan.{Plan}
+use Rattle.cluster.specs.declared.plan.Verdict.{Verdict}
+use Rattle.cluster.specs.Held.{HeldOnce}
+use Rattle.cluster.specs.declared.entry.Denial.{Denial}
+use Rattle.cluster.specs.declared.entry.Entry.{Entry}
+use Rattle.cluster.specs.declared.entry.Event.TheVariants.{Reserved, Judged, Denied}
+use Rattle.ledger_core.specs.Denied.{MayDeny}
+use Rattle.cluster.specs.History.{state_at, state_of}
 use Rattle.ledger_core.specs.Headline.{IsGrantOf, IsVerdictOf}
 use Rattle.ledger_core.specs.Limits.{ObjectsKept}
 use Rattle.replay_core.specs.Replay.{EndsDone}

@@ -2,7 +2,7 @@
 use Rattle.std.proofs.Common.{ℕ, List, ◌++◌, ◌≡◌, ◌∙◌, Result, Ok, Err, ap, append_assoc}
 use Rattle.std.specs.Prelude.{OnOk, codes, decimal}
 use Rattle.object_fields.specs.Keys.{device_text, key_text}
-use Rattle.alloc_rules.specs.declared.plan.SelectorFault.{SelectorFault}
+use Rattle.cluster.specs.declared.plan.SelectorFault.{SelectorFault}
 use Rattle.journal_text.specs.Journal.{fault_text, why_word}
 
 abbrev parts : SelectorFault → List ℕ → List ℕ

@@ -2,7 +2,7 @@
 use Rattle.std.proofs.Common.{ℕ, List, [], ◌∷◌, ◌++◌, ◌≡◌, ◌∙◌, map, refl, ap, append_assoc}
 use Rattle.std.specs.Prelude.{Bool, true, false, nat_lt, ◌==◌, codes, decimal}
 use Rattle.std.specs.List.{list_all}
-use Rattle.ledger_core.specs.declared.entry.Entry.{Entry}
+use Rattle.cluster.specs.declared.entry.Entry.{Entry}
 use Rattle.journal_text.specs.Journal.{clean, event_text, line_of}
 use Rattle.journal_text.specs.Laws.{is_printed, IsOneLine}
 

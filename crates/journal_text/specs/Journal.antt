@@ -4,31 +4,31 @@ use Rattle.std.specs.List.{join_by}
 use Rattle.object_fields.specs.declared.key.Key.{Key}
 use Rattle.object_fields.specs.Keys.{key_text, device_text}
 use Rattle.object_fields.specs.Words.{kind_word, path_text}
-use Rattle.alloc_rules.specs.declared.object.Object.{Object}
-use Rattle.alloc_rules.specs.declared.object.Object.TheVariants as object
-use Rattle.alloc_rules.specs.declared.plan.Cause.{Cause}
-use Rattle.alloc_rules.specs.declared.plan.Cause.TheVariants.{Unsat, Fault}
-use Rattle.alloc_rules.specs.declared.plan.SelectorFault.{SelectorFault}
+use Rattle.cluster.specs.declared.object.Object.{Object}
+use Rattle.cluster.specs.declared.object.Object.TheVariants as object
+use Rattle.cluster.specs.declared.plan.Cause.{Cause}
+use Rattle.cluster.specs.declared.plan.Cause.TheVariants.{Unsat, Fault}
+use Rattle.cluster.specs.declared.plan.SelectorFault.{SelectorFault}
 use Rattle.cel_value.specs.declared.error.EvalError.{EvalError}
 use Rattle.cel_value.specs.declared.error.EvalError.TheVariants.{NoKey, NoOverload, Overflow, DivByZero, OutOfRange, BadConversion, Memory}
 use Rattle.device_match.specs.declared.verdict.Cause as matched
 use Rattle.device_match.specs.declared.verdict.Cause.TheVariants as why
-use Rattle.ledger_core.specs.Headline.{has_fault}
-use Rattle.alloc_rules.specs.declared.plan.DeviceResult.{DeviceResult}
-use Rattle.alloc_rules.specs.declared.plan.Grant.{Grant}
-use Rattle.alloc_rules.specs.declared.plan.Passed.{Passed}
-use Rattle.alloc_rules.specs.declared.plan.Plan.{Plan}
-use Rattle.alloc_rules.specs.declared.plan.Verdict.{Verdict}
-use Rattle.alloc_rules.specs.declared.pool.TheConstants.{MOST_DEVICES}
-use Rattle.alloc_rules.specs.declared.state.State.{State}
-use Rattle.alloc_rules.specs.declared.state.Phase.{Phase}
-use Rattle.alloc_rules.specs.declared.state.Phase.TheVariants as phase
-use Rattle.ledger_core.specs.declared.entry.Denial.{Denial}
-use Rattle.ledger_core.specs.declared.entry.Denial.TheVariants.{Invalid, Devices}
-use Rattle.ledger_core.specs.declared.entry.Entry.{Entry}
-use Rattle.ledger_core.specs.declared.entry.Event.{Event}
-use Rattle.ledger_core.specs.declared.entry.Event.TheVariants.{Applied, Reserved, Wrote, Bound, Judged, Denied}
-use Rattle.ledger_core.specs.History.{state_of}
+use Rattle.cluster.specs.Judged.{has_fault}
+use Rattle.cluster.specs.declared.plan.DeviceResult.{DeviceResult}
+use Rattle.cluster.specs.declared.plan.Grant.{Grant}
+use Rattle.cluster.specs.declared.plan.Passed.{Passed}
+use Rattle.cluster.specs.declared.plan.Plan.{Plan}
+use Rattle.cluster.specs.declared.plan.Verdict.{Verdict}
+use Rattle.pool_view.specs.Inventory.{devices_most}
+use Rattle.cluster.specs.declared.state.State.{State}
+use Rattle.cluster.specs.declared.state.Phase.{Phase}
+use Rattle.cluster.specs.declared.state.Phase.TheVariants as phase
+use Rattle.cluster.specs.declared.entry.Denial.{Denial}
+use Rattle.cluster.specs.declared.entry.Denial.TheVariants.{Invalid, Devices}
+use Rattle.cluster.specs.declared.entry.Entry.{Entry}
+use Rattle.cluster.specs.declared.entry.Event.{Event}
+use Rattle.cluster.specs.declared.entry.Event.TheVariants.{Applied, Reserved, Wrote, Bound, Judged, Denied}
+use Rattle.cluster.specs.History.{state_of}
 
 -- an object's kind and name
 abbrev pub object_text : Object → List ℕ
@@ -105,7 +105,7 @@ verdict_text pod verdict =
 -- all slices may have
 abbrev pub denial_text : Denial → List ℕ
 denial_text (Invalid error) = codes "denied Invalid " ++ kind_word error.kind ++ codes " " ++ path_text error.path
-denial_text (Devices object) = codes "denied Devices " ++ decimal MOST_DEVICES
+denial_text (Devices object) = codes "denied Devices " ++ decimal devices_most
 
 -- what a line says after its place and job
 abbrev pub event_text : Event → List ℕ
@@ -142,12 +142,15 @@ is_bound (phase.Bound node) = true
 abbrev pub bound_count : State → ℕ
 bound_count s = count_by (λ e. is_bound e.1.phase) s.pods
 
+-- the last line, after so many entries that left a state and that so many commands made
+unfoldable pub summary_by : ℕ → State → ℕ → List ℕ
+summary_by entries s commands =
+    codes "summary entries=" ++ decimal entries ++ codes " commands=" ++ decimal commands
+    ++ codes " granted=" ++ decimal (granted_count s) ++ codes " bound=" ++ decimal (bound_count s) ++ codes "\n"
+
 -- the last line, after a history that so many commands made
-unfoldable pub summary_of : List Entry → ℕ → List ℕ
-summary_of history commands =
-    codes "summary entries=" ++ decimal (length history) ++ codes " commands=" ++ decimal commands
-    ++ codes " granted=" ++ decimal (granted_count (state_of history))
-    ++ codes " bound=" ++ decimal (bound_count (state_of history)) ++ codes "\n"
+abbrev pub summary_of : List Entry → ℕ → List ℕ
+summary_of history commands = summary_by (length history) (state_of history) commands
 
 -- the whole text of a history
 unfoldable pub text_of : List Entry → ℕ → List ℕ

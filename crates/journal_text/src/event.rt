@@ -1,11 +1,11 @@
 ghost use Rattle.std.specs.Prelude.{◌≡◌, IfOk, string_bytes};
 ghost use Rattle.journal_text.specs.Journal.{denial_text, event_text, object_text, reserved_text, verdict_text, verdict_word};
-ghost use Rattle.ledger_core.specs.Headline.{has_fault, is_fault};
+ghost use Rattle.cluster.specs.Judged.{has_fault, is_fault};
 
 use crate::worded::listed;
-use alloc_rules::{Cause, MOST_DEVICES, Object, Plan, Verdict};
-use ledger_core::{Denial, Event};
+use cluster::{Cause, Denial, Event, Object, Plan, Verdict};
 use object_fields::Key;
+use pool_view::MOST_DEVICES;
 use std::alloc::{AllocError, Global};
 
 /// An object's kind and name.

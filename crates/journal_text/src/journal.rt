@@ -3,7 +3,7 @@ ghost use Rattle.journal_text.specs.Journal.{line_of, lines_from};
 
 use crate::clean::cleaned;
 use crate::event::event_text;
-use ledger_core::{Entry, Ledger};
+use cluster::Entry;
 use std::alloc::{AllocError, Global};
 
 /// The line of an entry at a place, from 1: the place, the job, the kind of the event and the
@@ -19,14 +19,13 @@ pub fn line(alloc: Global, place: u64, entry: &Entry) -> Result<Vec<u8>, AllocEr
     Ok(line)
 }
 
-/// The lines of all entries after the first `from`, in order; none where there are no more.
-/// `AllocError` comes only where memory runs out.
-pub fn lines(alloc: Global, ledger: &Ledger, from: u64) -> Result<Vec<u8>, AllocError>
-    ensures { IfOk result (λ v. v.items ≡ lines_from from (drop from ledger.now.entries)) }
+/// The lines of all entries of a history after the first `from`, in order; none where there are no
+/// more. `AllocError` comes only where memory runs out.
+pub fn lines(alloc: Global, entries: &[Entry], from: u64) -> Result<Vec<u8>, AllocError>
+    ensures { IfOk result (λ v. v.items ≡ lines_from from (drop from entries.now)) }
 {
-    let entries = ledger.entries();
     let mut out = Vec::new(alloc);
-    for place in from..ledger.len() {
+    for place in from..entries.len() as u64 {
         let line = line(alloc, place + 1, &entries[place as usize])?;
         out.extend_from_slice(&line)?;
     }

@@ -1,5 +1,5 @@
 ghost use Rattle.std.specs.Prelude.{◌≡◌, ◌++◌, ◌+◌, ℕ, List, length};
-ghost use Rattle.ledger_core.specs.declared.entry.Entry.{Entry};
+ghost use Rattle.cluster.specs.declared.entry.Entry.{Entry};
 ghost use Rattle.journal_text.specs.Journal.{line_of, lines_from};
 ghost use Rattle.journal_text.specs.Laws.{IsOneLine};
 

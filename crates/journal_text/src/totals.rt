@@ -1,9 +1,7 @@
 ghost use Rattle.std.specs.Prelude.{◌≡◌, IfOk};
-ghost use Rattle.ledger_core.specs.History.{state_of};
-ghost use Rattle.journal_text.specs.Journal.{bound_count, granted_count, is_bound, summary_of};
+ghost use Rattle.journal_text.specs.Journal.{bound_count, granted_count, is_bound, summary_by};
 
-use alloc_rules::{Phase, State};
-use ledger_core::Ledger;
+use cluster::{Phase, State};
 use std::alloc::{AllocError, Global};
 
 /// How many claims have a grant.
@@ -41,12 +39,16 @@ fn bound_count(state: &State) -> usize
 /// The last line of a history's text, ended by LF: how many entries it has, how many commands made
 /// it, and how many claims have a grant and how many pods are bound after it. `AllocError` comes
 /// only where memory runs out. The format is this project's own.
-pub fn summary(alloc: Global, ledger: &Ledger, commands: u64) -> Result<Vec<u8>, AllocError>
-    ensures { IfOk result (λ v. v.items ≡ summary_of ledger.now.entries commands) }
+pub fn summary(
+    alloc: Global,
+    entries: u64,
+    state: &State,
+    commands: u64,
+) -> Result<Vec<u8>, AllocError>
+    ensures { IfOk result (λ v. v.items ≡ summary_by entries state.now commands) }
 {
-    let entries = ledger.len();
-    let granted = granted_count(ledger.state());
-    let bound = bound_count(ledger.state());
+    let granted = granted_count(state);
+    let bound = bound_count(state);
     let text = format!(in alloc;
         "summary entries={entries} commands={commands} granted={granted} bound={bound}\n"
     )?;

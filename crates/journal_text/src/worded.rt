@@ -3,8 +3,8 @@ ghost use Rattle.std.specs.List.{flat_map, join_by};
 ghost use Rattle.object_fields.specs.Keys.{key_text};
 ghost use Rattle.journal_text.specs.Journal.{admin_mark, cause_text, error_word, fault_text, grant_text, listed, passed_text, result_text, why_word};
 
-use alloc_rules::{Cause, DeviceResult, Grant, Passed, SelectorFault};
 use cel_value::EvalError;
+use cluster::{Cause, DeviceResult, Grant, Passed, SelectorFault};
 use object_fields::Key;
 use std::alloc::{AllocError, Global};
 use std::fmt::Write;

@@ -13,23 +13,30 @@ use Rattle.std.specs.Map.{lookup, set_value}
 use Rattle.std.proofs.lemmas.Bool.{and_parts}
 use Rattle.object_fields.specs.declared.key.Key.{Key}
 use Rattle.object_fields.specs.declared.key.DeviceId.{DeviceId}
-use Rattle.alloc_rules.specs.declared.state.State.{State}
-use Rattle.alloc_rules.specs.declared.state.PodState.{PodState}
-use Rattle.alloc_rules.specs.declared.state.ClaimState.{ClaimState}
-use Rattle.alloc_rules.specs.declared.state.Granted.{Granted}
-use Rattle.alloc_rules.specs.declared.state.Phase.TheVariants.{Taken}
-use Rattle.alloc_rules.specs.declared.state.Use.{Use}
-use Rattle.alloc_rules.specs.declared.state.Use.TheVariants.{Assumed, Written}
-use Rattle.alloc_rules.specs.declared.plan.DeviceResult.{DeviceResult}
-use Rattle.alloc_rules.specs.declared.plan.Grant.{Grant}
-use Rattle.alloc_rules.specs.declared.plan.Plan.{Plan}
-use Rattle.alloc_rules.specs.Names.{text_cmp, key_cmp, at_key}
-use Rattle.alloc_rules.specs.State.{changed_at, with_grants, with_phase, with_reserved, with_written, written_by}
-use Rattle.alloc_rules.specs.Pools.{devices_on}
-use Rattle.alloc_rules.specs.Claims.{claim_keys, first_places, is_idle, claim_built, claims_built, pod_built, schedule_built, wanted, wanted_of, add_wanted, add_ungranted}
+use Rattle.cluster.specs.declared.state.State.{State}
+use Rattle.cluster.specs.declared.state.PodState.{PodState}
+use Rattle.cluster.specs.declared.state.ClaimState.{ClaimState}
+use Rattle.cluster.specs.declared.state.Granted.{Granted}
+use Rattle.cluster.specs.declared.state.Phase.TheVariants.{Taken}
+use Rattle.cluster.specs.declared.state.Use.{Use}
+use Rattle.cluster.specs.declared.state.Use.TheVariants.{Assumed, Written}
+use Rattle.cluster.specs.declared.plan.DeviceResult.{DeviceResult}
+use Rattle.cluster.specs.declared.plan.Grant.{Grant}
+use Rattle.cluster.specs.declared.plan.Plan.{Plan}
+use Rattle.pool_view.specs.Names.{text_cmp, key_cmp, at_key}
+use Rattle.cluster.specs.Tables.{changed_at, with_phase}
+use Rattle.cluster.specs.Reserved.{with_grants, with_reserved}
+use Rattle.cluster.specs.Wrote.{with_written, written_by}
+use Rattle.pool_view.specs.Pools.{devices_on}
+use Rattle.cluster.specs.Claims.{claim_keys, first_places}
+use Rattle.cluster.specs.State.{is_idle}
+use Rattle.alloc_rules.specs.Claims.{claim_built, claims_built, pod_built, schedule_built, wanted, wanted_of, add_wanted, add_ungranted}
 use Rattle.alloc_rules.specs.Rules.{devices_picked, grants_for, ids_of, results_for}
 use Rattle.alloc_rules.specs.Plans.{PlanTrue}
-use Rattle.ledger_core.specs.Entry.{GoesOn, MayBind, MayWrite, IsTaken, claims_of, has_written, is_written, use_in, version_by, version_of}
+use Rattle.ledger_core.specs.GoesOn.{GoesOn}
+use Rattle.ledger_core.specs.Bound.{MayBind}
+use Rattle.ledger_core.specs.Wrote.{MayWrite, IsTaken}
+use Rattle.cluster.specs.State.{claims_of, has_written, is_written, use_in, version_by, version_of}
 
 by_test : {X : Type 0} (b : Bool) (x y : Option X) (v : X) → b ≡ true → x ≡ Some v → cond b x y ≡ Some v
 by_test true x y v e h = h
@@ -139,5 +146,5 @@ unfolding schedule_built wanted
 goes_on s pod plan job t =
     let p = t.state in
     let built : pod_built s (Some p) ≡ true = sym (ap (pod_built s) t.idle.there) ∙ t.built in
-    goes_on_by s pod plan job p (ids_of (devices_picked (devices_on s plan.node) t.item.positions)) (claim_keys p.pod.object) t.idle.there refl
+    goes_on_by s pod plan job p (ids_of (devices_picked (devices_on s.inventory plan.node) t.item.positions)) (claim_keys p.pod.object) t.idle.there refl
     (and_parts (is_idle p.phase) (claims_built s (claim_keys p.pod.object)) built).1 t.grants

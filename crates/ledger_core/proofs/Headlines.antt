@@ -9,22 +9,27 @@ use Rattle.std.proofs.lemmas.List.Elements.{All-contains, All-from_recursion, Al
 use Rattle.std.proofs.lemmas.Map.Views.{Contains-keys_from_lookup}
 use Rattle.object_fields.specs.declared.key.Key.{Key}
 use Rattle.api_cluster.specs.declared.types.Pod.{Pod}
-use Rattle.alloc_rules.specs.declared.state.State.{State}
-use Rattle.alloc_rules.specs.declared.plan.Cause.{Cause}
-use Rattle.alloc_rules.specs.declared.plan.Cause.TheVariants as cause
-use Rattle.alloc_rules.specs.declared.plan.Grant.{Grant}
-use Rattle.alloc_rules.specs.declared.plan.Passed.{Passed}
-use Rattle.alloc_rules.specs.declared.plan.Plan.{Plan}
-use Rattle.alloc_rules.specs.declared.plan.Verdict.{Verdict}
-use Rattle.alloc_rules.specs.Names.{at_name, text_cmp}
+use Rattle.cluster.specs.declared.state.State.{State}
+use Rattle.cluster.specs.declared.plan.Cause.{Cause}
+use Rattle.cluster.specs.declared.plan.Cause.TheVariants as cause
+use Rattle.cluster.specs.declared.plan.Grant.{Grant}
+use Rattle.cluster.specs.declared.plan.Passed.{Passed}
+use Rattle.cluster.specs.declared.plan.Plan.{Plan}
+use Rattle.cluster.specs.declared.plan.Verdict.{Verdict}
+use Rattle.pool_view.specs.Names.{at_name, text_cmp}
 use Rattle.alloc_rules.specs.Claims.{wanted}
 use Rattle.alloc_rules.specs.Allocation.{IsAllocation}
 use Rattle.alloc_rules.specs.Plans.{CauseTrue, IsUnsat, VerdictTrue, nodes_of}
-use Rattle.ledger_core.specs.declared.entry.Denial.{Denial}
-use Rattle.ledger_core.specs.declared.entry.Entry.{Entry}
-use Rattle.ledger_core.specs.declared.entry.Event.TheVariants.{Reserved, Judged, Denied}
-use Rattle.ledger_core.specs.History.{state_at, state_of, MayReserve, MayJudge, MayDeny, Step, LegalAfter, Legal}
-use Rattle.ledger_core.specs.Headline.{IsGrantOf, IsVerdictOf, has_fault, is_fault}
+use Rattle.cluster.specs.declared.entry.Denial.{Denial}
+use Rattle.cluster.specs.declared.entry.Entry.{Entry}
+use Rattle.cluster.specs.declared.entry.Event.TheVariants.{Reserved, Judged, Denied}
+use Rattle.cluster.specs.History.{state_at, state_of}
+use Rattle.ledger_core.specs.Reserved.{MayReserve}
+use Rattle.ledger_core.specs.Judged.{MayJudge}
+use Rattle.ledger_core.specs.Denied.{MayDeny}
+use Rattle.ledger_core.specs.Legal.{Step, LegalAfter, Legal}
+use Rattle.ledger_core.specs.Headline.{IsGrantOf, IsVerdictOf}
+use Rattle.cluster.specs.Judged.{has_fault, is_fault}
 use Rattle.ledger_core.proofs.Histories.{state_of-more}
 
 step_after : (before front : List Entry) (e : Entry) (back : List Entry) → LegalAfter before (front ++ e ∷ back) → Step (before ++ front) e
@@ -93,7 +98,7 @@ verdict_none : (s : State) (pod : Key) (verdict : Verdict) (t : VerdictTrue s po
     → IsAllocation s (wanted s t.state.pod.object) node choice grants → ⊥
 verdict_none s pod verdict t e node choice grants a =
     let among : Contains (nodes_of verdict.nodes) node =
-    subst (λ (names : List (List ℕ)). Contains names node) (sym t.nodes) (known_by_name s.nodes node a.node_known) in
+    subst (λ (names : List (List ℕ)). Contains names node) (sym t.nodes) (known_by_name s.inventory.nodes node a.node_known) in
     (unsat_among s t.state.pod.object verdict.nodes node t.causes e among).none choice grants a
 
 verdict_of : (before : List Entry) (pod : Key) (verdict : Verdict) → MayJudge before pod verdict → IsVerdictOf before pod verdict

@@ -2,14 +2,17 @@
 use Rattle.std.proofs.Common.{ℕ, ◌+◌, ◌≤◌, ◌<◌, List, [], ◌∷◌, ◌++◌, ◌≡◌, ◌∙◌, length, refl, ap, arith, take, append_assoc, subst, sym, append-nil, length-append}
 use Rattle.std.proofs.lemmas.List.{take_all}
 use Rattle.object_fields.specs.declared.key.Key.{Key}
-use Rattle.alloc_rules.specs.declared.state.State.{State}
-use Rattle.alloc_rules.specs.declared.plan.Plan.{Plan}
-use Rattle.alloc_rules.specs.declared.plan.Verdict.{Verdict}
+use Rattle.cluster.specs.declared.state.State.{State}
+use Rattle.cluster.specs.declared.plan.Plan.{Plan}
+use Rattle.cluster.specs.declared.plan.Verdict.{Verdict}
 use Rattle.alloc_rules.specs.Plans.{PlanTrue, Holds, VerdictTrue}
-use Rattle.alloc_rules.specs.State.{empty_state}
-use Rattle.ledger_core.specs.declared.entry.Entry.{Entry}
-use Rattle.ledger_core.specs.Entry.{after}
-use Rattle.ledger_core.specs.History.{state_from, state_of, state_at, MayReserve, MayJudge, Step, LegalAfter, Legal}
+use Rattle.cluster.specs.State.{empty_state}
+use Rattle.cluster.specs.declared.entry.Entry.{Entry}
+use Rattle.cluster.specs.Events.{after}
+use Rattle.cluster.specs.History.{state_from, state_of, state_at}
+use Rattle.ledger_core.specs.Reserved.{MayReserve}
+use Rattle.ledger_core.specs.Judged.{MayJudge}
+use Rattle.ledger_core.specs.Legal.{Step, LegalAfter, Legal}
 use Rattle.ledger_core.specs.Ledger.{IsKept}
 
 pub state_from-more : (s : State) (n : ℕ) (es : List Entry) (e : Entry) → state_from s n (es ++ e ∷ []) ≡ after (n + length es + 1) e.job e.event (state_from s n es)

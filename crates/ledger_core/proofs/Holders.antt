@@ -2,17 +2,22 @@
 use Rattle.std.proofs.Common.{ℕ, ◌+◌, List, [], ◌∷◌, ◌++◌, length, sym, subst, append_assoc, append-nil, take, drop}
 use Rattle.std.proofs.lemmas.List.{take-append-drop}
 use Rattle.object_fields.specs.declared.key.Key.{Key}
-use Rattle.alloc_rules.specs.declared.object.Object.{Object}
-use Rattle.alloc_rules.specs.declared.plan.Plan.{Plan}
-use Rattle.alloc_rules.specs.declared.state.State.{State}
-use Rattle.alloc_rules.specs.State.{empty_state, with_bound, with_object, with_reserved, with_written, IsAbsent}
+use Rattle.cluster.specs.declared.object.Object.{Object}
+use Rattle.cluster.specs.declared.plan.Plan.{Plan}
+use Rattle.cluster.specs.declared.state.State.{State}
+use Rattle.cluster.specs.State.{empty_state, IsAbsent}
+use Rattle.cluster.specs.Bound.{with_bound}
+use Rattle.cluster.specs.Applied.{with_object}
+use Rattle.cluster.specs.Reserved.{with_reserved}
+use Rattle.cluster.specs.Wrote.{with_written}
 use Rattle.alloc_rules.specs.Plans.{Holds}
-use Rattle.alloc_rules.specs.Held.{HeldOnce}
-use Rattle.ledger_core.specs.declared.entry.Entry.{Entry}
-use Rattle.ledger_core.specs.declared.entry.Event.{Event}
-use Rattle.ledger_core.specs.declared.entry.Event.TheVariants.{Applied, Reserved, Wrote, Bound, Judged, Denied}
-use Rattle.ledger_core.specs.Entry.{after}
-use Rattle.ledger_core.specs.History.{state_of, state_at, LegalAfter, Legal, MayStand}
+use Rattle.cluster.specs.Held.{HeldOnce}
+use Rattle.cluster.specs.declared.entry.Entry.{Entry}
+use Rattle.cluster.specs.declared.entry.Event.{Event}
+use Rattle.cluster.specs.declared.entry.Event.TheVariants.{Applied, Reserved, Wrote, Bound, Judged, Denied}
+use Rattle.cluster.specs.Events.{after}
+use Rattle.cluster.specs.History.{state_of, state_at}
+use Rattle.ledger_core.specs.Legal.{LegalAfter, Legal, MayStand}
 use Rattle.ledger_core.proofs.Histories.{state_of-empty, state_of-more}
 use Rattle.ledger_core.proofs.Headlines.{front_legal}
 

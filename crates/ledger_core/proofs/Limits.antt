@@ -11,20 +11,24 @@ use Rattle.object_fields.specs.declared.key.Key.{Key}
 use Rattle.api_claim.specs.Limits.{ClaimKept, EachOf}
 use Rattle.api_cluster.specs.Limits.{NodeKept, ClassKept, PodKept}
 use Rattle.api_slice.specs.Limits.{IsWithinLimits}
-use Rattle.alloc_rules.specs.declared.object.Object.{Object}
-use Rattle.alloc_rules.specs.declared.object.Object.TheVariants as object
-use Rattle.alloc_rules.specs.declared.plan.Grant.{Grant}
-use Rattle.alloc_rules.specs.declared.state.ClaimState.{ClaimState}
-use Rattle.alloc_rules.specs.declared.state.PodState.{PodState}
-use Rattle.alloc_rules.specs.declared.state.State.{State}
-use Rattle.alloc_rules.specs.Limits.{ObjectKept}
-use Rattle.alloc_rules.specs.Names.{at_key, key_cmp, text_cmp}
-use Rattle.alloc_rules.specs.State.{changed_at, empty_state, with_grant, with_grants, with_object}
-use Rattle.ledger_core.specs.declared.entry.Entry.{Entry}
-use Rattle.ledger_core.specs.declared.entry.Event.{Event}
-use Rattle.ledger_core.specs.declared.entry.Event.TheVariants.{Applied, Reserved, Wrote, Bound, Judged, Denied}
-use Rattle.ledger_core.specs.Entry.{after}
-use Rattle.ledger_core.specs.History.{state_of, state_at, LegalAfter, Legal, MayStand}
+use Rattle.cluster.specs.declared.object.Object.{Object}
+use Rattle.cluster.specs.declared.object.Object.TheVariants as object
+use Rattle.cluster.specs.declared.plan.Grant.{Grant}
+use Rattle.cluster.specs.declared.state.ClaimState.{ClaimState}
+use Rattle.cluster.specs.declared.state.PodState.{PodState}
+use Rattle.cluster.specs.declared.state.State.{State}
+use Rattle.cluster.specs.Limits.{ObjectKept}
+use Rattle.pool_view.specs.Names.{at_key, key_cmp, text_cmp}
+use Rattle.cluster.specs.Tables.{changed_at}
+use Rattle.cluster.specs.State.{empty_state}
+use Rattle.cluster.specs.Reserved.{with_grant, with_grants}
+use Rattle.cluster.specs.Applied.{with_object}
+use Rattle.cluster.specs.declared.entry.Entry.{Entry}
+use Rattle.cluster.specs.declared.entry.Event.{Event}
+use Rattle.cluster.specs.declared.entry.Event.TheVariants.{Applied, Reserved, Wrote, Bound, Judged, Denied}
+use Rattle.cluster.specs.Events.{after}
+use Rattle.cluster.specs.History.{state_of, state_at}
+use Rattle.ledger_core.specs.Legal.{LegalAfter, Legal, MayStand}
 use Rattle.ledger_core.specs.Limits.{ObjectsKept}
 use Rattle.ledger_core.proofs.Histories.{state_of-empty, state_of-more}
 use Rattle.ledger_core.proofs.Headlines.{front_legal}
@@ -87,9 +91,9 @@ granted node pod (g ∷ gs) claims h =
 
 created : (place : ℕ) (x : Object) (s : State) → ObjectKept x → ObjectsKept s → ObjectsKept (with_object place x s)
 created place (object.Node x) s k h =
-    record { nodes = inserted (λ n. NodeKept n.object) text_cmp s.nodes x.name _ h.nodes k; slices = h.slices; classes = h.classes; claims = h.claims; pods = h.pods }
+    record { nodes = inserted (λ n. NodeKept n.object) text_cmp s.inventory.nodes x.name _ h.nodes k; slices = h.slices; classes = h.classes; claims = h.claims; pods = h.pods }
 created place (object.Slice x) s k h =
-    record { nodes = h.nodes; slices = inserted (λ n. IsWithinLimits n.object) text_cmp s.slices x.name _ h.slices k; classes = h.classes; claims = h.claims; pods = h.pods }
+    record { nodes = h.nodes; slices = inserted (λ n. IsWithinLimits n.object) text_cmp s.inventory.slices x.name _ h.slices k; classes = h.classes; claims = h.claims; pods = h.pods }
 created place (object.Class x) s k h =
     record { nodes = h.nodes; slices = h.slices; classes = inserted (λ n. ClassKept n.object) text_cmp s.classes x.name _ h.classes k; claims = h.claims; pods = h.pods }
 created place (object.Claim x) s k h =

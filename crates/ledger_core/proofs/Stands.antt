@@ -1,11 +1,11 @@
 -- What one entry more does to a job's stand.
 use Rattle.std.proofs.Common.{ℕ, ◌+◌, ◌≤◌, ◌<◌, List, [], ◌∷◌, ◌++◌, ◌≡◌, ◌∙◌, Bool, true, false, cond, eqb, length, drop, get_or, drop-cons, add-one, refl, ap, arith, sym, length-drop}
 use Rattle.std.proofs.lemmas.List.{nil_from_length}
-use Rattle.ledger_core.specs.declared.entry.Entry.{Entry}
-use Rattle.ledger_core.specs.declared.entry.Stand.{Stand}
-use Rattle.ledger_core.specs.declared.entry.Stand.TheVariants.{Fresh}
-use Rattle.ledger_core.specs.Entry.{stand_after}
-use Rattle.ledger_core.specs.History.{stand_from, stand_of}
+use Rattle.cluster.specs.declared.entry.Entry.{Entry}
+use Rattle.cluster.specs.declared.entry.Stand.{Stand}
+use Rattle.cluster.specs.declared.entry.Stand.TheVariants.{Fresh}
+use Rattle.cluster.specs.Events.{stand_after}
+use Rattle.cluster.specs.History.{stand_from, stand_of}
 
 stand_from-more : (job : ℕ) (st : Stand) (n : ℕ) (es : List Entry) (e : Entry)
     → stand_from job st n (es ++ e ∷ []) ≡ cond (eqb e.job job) (stand_after (n + length es + 1) e.event) (stand_from job st n es)

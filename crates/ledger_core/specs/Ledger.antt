@@ -1,9 +1,10 @@
 -- A ledger as contracts see it.
 use Rattle.std.specs.Prelude.{ℕ, ◌≡◌, ◌≤◌, ◌^◌, ◌<◌, ◌++◌, ◌∷◌, [], List, length}
-use Rattle.alloc_rules.specs.declared.state.State.{State}
-use Rattle.ledger_core.specs.declared.entry.Entry.{Entry}
-use Rattle.ledger_core.specs.declared.entry.Event.{Event}
-use Rattle.ledger_core.specs.History.{Legal, state_of}
+use Rattle.cluster.specs.declared.state.State.{State}
+use Rattle.cluster.specs.declared.entry.Entry.{Entry}
+use Rattle.cluster.specs.declared.entry.Event.{Event}
+use Rattle.ledger_core.specs.Legal.{Legal}
+use Rattle.cluster.specs.History.{state_of}
 
 -- its entries, and how many it may have
 pub record History : Type 0 where

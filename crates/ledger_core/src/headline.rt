@@ -1,12 +1,14 @@
 ghost use Rattle.std.specs.Prelude.{◌≡◌, ◌++◌, ◌∷◌, [], ℕ, List};
 ghost use Rattle.object_fields.specs.declared.key.Key.{Key};
-ghost use Rattle.alloc_rules.specs.declared.plan.Plan.{Plan};
-ghost use Rattle.alloc_rules.specs.declared.plan.Verdict.{Verdict};
-ghost use Rattle.alloc_rules.specs.Held.{HeldOnce};
-ghost use Rattle.ledger_core.specs.declared.entry.Denial.{Denial};
-ghost use Rattle.ledger_core.specs.declared.entry.Entry.{Entry};
-ghost use Rattle.ledger_core.specs.declared.entry.Event.{Event};
-ghost use Rattle.ledger_core.specs.History.{state_at, state_of, Legal, MayDeny, Step};
+ghost use Rattle.cluster.specs.declared.plan.Plan.{Plan};
+ghost use Rattle.cluster.specs.declared.plan.Verdict.{Verdict};
+ghost use Rattle.cluster.specs.Held.{HeldOnce};
+ghost use Rattle.cluster.specs.declared.entry.Denial.{Denial};
+ghost use Rattle.cluster.specs.declared.entry.Entry.{Entry};
+ghost use Rattle.cluster.specs.declared.entry.Event.{Event};
+ghost use Rattle.cluster.specs.History.{state_at, state_of};
+ghost use Rattle.ledger_core.specs.Legal.{Legal, Step};
+ghost use Rattle.ledger_core.specs.Denied.{MayDeny};
 ghost use Rattle.ledger_core.specs.Headline.{IsGrantOf, IsVerdictOf};
 ghost use Rattle.ledger_core.specs.Limits.{ObjectsKept};
 

@@ -1,13 +1,16 @@
 ghost use Rattle.std.specs.Prelude.{◌≡◌, ◌+◌, ◌==◌, ◌++◌, ◌∷◌, [], ℕ, List, length, if◌then◌else◌};
 ghost use Rattle.object_fields.specs.declared.key.Key.{Key};
-ghost use Rattle.alloc_rules.specs.declared.state.State.{State};
-ghost use Rattle.alloc_rules.specs.declared.plan.Plan.{Plan};
+ghost use Rattle.cluster.specs.declared.state.State.{State};
+ghost use Rattle.cluster.specs.declared.plan.Plan.{Plan};
 ghost use Rattle.alloc_rules.specs.Plans.{PlanTrue};
-ghost use Rattle.alloc_rules.specs.State.{empty_state, with_reserved};
-ghost use Rattle.ledger_core.specs.declared.entry.Entry.{Entry};
-ghost use Rattle.ledger_core.specs.declared.entry.Stand.{Stand};
-ghost use Rattle.ledger_core.specs.Entry.{after, claims_of, stand_after, GoesOn};
-ghost use Rattle.ledger_core.specs.History.{state_of, stand_of};
+ghost use Rattle.cluster.specs.State.{empty_state};
+ghost use Rattle.cluster.specs.Reserved.{with_reserved};
+ghost use Rattle.cluster.specs.declared.entry.Entry.{Entry};
+ghost use Rattle.cluster.specs.declared.entry.Stand.{Stand};
+ghost use Rattle.cluster.specs.Events.{after, stand_after};
+ghost use Rattle.cluster.specs.State.{claims_of};
+ghost use Rattle.ledger_core.specs.GoesOn.{GoesOn};
+ghost use Rattle.cluster.specs.History.{state_of, stand_of};
 
 /// What one entry more does to the state after a history, and to the stand of each job.
 pub fn histories_grow()

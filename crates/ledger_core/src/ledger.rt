@@ -1,18 +1,28 @@
 ghost use Rattle.std.specs.Prelude.{◌≡◌, ◌≤◌, ◌<◌, ◌^◌, ◌+◌, ◌-◌, [], length, ℕ, List, true, IfOk, OnOk, OnErr, IsErrOf, vec_len, option_copied, if◌then◌else◌, ◌==◌};
 ghost use Rattle.std.specs.Vec.{vec_capacity};
-ghost use Rattle.alloc_rules.specs.Ready.{object_of};
-ghost use Rattle.alloc_rules.specs.State.{with_object, with_reserved, IsAbsent};
+ghost use Rattle.cluster.specs.Ready.{object_of};
+ghost use Rattle.cluster.specs.Applied.{with_object};
+ghost use Rattle.cluster.specs.Reserved.{with_reserved};
+ghost use Rattle.cluster.specs.State.{IsAbsent};
 ghost use Rattle.alloc_rules.specs.Plans.{PlanTrue, VerdictTrue};
-ghost use Rattle.ledger_core.specs.declared.entry.Denial.TheVariants.{Invalid};
-ghost use Rattle.ledger_core.specs.declared.entry.Event.TheVariants.{Applied, Reserved, Wrote, Bound, Judged, Denied};
-ghost use Rattle.ledger_core.specs.Entry.{allows, creation, has_room, outcome_of, stand_after, taken_node, version_of, MayWrite, MayBind};
+ghost use Rattle.cluster.specs.declared.entry.Denial.TheVariants.{Invalid};
+ghost use Rattle.cluster.specs.declared.entry.Event.TheVariants.{Applied, Reserved, Wrote, Bound, Judged, Denied};
+ghost use Rattle.cluster.specs.Events.{allows, outcome_of, stand_after};
+ghost use Rattle.ledger_core.specs.Applied.{creation};
+ghost use Rattle.ledger_core.specs.Wrote.{MayWrite};
+ghost use Rattle.ledger_core.specs.Bound.{MayBind};
+ghost use Rattle.cluster.specs.State.{has_room, taken_node, version_of};
 ghost use Rattle.ledger_core.specs.Ledger.{appended};
-ghost use Rattle.ledger_core.specs.History.{entry_at, state_of, stand_of, Legal, MayCreate, MayDeny};
+ghost use Rattle.cluster.specs.History.{entry_at, state_of, stand_of};
+ghost use Rattle.ledger_core.specs.Legal.{Legal};
+ghost use Rattle.ledger_core.specs.Applied.{MayCreate};
+ghost use Rattle.ledger_core.specs.Denied.{MayDeny};
 
+use crate::LedgerError;
 use crate::room::make_room;
-use crate::{Denial, Entry, Event, LedgerError, Outcome, Stand};
-use alloc_rules::{
-    Kept, Object, Phase, Plan, Ready, ReadyParts, State, Verdict, grants_at_most_one, plan_holds,
+use alloc_rules::{grants_at_most_one, plan_holds};
+use cluster::{
+    Denial, Entry, Event, Kept, Outcome, Phase, Plan, Ready, ReadyParts, Stand, State, Verdict,
 };
 use dra_values::Text;
 use object_fields::{FieldError, Key, Kind};
@@ -113,7 +123,7 @@ impl Ledger {
         ensures full { (n : ℕ) → IsErrOf result (LedgerError.Full n) → (length self.old.entries ≡ n) × (self.old.limit ≤ n) }
         ensures err { OnErr result (self.new ≡ self.old) }
     {
-        if has_room(&self.state, ready.object()) {
+        if self.state.has_room(ready.object()) {
             self.create(alloc, job, ready)
         } else {
             self.refuse(job, Denial::Devices(ready.into_parts().object))
@@ -314,16 +324,6 @@ impl Ledger {
     }
 }
 
-/// Whether all slices with the object have at most the devices that they may have.
-fn has_room(state: &State, object: &Object) -> bool
-    ensures { result ≡ has_room state.now object.now }
-{
-    match object {
-        Object::Slice(slice) => state.has_room(slice.devices.as_slice().len()),
-        Object::Node(_) | Object::Class(_) | Object::Claim(_) | Object::Pod(_) => true,
-    }
-}
-
 /// Takes all memory for an entry, and creates its object.
 fn put_object(
     alloc: Global,
@@ -332,7 +332,8 @@ fn put_object(
     limit: u64,
     kept: Kept,
 ) -> Result<u64, LedgerError>
-    requires { limit < 2 ^ 48 }
+    requires limit { limit < 2 ^ 48 }
+    requires free { has_room state.old (object_of kept) ≡ true }
     ensures entries { entries.new.items ≡ entries.old.items }
     ensures room { OnOk result (vec_len entries.new < vec_capacity entries.new) }
     ensures within { OnOk result (length entries.old.items < limit) }

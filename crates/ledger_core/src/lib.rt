@@ -1,15 +1,12 @@
 //! The history of a cluster, which stays legal, and the state after it.
 #![tactic(auto)]
 
-mod entry;
 mod error;
 mod headline;
 mod laws;
 mod ledger;
 mod room;
 
-pub use alloc_rules::Ready;
-pub use entry::{Denial, Entry, Event, Outcome, Stand};
 pub use error::LedgerError;
 pub use headline::{
     denials_change_nothing, grants_are_allocations, legal_steps, objects_keep_limits, one_holder,

@@ -1,7 +1,8 @@
 ghost use Rattle.std.specs.Prelude.{◌≡◌, ◌≤◌, ◌<◌, ◌^◌, ◌+◌, length, ℕ, IfOk, OnOk, IsErrOf, vec_len};
 ghost use Rattle.std.specs.Vec.{vec_capacity};
 
-use crate::{Entry, LedgerError};
+use crate::LedgerError;
+use cluster::Entry;
 
 /// Makes room for an entry, and answers its place.
 pub fn make_room(entries: &mut Vec<Entry>, limit: u64) -> Result<u64, LedgerError>

@@ -1,16 +1,18 @@
 -- What applying an object of a form that is done makes.
 use Rattle.std.proofs.Common.{ℕ, List, ◌≡◌, Bool, true, false, cond, Option, None, Some, is_none, refl, inl, inr}
 use Rattle.std.proofs.lemmas.Bool.{and_parts}
-use Rattle.alloc_rules.specs.declared.object.Object.{Object}
-use Rattle.alloc_rules.specs.declared.object.Object.TheVariants as object
-use Rattle.alloc_rules.specs.declared.state.State.{State}
-use Rattle.alloc_rules.specs.State.{IsAbsent}
-use Rattle.alloc_rules.specs.Names.{at_name, at_key}
-use Rattle.ledger_core.specs.declared.entry.Denial.TheVariants.{Devices}
-use Rattle.ledger_core.specs.declared.entry.Entry.{Entry}
-use Rattle.ledger_core.specs.declared.entry.Event.TheVariants.{Applied, Denied}
-use Rattle.ledger_core.specs.declared.entry.Stand.TheVariants.{Ended}
-use Rattle.ledger_core.specs.Entry.{creation, has_room, stand_after}
+use Rattle.cluster.specs.declared.object.Object.{Object}
+use Rattle.cluster.specs.declared.object.Object.TheVariants as object
+use Rattle.cluster.specs.declared.state.State.{State}
+use Rattle.cluster.specs.State.{IsAbsent}
+use Rattle.pool_view.specs.Names.{at_name, at_key}
+use Rattle.cluster.specs.declared.entry.Denial.TheVariants.{Devices}
+use Rattle.cluster.specs.declared.entry.Entry.{Entry}
+use Rattle.cluster.specs.declared.entry.Event.TheVariants.{Applied, Denied}
+use Rattle.cluster.specs.declared.entry.Stand.TheVariants.{Ended}
+use Rattle.ledger_core.specs.Applied.{creation}
+use Rattle.cluster.specs.State.{has_room}
+use Rattle.cluster.specs.Events.{stand_after}
 use Rattle.commands.specs.declared.command.Command.TheVariants as command
 use Rattle.replay_core.specs.Built.{is_new, object_built, is_built}
 use Rattle.replay_core.specs.Jobs.{IsOf, IsSearched}
@@ -20,8 +22,8 @@ none_by None e = refl
 none_by (Some x) e = absurd (cc)
 
 absent : (s : State) (x : Object) → is_new s x ≡ true → IsAbsent s x
-absent s (object.Node x) e = none_by (at_name s.nodes x.name) e
-absent s (object.Slice x) e = none_by (at_name s.slices x.name) e
+absent s (object.Node x) e = none_by (at_name s.inventory.nodes x.name) e
+absent s (object.Slice x) e = none_by (at_name s.inventory.slices x.name) e
 absent s (object.Class x) e = none_by (at_name s.classes x.name) e
 absent s (object.Claim x) e = none_by (at_key s.claims x.key) e
 absent s (object.Pod x) e = none_by (at_key s.pods x.key) e

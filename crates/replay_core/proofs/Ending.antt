@@ -9,7 +9,7 @@ use Rattle.doc_split.specs.Documents as documents
 use Rattle.doc_split.specs.Limits.{the_limits}
 use Rattle.doc_split.specs.Split.{Split, remaining}
 use Rattle.ledger_core.specs.Ledger.{History}
-use Rattle.ledger_core.specs.History.{Legal}
+use Rattle.ledger_core.specs.Legal.{Legal}
 use Rattle.journal_text.specs.Journal.{lines_from, summary_of, text_of}
 use Rattle.commands.specs.declared.command.Command.{Command}
 use Rattle.commands.specs.Commands.{commands_of_document}

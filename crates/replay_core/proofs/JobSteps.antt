@@ -5,16 +5,18 @@ use Rattle.std.proofs.lemmas.List.{take_all}
 use Rattle.std.proofs.lemmas.List.Sums.{sum_by-cons}
 use Rattle.std.proofs.lemmas.Bool.{eq-eqb}
 use Rattle.object_fields.specs.declared.key.Key.{Key}
-use Rattle.alloc_rules.specs.declared.plan.Plan.{Plan}
+use Rattle.cluster.specs.declared.plan.Plan.{Plan}
 use Rattle.alloc_rules.specs.Plans.{PlanTrue}
-use Rattle.alloc_rules.specs.State.{with_reserved}
-use Rattle.ledger_core.specs.Entry.{claims_of, stand_after, GoesOn}
-use Rattle.alloc_rules.specs.declared.state.State.{State}
-use Rattle.ledger_core.specs.declared.entry.Entry.{Entry}
-use Rattle.ledger_core.specs.declared.entry.Event.{Event}
-use Rattle.ledger_core.specs.declared.entry.Event.TheVariants.{Applied, Reserved, Wrote, Bound, Judged, Denied}
-use Rattle.ledger_core.specs.declared.entry.Stand.TheVariants as stand
-use Rattle.ledger_core.specs.History.{state_at, state_of, stand_of}
+use Rattle.cluster.specs.Reserved.{with_reserved}
+use Rattle.cluster.specs.State.{claims_of}
+use Rattle.cluster.specs.Events.{stand_after}
+use Rattle.ledger_core.specs.GoesOn.{GoesOn}
+use Rattle.cluster.specs.declared.state.State.{State}
+use Rattle.cluster.specs.declared.entry.Entry.{Entry}
+use Rattle.cluster.specs.declared.entry.Event.{Event}
+use Rattle.cluster.specs.declared.entry.Event.TheVariants.{Applied, Reserved, Wrote, Bound, Judged, Denied}
+use Rattle.cluster.specs.declared.entry.Stand.TheVariants as stand
+use Rattle.cluster.specs.History.{state_at, state_of, stand_of}
 use Rattle.ledger_core.specs.Ledger.{History, appended}
 use Rattle.commands.specs.declared.command.Command.{Command}
 use Rattle.commands.specs.declared.command.Command.TheVariants as command

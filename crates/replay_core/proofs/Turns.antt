@@ -9,10 +9,11 @@ use Rattle.doc_split.specs.declared.doc.Doc.{Doc}
 use Rattle.doc_split.specs.Documents as documents
 use Rattle.doc_split.specs.Limits.{the_limits}
 use Rattle.doc_split.specs.Split.{Split, remaining}
-use Rattle.ledger_core.specs.declared.entry.Entry.{Entry}
-use Rattle.ledger_core.specs.declared.entry.Stand.TheVariants.{Fresh}
+use Rattle.cluster.specs.declared.entry.Entry.{Entry}
+use Rattle.cluster.specs.declared.entry.Stand.TheVariants.{Fresh}
 use Rattle.ledger_core.specs.Ledger.{History}
-use Rattle.ledger_core.specs.History.{Legal, LegalAfter, stand_of}
+use Rattle.ledger_core.specs.Legal.{Legal, LegalAfter}
+use Rattle.cluster.specs.History.{stand_of}
 use Rattle.journal_text.specs.Journal.{lines_from}
 use Rattle.replay_core.specs.declared.status.Status.{Status}
 use Rattle.replay_core.specs.declared.work.Work.{Work}

@@ -3,20 +3,21 @@ use Rattle.std.specs.Prelude.{◌==◌, Bool, true, false, ◌&&◌, is_none, is
 use Rattle.std.specs.List.{list_all}
 use Rattle.api_slice.specs.declared.types.Device.{Device}
 use Rattle.api_slice.specs.declared.types.ResourceSlice.{ResourceSlice}
-use Rattle.alloc_rules.specs.declared.object.Object.{Object}
-use Rattle.alloc_rules.specs.declared.object.Object.TheVariants as object
-use Rattle.alloc_rules.specs.declared.state.State.{State}
-use Rattle.alloc_rules.specs.Names.{at_name, at_key}
-use Rattle.alloc_rules.specs.Plain.{is_plain_claim, named_node}
-use Rattle.alloc_rules.specs.Pools.{slices_of}
+use Rattle.cluster.specs.declared.object.Object.{Object}
+use Rattle.cluster.specs.declared.object.Object.TheVariants as object
+use Rattle.cluster.specs.declared.state.State.{State}
+use Rattle.pool_view.specs.Names.{at_name, at_key}
+use Rattle.alloc_rules.specs.Plain.{is_plain_claim}
+use Rattle.pool_view.specs.Nodes.{named_node}
+use Rattle.pool_view.specs.Pools.{slices_of}
 use Rattle.alloc_rules.specs.Claims.{schedule_built}
 use Rattle.commands.specs.declared.command.Command.{Command}
 use Rattle.commands.specs.declared.command.Command.TheVariants as command
 
 -- no object of this kind and name is there
 abbrev pub is_new : State → Object → Bool
-is_new s (object.Node x) = is_none (at_name s.nodes x.name)
-is_new s (object.Slice x) = is_none (at_name s.slices x.name)
+is_new s (object.Node x) = is_none (at_name s.inventory.nodes x.name)
+is_new s (object.Slice x) = is_none (at_name s.inventory.slices x.name)
 is_new s (object.Class x) = is_none (at_name s.classes x.name)
 is_new s (object.Claim x) = is_none (at_key s.claims x.key)
 is_new s (object.Pod x) = is_none (at_key s.pods x.key)
@@ -31,7 +32,7 @@ is_plain_slice x = is_some (named_node x.nodes) && ((length x.counters == 0) && 
 
 -- a plain slice that is the only one of its pool
 abbrev pub slice_built : State → ResourceSlice → Bool
-slice_built s x = is_plain_slice x && ((x.pool.slices == 1) && (length (slices_of x.driver x.pool.name s.slices) == 0))
+slice_built s x = is_plain_slice x && ((x.pool.slices == 1) && (length (slices_of x.driver x.pool.name s.inventory.slices) == 0))
 
 abbrev pub object_built : State → Object → Bool
 object_built s (object.Node x) = true

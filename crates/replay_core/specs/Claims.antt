@@ -1,10 +1,10 @@
 -- The claims of a pod.
 use Rattle.std.specs.Prelude.{List, [], Option, None, Some}
 use Rattle.object_fields.specs.declared.key.Key.{Key}
-use Rattle.alloc_rules.specs.declared.state.State.{State}
-use Rattle.alloc_rules.specs.declared.state.PodState.{PodState}
-use Rattle.alloc_rules.specs.Names.{at_key}
-use Rattle.ledger_core.specs.Entry.{claims_of}
+use Rattle.cluster.specs.declared.state.State.{State}
+use Rattle.cluster.specs.declared.state.PodState.{PodState}
+use Rattle.pool_view.specs.Names.{at_key}
+use Rattle.cluster.specs.State.{claims_of}
 
 abbrev pub keys_by : Option PodState → List Key
 keys_by None = []

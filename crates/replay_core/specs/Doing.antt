@@ -1,10 +1,10 @@
 -- How far a job has come.
 use Rattle.std.specs.Prelude.{ℕ, ◌≡◌, ◌≤◌, List, ◌++◌, length}
 use Rattle.object_fields.specs.declared.key.Key.{Key}
-use Rattle.ledger_core.specs.declared.entry.Entry.{Entry}
-use Rattle.ledger_core.specs.declared.entry.Stand.TheVariants as stand
-use Rattle.ledger_core.specs.Entry.{GoesOn}
-use Rattle.ledger_core.specs.History.{state_of, stand_of}
+use Rattle.cluster.specs.declared.entry.Entry.{Entry}
+use Rattle.cluster.specs.declared.entry.Stand.TheVariants as stand
+use Rattle.ledger_core.specs.GoesOn.{GoesOn}
+use Rattle.cluster.specs.History.{state_of, stand_of}
 use Rattle.ledger_core.specs.Ledger.{History}
 use Rattle.commands.specs.declared.command.Command.{Command}
 use Rattle.replay_core.specs.Jobs.{AllMade, JobRun, JobBegun, failures}

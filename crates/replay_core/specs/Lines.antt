@@ -7,7 +7,7 @@ use Rattle.dra_ports.specs.declared.error.PortError.TheVariants as port
 use Rattle.doc_split.specs.declared.error.DocError.{DocError}
 use Rattle.doc_split.specs.declared.error.DocError.TheVariants as doc
 use Rattle.ledger_core.specs.Ledger.{History}
-use Rattle.ledger_core.specs.History.{state_of}
+use Rattle.cluster.specs.History.{state_of}
 use Rattle.journal_text.specs.Journal.{lines_from, summary_of}
 use Rattle.commands.specs.declared.command.Command.{Command}
 use Rattle.replay_core.specs.declared.status.Status.{Status}

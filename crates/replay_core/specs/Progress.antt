@@ -1,8 +1,8 @@
 -- How far a replay has come.
 use Rattle.std.specs.Prelude.{ℕ, ◌≡◌, ◌≤◌, ◌<◌, ◌^◌, Bool, List, ◌++◌, Option, length}
 use Rattle.std.specs.Io.KnownBytes.{Appends, Consumes}
-use Rattle.ledger_core.specs.declared.entry.Stand.TheVariants.{Fresh}
-use Rattle.ledger_core.specs.History.{stand_of}
+use Rattle.cluster.specs.declared.entry.Stand.TheVariants.{Fresh}
+use Rattle.cluster.specs.History.{stand_of}
 use Rattle.journal_text.specs.Journal.{lines_from}
 use Rattle.commands.specs.declared.command.Command.{Command}
 use Rattle.replay_core.specs.declared.work.Work.{Work}

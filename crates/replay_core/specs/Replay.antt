@@ -2,8 +2,9 @@
 use Rattle.std.specs.Prelude.{ℕ, ◌≡◌, ◌≤◌, ◌+◌, ◌⊎◌, false, List, [], ◌∷◌, ◌++◌, Option, Some, length}
 use Rattle.std.specs.Io.KnownBytes.{Appends, Consumes}
 use Rattle.dra_ports.specs.Fronts.{AppendsFront}
-use Rattle.ledger_core.specs.declared.entry.Entry.{Entry}
-use Rattle.ledger_core.specs.History.{Legal, state_of}
+use Rattle.cluster.specs.declared.entry.Entry.{Entry}
+use Rattle.ledger_core.specs.Legal.{Legal}
+use Rattle.cluster.specs.History.{state_of}
 use Rattle.journal_text.specs.Journal.{lines_from, text_of}
 use Rattle.commands.specs.declared.command.Command.{Command}
 use Rattle.replay_core.specs.declared.status.Status.{Status}

@@ -1,11 +1,13 @@
 ghost use Rattle.std.specs.Prelude.{◌≡◌, ◌==◌, IfOk, length};
 ghost use Rattle.std.specs.List.{list_all};
-ghost use Rattle.alloc_rules.specs.Pools.{slices_of};
+ghost use Rattle.pool_view.specs.Pools.{slices_of};
 ghost use Rattle.replay_core.specs.Built.{draws_nothing, is_built, is_new, is_plain_slice, object_built, slice_built};
 
-use alloc_rules::{Object, State, is_plain_claim, named_node};
+use alloc_rules::{is_plain_claim, may_schedule};
 use api_slice::{Device, ResourceSlice};
+use cluster::{Object, State};
 use commands::Command;
+use pool_view::named_node;
 use std::alloc::{AllocError, Global};
 
 /// Whether the command is of a form that is done, at its turn.
@@ -18,7 +20,7 @@ pub fn is_built(alloc: Global, state: &State, command: &Command) -> Result<bool,
             Ok(is_new(state, ready.object()) && object_built(state, ready.object()))
         }
         Command::Invalid(_) => Ok(true),
-        Command::Schedule(pod) => state.may_schedule(alloc, pod),
+        Command::Schedule(pod) => may_schedule(alloc, state, pod),
         Command::NotBuilt => Ok(false),
     }
 }
@@ -27,8 +29,8 @@ fn is_new(state: &State, object: &Object) -> bool
     ensures { result ≡ is_new state.now object.now }
 {
     match object {
-        Object::Node(node) => state.nodes.get(&node.name).is_none(),
-        Object::Slice(slice) => state.slices.get(&slice.name).is_none(),
+        Object::Node(node) => state.inventory.nodes().get(&node.name).is_none(),
+        Object::Slice(slice) => state.inventory.slices().get(&slice.name).is_none(),
         Object::Class(class) => state.classes.get(&class.name).is_none(),
         Object::Claim(claim) => state.claims.get(&claim.key).is_none(),
         Object::Pod(pod) => state.pods.get(&pod.key).is_none(),
@@ -72,9 +74,9 @@ fn slice_built(state: &State, slice: &ResourceSlice) -> bool
 
 /// Whether no slice is of the same pool.
 fn is_first(state: &State, slice: &ResourceSlice) -> bool
-    ensures { result ≡ (length (slices_of slice.now.driver slice.now.pool.name state.now.slices) == 0) }
+    ensures { result ≡ (length (slices_of slice.now.driver slice.now.pool.name state.now.inventory.slices) == 0) }
 {
-    for (_, stored) in state.slices.as_map() {
+    for (_, stored) in state.inventory.slices().as_map() {
         let other = &stored.object;
         if other.driver.as_text() == slice.driver.as_text() && other.pool.name == slice.pool.name {
             return false;

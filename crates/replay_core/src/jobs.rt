@@ -1,9 +1,10 @@
 ghost use Rattle.std.specs.Prelude.{◌≡◌, ◌≤◌, ◌<◌, ◌∷◌, [], ℕ, List, true, false, length, IfOk, OnOk, OnErr, IsErrOf};
-ghost use Rattle.alloc_rules.specs.Claims.{claim_keys, claims_built, first_places, schedule_built};
+ghost use Rattle.cluster.specs.Claims.{claim_keys, first_places};
+ghost use Rattle.alloc_rules.specs.Claims.{claims_built, schedule_built};
 ghost use Rattle.alloc_rules.specs.Decisions.{IsReserve, IsJudge};
 ghost use Rattle.object_fields.specs.declared.key.Key.{Key};
-ghost use Rattle.ledger_core.specs.declared.entry.Stand.TheVariants.{Fresh, Reserved, Ended};
-ghost use Rattle.ledger_core.specs.History.{state_of, stand_of};
+ghost use Rattle.cluster.specs.declared.entry.Stand.TheVariants.{Fresh, Reserved, Ended};
+ghost use Rattle.cluster.specs.History.{state_of, stand_of};
 ghost use Rattle.commands.specs.declared.command.Command.TheVariants.{Apply, Invalid, Schedule};
 ghost use Rattle.replay_core.specs.Built.{is_built};
 ghost use Rattle.replay_core.specs.Doing.{Begun, Doing, IsFull, MayFinish, Met, Ran, StepsOn};
@@ -11,8 +12,9 @@ ghost use Rattle.replay_core.specs.Claims.{keys_at};
 
 use crate::Stop;
 use crate::built::is_built;
-use alloc_rules::{Decision, Plan, Ready, State, Verdict, decide};
+use alloc_rules::{Decision, decide};
 use api_cluster::{Pod, PodResourceClaim};
+use cluster::{Plan, Ready, State, Verdict};
 use commands::Command;
 use dra_values::Seq;
 use ledger_core::{Ledger, LedgerError, histories_grow, reserved_goes_on};

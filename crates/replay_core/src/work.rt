@@ -2,7 +2,7 @@ ghost use Rattle.std.specs.Prelude.{◌≡◌, ◌≤◌, IfErr, OnOk, OnErr, dr
 ghost use Rattle.std.specs.Io.KnownBytes.{Appends};
 ghost use Rattle.dra_ports.specs.Causes.{HasCause, Rose};
 ghost use Rattle.dra_ports.specs.Fronts.{AppendsFront};
-ghost use Rattle.ledger_core.specs.History.{Legal};
+ghost use Rattle.ledger_core.specs.Legal.{Legal};
 ghost use Rattle.journal_text.specs.Journal.{lines_from};
 ghost use Rattle.replay_core.specs.Lines.{output_status, Did, Stops, Summarized};
 ghost use Rattle.replay_core.specs.Progress.{IsReady};
@@ -46,7 +46,7 @@ pub fn print_from<K: Sink>(
     ensures short { OnErr result (AppendsFront (K.written output.old) (K.written output.new) (lines_from from (drop from ledger.now.entries))) }
     ensures cause { HasCause (K.faults output.old) (K.faults output.new) result }
 {
-    let text = lines(alloc, ledger, from)?;
+    let text = lines(alloc, ledger.entries(), from)?;
     write_all(output, &text)
 }
 
@@ -146,7 +146,7 @@ pub fn print_summary<K: Sink>(alloc: Global, work: &Work, output: &mut K) -> Sta
     ensures later { K.faults output.old ≤ K.faults output.new }
     ensures faultless { (result ≡ Status.Write → ⊥) → K.faults output.new ≡ K.faults output.old }
 {
-    let Ok(text) = summary(alloc, &work.ledger, work.commands) else {
+    let Ok(text) = summary(alloc, work.ledger.len(), work.ledger.state(), work.commands) else {
         return Status::Memory;
     };
     match write_all(output, &text) {

@@ -1,7 +1,7 @@
 use Rattle.std.proofs.Common.{◌≡◌, ◌++◌, drop, map}
 use Rattle.std.specs.Option.{option_copied}
 use Rattle.alloc_rules.specs.Candidates.{candidate_by}
-use Rattle.alloc_rules.specs.Pools.{offered_by}
+use Rattle.pool_view.specs.Pools.{offered_by}
 use Rattle.alloc_rules.proofs.candidates.push_of_slice.Given as goal
 
 abbrev pub invariant-loop-device : goal.invariant-loop-device

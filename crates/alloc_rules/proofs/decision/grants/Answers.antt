@@ -1,5 +1,5 @@
 use Rattle.std.proofs.Common.{[]}
-use Rattle.alloc_rules.specs.Names.{at_key}
+use Rattle.pool_view.specs.Names.{at_key}
 use Rattle.alloc_rules.specs.Claims.{add_wanted, wanted}
 use Rattle.alloc_rules.specs.Rules.{grants_for}
 use Rattle.alloc_rules.specs.Fits.{devices_for}

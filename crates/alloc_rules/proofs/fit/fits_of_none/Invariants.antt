@@ -4,4 +4,4 @@ use Rattle.alloc_rules.specs.Fits.{node_fit}
 use Rattle.alloc_rules.proofs.fit.fits_of_none.Given as goal
 
 abbrev pub invariant-loop-name : goal.invariant-loop-name
-invariant-loop-name l = l.fits ++ map (node_fit l.state None) (keys_of l.name-iterator) ≡ map (node_fit l.state None) (keys_of l.state.nodes)
+invariant-loop-name l = l.fits ++ map (node_fit l.state None) (keys_of l.name-iterator) ≡ map (node_fit l.state None) (keys_of l.state.inventory.nodes)

@@ -1,5 +1,5 @@
 use Rattle.std.proofs.Common.{[], None}
-use Rattle.alloc_rules.specs.Names.{at_key}
+use Rattle.pool_view.specs.Names.{at_key}
 use Rattle.alloc_rules.specs.Claims.{add_wanted, slots_of, wanted}
 use Rattle.alloc_rules.specs.Fits.{slot_due}
 use Rattle.alloc_rules.proofs.Matched.{fits_same}

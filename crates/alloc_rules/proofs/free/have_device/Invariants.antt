@@ -1,7 +1,7 @@
 use Rattle.std.proofs.Common.{◌≡◌, drop}
 use Rattle.std.specs.List.{list_any}
-use Rattle.alloc_rules.specs.Names.{device_eq}
-use Rattle.alloc_rules.specs.Pools.{devices_held}
+use Rattle.pool_view.specs.Names.{device_eq}
+use Rattle.cluster.specs.Held.{devices_held}
 use Rattle.alloc_rules.proofs.free.have_device.Given as goal
 
 abbrev pub invariant-loop-picked : goal.invariant-loop-picked

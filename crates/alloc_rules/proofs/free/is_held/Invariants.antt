@@ -1,7 +1,7 @@
 use Rattle.std.proofs.Common.{◌≡◌}
 use Rattle.std.specs.List.{flat_map, list_any}
-use Rattle.alloc_rules.specs.Names.{device_eq}
-use Rattle.alloc_rules.specs.Pools.{held, held_by}
+use Rattle.pool_view.specs.Names.{device_eq}
+use Rattle.cluster.specs.Held.{held, held_by}
 use Rattle.alloc_rules.proofs.free.is_held.Given as goal
 
 abbrev pub invariant-loop-claim : goal.invariant-loop-claim

@@ -3,7 +3,4 @@ use Rattle.journal_text.specs.Journal.{lines_from}
 use Rattle.journal_text.proofs.journal.lines.Given as goal
 
 abbrev pub invariant-loop-place : goal.invariant-loop-place
-invariant-loop-place l = record {
-  all : l.entries ≡ l.fn.ledger.entries;
-  lines : l.out.items ++ lines_from l.place (drop l.place l.entries) ≡ lines_from l.fn.from (drop l.fn.from l.entries);
-}
+invariant-loop-place l = l.out.items ++ lines_from l.place (drop l.place l.entries) ≡ lines_from l.fn.from (drop l.fn.from l.entries)

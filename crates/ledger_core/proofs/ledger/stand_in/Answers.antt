@@ -1,6 +1,6 @@
 use Rattle.std.proofs.Common.{◌≡◌, ◌∙◌, ◌<◌, ◌≤◌, ◌+◌, ℕ, length, arith, sym, refl, ap, drop}
-use Rattle.ledger_core.specs.declared.entry.Stand.{Stand}
-use Rattle.ledger_core.specs.History.{stand_from, stand_of}
+use Rattle.cluster.specs.declared.entry.Stand.{Stand}
+use Rattle.cluster.specs.History.{stand_from, stand_of}
 use Rattle.ledger_core.proofs.Stands.{stand_begin, stand_step, stand_end}
 use Rattle.ledger_core.proofs.ledger.stand_in.Goals as goal
 

@@ -1,5 +1,5 @@
 use Rattle.std.proofs.Common.{◌≡◌, drop}
-use Rattle.ledger_core.specs.History.{stand_from, stand_of}
+use Rattle.cluster.specs.History.{stand_from, stand_of}
 use Rattle.ledger_core.proofs.ledger.stand_in.Given as goal
 
 abbrev pub invariant-loop-i : goal.invariant-loop-i

@@ -1,7 +1,7 @@
 use Rattle.std.proofs.Common.{◌+◌, length}
 use Rattle.commands.specs.declared.command.Command.TheVariants.{Apply}
-use Rattle.ledger_core.specs.Entry.{creation}
-use Rattle.ledger_core.specs.History.{state_of}
+use Rattle.ledger_core.specs.Applied.{creation}
+use Rattle.cluster.specs.History.{state_of}
 use Rattle.replay_core.proofs.Created.{built_absent, creation_ends, creation_of, creation_searched}
 use Rattle.replay_core.proofs.JobSteps.{begun_on_err, ran_first}
 use Rattle.replay_core.proofs.jobs.apply.Goals as goal

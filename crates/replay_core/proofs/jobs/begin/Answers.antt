@@ -1,9 +1,9 @@
 use Rattle.std.proofs.Common.{length, ◌∙◌, refl, sym, ap, subst}
-use Rattle.alloc_rules.specs.declared.state.State.{State}
+use Rattle.cluster.specs.declared.state.State.{State}
 use Rattle.alloc_rules.specs.Plans.{PlanBy}
 use Rattle.commands.specs.declared.command.Command.TheVariants.{Schedule}
-use Rattle.ledger_core.specs.declared.entry.Event.TheVariants.{Reserved}
-use Rattle.ledger_core.specs.History.{state_of}
+use Rattle.cluster.specs.declared.entry.Event.TheVariants.{Reserved}
+use Rattle.cluster.specs.History.{state_of}
 use Rattle.ledger_core.specs.Ledger.{History}
 use Rattle.replay_core.specs.Jobs.{IsSearched}
 use Rattle.replay_core.specs.Doing.{Doing}

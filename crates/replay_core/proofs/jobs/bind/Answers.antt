@@ -1,8 +1,8 @@
 use Rattle.std.proofs.Common.{◌+◌, length, refl}
 use Rattle.commands.specs.declared.command.Command.TheVariants.{Schedule}
-use Rattle.ledger_core.specs.declared.entry.Event.TheVariants.{Bound}
-use Rattle.ledger_core.specs.Entry.{taken_node}
-use Rattle.ledger_core.specs.History.{state_of}
+use Rattle.cluster.specs.declared.entry.Event.TheVariants.{Bound}
+use Rattle.cluster.specs.State.{taken_node}
+use Rattle.cluster.specs.History.{state_of}
 use Rattle.replay_core.proofs.JobSteps.{stand_now, steps_by}
 use Rattle.replay_core.proofs.jobs.bind.Goals as goal
 

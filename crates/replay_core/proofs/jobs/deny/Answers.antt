@@ -1,7 +1,7 @@
 use Rattle.std.proofs.Common.{refl}
 use Rattle.commands.specs.declared.command.Command.TheVariants as command
-use Rattle.ledger_core.specs.declared.entry.Denial.TheVariants.{Invalid}
-use Rattle.ledger_core.specs.declared.entry.Event.TheVariants.{Denied}
+use Rattle.cluster.specs.declared.entry.Denial.TheVariants.{Invalid}
+use Rattle.cluster.specs.declared.entry.Event.TheVariants.{Denied}
 use Rattle.replay_core.proofs.JobSteps.{begun_on_err, ran_first}
 use Rattle.replay_core.proofs.jobs.deny.Goals as goal
 

@@ -1,8 +1,8 @@
 use Rattle.std.proofs.Common.{length, refl, subst}
-use Rattle.alloc_rules.specs.declared.state.State.{State}
+use Rattle.cluster.specs.declared.state.State.{State}
 use Rattle.alloc_rules.specs.Plans.{VerdictBy}
 use Rattle.commands.specs.declared.command.Command.TheVariants.{Schedule}
-use Rattle.ledger_core.specs.declared.entry.Event.TheVariants.{Judged}
+use Rattle.cluster.specs.declared.entry.Event.TheVariants.{Judged}
 use Rattle.replay_core.specs.Jobs.{IsSearched}
 use Rattle.replay_core.proofs.JobSteps.{begun_on_err, ran_first, state_at-end, timely_now}
 use Rattle.replay_core.proofs.jobs.judge.Goals as goal

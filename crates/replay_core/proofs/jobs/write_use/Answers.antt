@@ -1,8 +1,8 @@
 use Rattle.std.proofs.Common.{refl}
 use Rattle.commands.specs.declared.command.Command.TheVariants.{Schedule}
-use Rattle.ledger_core.specs.declared.entry.Event.TheVariants.{Wrote}
-use Rattle.ledger_core.specs.Entry.{version_of}
-use Rattle.ledger_core.specs.History.{state_of}
+use Rattle.cluster.specs.declared.entry.Event.TheVariants.{Wrote}
+use Rattle.cluster.specs.State.{version_of}
+use Rattle.cluster.specs.History.{state_of}
 use Rattle.replay_core.proofs.JobSteps.{steps_by}
 use Rattle.replay_core.proofs.jobs.write_use.Goals as goal
 

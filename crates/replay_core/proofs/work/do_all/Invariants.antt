@@ -1,5 +1,5 @@
 use Rattle.std.proofs.Common.{◌≡◌, ◌++◌, List}
-use Rattle.ledger_core.specs.History.{Legal}
+use Rattle.ledger_core.specs.Legal.{Legal}
 use Rattle.commands.specs.declared.command.Command.{Command}
 use Rattle.replay_core.specs.Progress.{IsReady}
 use Rattle.replay_core.specs.Script.{at_each}

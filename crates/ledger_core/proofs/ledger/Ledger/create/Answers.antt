@@ -1,11 +1,11 @@
 use Rattle.std.proofs.Common.{◌≡◌, ◌∙◌, ◌+◌, length, subst, sym, ap}
-use Rattle.alloc_rules.specs.declared.object.Object.{Object}
-use Rattle.alloc_rules.specs.State.{with_object}
-use Rattle.ledger_core.specs.declared.entry.Entry.{Entry}
-use Rattle.ledger_core.specs.declared.entry.Event.TheVariants.{Applied}
-use Rattle.ledger_core.specs.Entry.{after}
+use Rattle.cluster.specs.declared.object.Object.{Object}
+use Rattle.cluster.specs.Applied.{with_object}
+use Rattle.cluster.specs.declared.entry.Entry.{Entry}
+use Rattle.cluster.specs.declared.entry.Event.TheVariants.{Applied}
+use Rattle.cluster.specs.Events.{after}
 use Rattle.ledger_core.specs.Ledger.{History}
-use Rattle.ledger_core.specs.History.{Step}
+use Rattle.ledger_core.specs.Legal.{Step}
 use Rattle.ledger_core.proofs.Histories.{IsKept-more}
 use Rattle.ledger_core.proofs.ledger.Ledger.create.Goals as goal
 

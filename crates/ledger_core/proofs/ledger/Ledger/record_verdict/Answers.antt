@@ -1,8 +1,8 @@
 use Rattle.std.proofs.Common.{◌≡◌, ◌∙◌, ℕ, List, length, refl, sym, subst}
-use Rattle.ledger_core.specs.declared.entry.Entry.{Entry}
-use Rattle.ledger_core.specs.declared.entry.Event.TheVariants.{Judged}
+use Rattle.cluster.specs.declared.entry.Entry.{Entry}
+use Rattle.cluster.specs.declared.entry.Event.TheVariants.{Judged}
 use Rattle.ledger_core.specs.Ledger.{History}
-use Rattle.ledger_core.specs.History.{Step}
+use Rattle.ledger_core.specs.Legal.{Step}
 use Rattle.ledger_core.proofs.Histories.{IsKept-more, judged_now}
 use Rattle.ledger_core.proofs.ledger.Ledger.record_verdict.Goals as goal
 

@@ -1,8 +1,8 @@
 use Rattle.std.proofs.Common.{refl, sym, subst}
-use Rattle.ledger_core.specs.declared.entry.Entry.{Entry}
-use Rattle.ledger_core.specs.declared.entry.Event.TheVariants.{Denied}
+use Rattle.cluster.specs.declared.entry.Entry.{Entry}
+use Rattle.cluster.specs.declared.entry.Event.TheVariants.{Denied}
 use Rattle.ledger_core.specs.Ledger.{History}
-use Rattle.ledger_core.specs.History.{Step}
+use Rattle.ledger_core.specs.Legal.{Step}
 use Rattle.ledger_core.proofs.Histories.{IsKept-more}
 use Rattle.ledger_core.proofs.ledger.Ledger.refuse.Goals as goal
 

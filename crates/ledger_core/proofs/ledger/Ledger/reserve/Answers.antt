@@ -1,9 +1,10 @@
 use Rattle.std.proofs.Common.{subst, sym, ap}
-use Rattle.alloc_rules.specs.declared.state.State.{State}
-use Rattle.ledger_core.specs.declared.entry.Entry.{Entry}
-use Rattle.ledger_core.specs.declared.entry.Event.TheVariants.{Reserved}
+use Rattle.cluster.specs.declared.state.State.{State}
+use Rattle.cluster.specs.declared.entry.Entry.{Entry}
+use Rattle.cluster.specs.declared.entry.Event.TheVariants.{Reserved}
 use Rattle.ledger_core.specs.Ledger.{History}
-use Rattle.ledger_core.specs.History.{Step, state_of}
+use Rattle.ledger_core.specs.Legal.{Step}
+use Rattle.cluster.specs.History.{state_of}
 use Rattle.ledger_core.proofs.Histories.{IsKept-more, reserved_now}
 use Rattle.ledger_core.proofs.ledger.Ledger.reserve.Goals as goal
 

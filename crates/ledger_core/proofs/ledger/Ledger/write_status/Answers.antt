@@ -1,12 +1,14 @@
 use Rattle.std.proofs.Common.{◌≡◌, ◌∙◌, ◌+◌, ℕ, List, length, subst, sym, ap}
-use Rattle.alloc_rules.specs.declared.state.State.{State}
-use Rattle.alloc_rules.specs.State.{with_written}
-use Rattle.ledger_core.specs.declared.entry.Entry.{Entry}
-use Rattle.ledger_core.specs.declared.entry.Event.TheVariants.{Wrote}
-use Rattle.ledger_core.specs.declared.entry.Stand.{Stand}
-use Rattle.ledger_core.specs.Entry.{after, allows, version_of}
+use Rattle.cluster.specs.declared.state.State.{State}
+use Rattle.cluster.specs.Wrote.{with_written}
+use Rattle.cluster.specs.declared.entry.Entry.{Entry}
+use Rattle.cluster.specs.declared.entry.Event.TheVariants.{Wrote}
+use Rattle.cluster.specs.declared.entry.Stand.{Stand}
+use Rattle.cluster.specs.Events.{after, allows}
+use Rattle.cluster.specs.State.{version_of}
 use Rattle.ledger_core.specs.Ledger.{History}
-use Rattle.ledger_core.specs.History.{Step, state_of}
+use Rattle.ledger_core.specs.Legal.{Step}
+use Rattle.cluster.specs.History.{state_of}
 use Rattle.ledger_core.proofs.Histories.{IsKept-more}
 use Rattle.ledger_core.proofs.ledger.Ledger.write_status.Goals as goal
 

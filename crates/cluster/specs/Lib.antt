@@ -1,0 +1,14 @@
+pub mod Limits
+pub mod Ready
+pub mod Tables
+pub mod Claims
+pub mod State
+pub mod Held
+pub mod Applied
+pub mod Reserved
+pub mod Wrote
+pub mod Bound
+pub mod Judged
+pub mod Denied
+pub mod Events
+pub mod History

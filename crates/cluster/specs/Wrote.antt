@@ -1,0 +1,26 @@
+-- A pod's use of a claim is written, which publishes the claim's grant.
+use Rattle.std.specs.Prelude.{ℕ, true, option_map}
+use Rattle.object_fields.specs.declared.key.Key.{Key}
+use Rattle.cluster.specs.declared.entry.Stand.{Stand}
+use Rattle.cluster.specs.declared.entry.Stand.TheVariants as stand
+use Rattle.cluster.specs.declared.state.ClaimState.{ClaimState}
+use Rattle.cluster.specs.declared.state.Granted.{Granted}
+use Rattle.cluster.specs.declared.state.State.{State}
+use Rattle.cluster.specs.declared.state.Use.TheVariants.{Written}
+use Rattle.cluster.specs.Tables.{changed_at}
+
+-- what was granted, for others to see
+abbrev pub as_published : Granted → Granted
+as_published g = record g { published = true }
+
+-- the claim with the pod's use written, and its grant published
+abbrev pub written_by : ℕ → Key → ClaimState → ClaimState
+written_by place pod c =
+    record c { claim = record c.claim { version = place }; grant = option_map as_published c.grant; users = changed_at pod (λ _. Written) c.users }
+
+abbrev pub with_written : ℕ → Key → Key → State → State
+with_written place pod claim s = record s { claims = changed_at claim (written_by place pod) s.claims }
+
+-- its job has reserved still
+abbrev pub wrote_leaves : Stand
+wrote_leaves = stand.Reserved

@@ -1,0 +1,18 @@
+//! The model of a cluster: its objects, its state, the events of its history, and what each event does.
+#![tactic(auto)]
+
+mod entry;
+mod kept;
+mod object;
+mod plan;
+mod ready;
+mod state;
+
+pub use entry::{Denial, Entry, Event, Outcome, Stand};
+pub use kept::Kept;
+pub use object::Object;
+pub use plan::{
+    Cause, DeviceResult, Grant, Known, KnownClaim, Passed, Plan, SelectorFault, Verdict,
+};
+pub use ready::{Ready, ReadyParts};
+pub use state::{ClaimState, Granted, MOST_USERS, Phase, PodState, State, Use};

@@ -1,0 +1,36 @@
+-- Which histories are legal.
+use Rattle.std.specs.Prelude.{ℕ, ◌≡◌, List, [], ◌∷◌, ◌++◌, true}
+use Rattle.cluster.specs.declared.entry.Entry.{Entry}
+use Rattle.cluster.specs.declared.entry.Event.{Event}
+use Rattle.cluster.specs.declared.entry.Event.TheVariants.{Applied, Reserved, Wrote, Bound, Judged, Denied}
+use Rattle.cluster.specs.Events.{allows}
+use Rattle.cluster.specs.History.{stand_of, state_of}
+use Rattle.ledger_core.specs.Applied.{MayCreate}
+use Rattle.ledger_core.specs.Reserved.{MayReserve}
+use Rattle.ledger_core.specs.Wrote.{MayWrite}
+use Rattle.ledger_core.specs.Bound.{MayBind}
+use Rattle.ledger_core.specs.Judged.{MayJudge}
+use Rattle.ledger_core.specs.Denied.{MayDeny}
+
+-- where an event of a job may stand
+abbrev pub MayStand : List Entry → ℕ → Event → Type 0
+MayStand before job (Applied object) = MayCreate (state_of before) object
+MayStand before job (Reserved pod plan) = MayReserve before pod plan
+MayStand before job (Wrote pod claim seen) = MayWrite (state_of before) pod job claim seen
+MayStand before job (Bound pod node) = MayBind (state_of before) pod job node
+MayStand before job (Judged pod verdict) = MayJudge before pod verdict
+MayStand before job (Denied denial) = MayDeny (state_of before) denial
+
+-- the entry may follow these
+pub record Step (before : List Entry) (e : Entry) : Type 0 where
+  pub allowed : allows (stand_of before e.job) e.event ≡ true
+  pub stands : MayStand before e.job e.event
+
+-- each of es may follow those before it
+unfoldable pub LegalAfter : List Entry → List Entry → Type 0
+LegalAfter before [] = Unit {0}
+LegalAfter before (e ∷ es) = Step before e × LegalAfter (before ++ e ∷ []) es
+
+-- each entry may follow those before it
+unfoldable pub Legal : List Entry → Type 0
+Legal h = LegalAfter [] h

@@ -1,0 +1,5 @@
+pub mod Names
+pub mod Nodes
+pub mod Inventory
+pub mod Pools
+pub mod Used
