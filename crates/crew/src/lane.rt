@@ -58,8 +58,8 @@ impl<T: Recorded, J: Job<T>> Lane<T, J> {
     }
 }
 
-/// Runs each lane in a thread of its own. Where a thread can't be started, its lane is run by a
-/// thread that could.
+/// Runs each lane in a thread of its own, or, where that can't be started, in the thread that would
+/// have started it.
 pub fn run_lanes<T: Recorded + Send, J: Job<T>, G: Gate + Sync, R: Threads + Wait + Sync>(
     rt: &R,
     gate: &G,

@@ -98,10 +98,12 @@ fn gather<T: Recorded, J: Job<T>>(
 }
 
 /// Runs each list of jobs in order with the pass at the same place, each list in a thread of its
-/// own, and joins the threads. Where a thread can't be started, its list is run by one that could.
+/// own, and joins the threads. Where a thread can't be started, the thread that would have started
+/// it runs the list itself.
 ///
-/// The ends stand list by list, and the passes as they stood. All memory is taken first: where it
-/// runs out no job was begun, and the passes and the lists come back as they were.
+/// There are as many passes as lists, and each job can run with the pass that the jobs before it
+/// leave. Afterwards the ends stand list by list, and the passes as they stood. All memory is taken
+/// first: where it runs out no job was begun, and the passes and the lists come back unchanged.
 pub fn run_all<T: Recorded + Send, G: Gate + Sync, J: Job<T>, R: Threads + Wait + Sync>(
     rt: &R,
     alloc: Global,

@@ -39,7 +39,8 @@ impl<T: Recorded, A: Allocator> Model for TurnLock<T, A> {
 }
 
 /// What one thread enters a lock with. Contracts see what it knows: the history that it saw last,
-/// the places of the entries that were made with it, its share, and the state's number.
+/// the places of the entries that were made with it, its share, the state's number, and while it has
+/// a turn the history that the turn began with.
 #[derive(Drop)]
 pub struct Pass<T: Recorded> {
     seat: Seat<Option<T>, View<T::Entry>>,
@@ -144,7 +145,8 @@ impl<T: Recorded, A: Allocator> TurnLock<T, A> {
     /// Waits for a turn, and gives the state. Takes no memory.
     ///
     /// The state's history begins with the pass's front, the history that the pass saw last, and its
-    /// number is the one at `new`. While the turn lasts no other pass of the lock has one.
+    /// number is the one at `new`. The state is moved out of the lock, so nobody else has it until the
+    /// turn is left.
     pub fn enter<R: Wait>(&self, rt: &R, pass: &mut Pass<T>) -> Turn<T>
         requires of { IsOf self.now pass.old }
         requires free { IsFree pass.old }
@@ -188,7 +190,7 @@ impl<T: Recorded, A: Allocator> TurnLock<T, A> {
 
     /// A pass for another thread, which knows the same history and takes a share of 1 from this one.
     ///
-    /// The error is for memory alone, and changes nothing.
+    /// An error means that memory ran out, and changes nothing.
     pub fn split(&self, pass: &mut Pass<T>) -> Result<Pass<T>, AllocError>
         requires of { IsOf self.now pass.old }
         requires free { IsFree pass.old }
