@@ -1,0 +1,147 @@
+-- A record whose texts and counts are short has a spelling that reads as it.
+use Rattle.std.proofs.Common.{◌≡◌, ℕ, ◌+◌, ◌-◌, ◌<◌, ◌≤◌, ◌^◌, ◌==◌, ◌++◌, nat_lt, Bool, true, false, ◌&&◌, ◌||◌, List, [], ◌∷◌, length, take, drop, Option, Some, None, refl, sym, ◌∙◌, ap, arith, if◌then◌else◌}
+use Rattle.std.proofs.lemmas.Bool.Decides.{nat_tests}
+use Rattle.std.specs.Prelude.{option_and_then, option_map}
+use Rattle.std.specs.List.{AllByRecursion, list_all, list_any}
+use Rattle.std.specs.Int.{to_be_bytes, w32}
+use Rattle.std.specs.Str.{is_utf8}
+use Rattle.object_fields.specs.Keys.{device_text, key_text}
+use Rattle.object_fields.specs.declared.key.DeviceId.{DeviceId}
+use Rattle.object_fields.specs.declared.key.Key.{Key}
+use Rattle.ckpt_journal.specs.Format.{ClaimFits, ClaimIsText, ClaimReadsBack, BodyFits, Fits, IsText, NameFits, NamesFit, ReadsBack, are_long, block, body, is_full, is_long, is_long_claim, is_long_text, same_text}
+use Rattle.ckpt_journal.specs.Names.{DeviceReadsBack, KeyReadsBack, by_both, by_first, device_is_text, device_made, device_read, device_with, first_slash_from, key_is_text, key_made, key_read, key_with, last_slash_from, text_read}
+use Rattle.ckpt_journal.specs.declared.record.Claim.{Claim}
+use Rattle.ckpt_journal.specs.declared.record.Record.{Record}
+use Rattle.ckpt_journal.specs.declared.record.Record.TheVariants.{Begun, Prepared, Leaving, Gone}
+
+or_false : (a b : Bool) → (a || b) ≡ false → (a ≡ false) × (b ≡ false)
+or_false true b is = absurd cc
+or_false false b is = (refl, is)
+
+and_true : (a b : Bool) → (a && b) ≡ true → (a ≡ true) × (b ≡ true)
+and_true false b is = absurd cc
+and_true true b is = (refl, is)
+
+short : (n : ℕ) → nat_lt 65535 n ≡ false → n < 2 ^ 16
+short n is = grind (arith, nat_tests)
+
+text_there : (text : List ℕ) → is_utf8 text ≡ true → text_read text ≡ Some text
+text_there text is = ap (λ b. if b then Some text else None) is
+
+-- ---- keys
+
+key_itself : (k : Key) → key_is_text k ≡ true → key_made k.namespace k.name ≡ Some k
+key_itself k is =
+    let both = and_true (is_utf8 k.namespace) (is_utf8 k.name) is in
+    λ i. option_and_then (λ a. option_map (λ b. record { namespace = a; name = b }) (text_there k.name both.1 i)) (text_there k.namespace both.0 i)
+
+key_same : (x y : Key) → Some x ≡ Some y → x ≡ y
+key_same x y is = cc
+
+key_lift : (namespace name : List ℕ) (k : Key) → key_is_text k ≡ true → key_with namespace name ≡ Some k → key_made namespace name ≡ Some k
+key_lift namespace name k text is = ap (λ (x : Key). key_made x.namespace x.name) (key_same (record { namespace = namespace; name = name }) k is) ∙ key_itself k text
+
+key_from : (text : List ℕ) (slash : Option ℕ) (k : Key) → key_is_text k ≡ true → by_first key_with text slash ≡ Some k → by_first key_made text slash ≡ Some k
+key_from text None k is e = key_lift [] text k is e
+key_from text (Some at) k is e = by_case (at == 0) e
+  where
+    by_case : (b : Bool) → (if b then None else key_with (take at text) (drop (at + 1) text)) ≡ Some k → (if b then None else key_made (take at text) (drop (at + 1) text)) ≡ Some k
+    by_case true e = absurd cc
+    by_case false e = key_lift _ _ k is e
+
+key_again : (k : Key) → key_is_text k ≡ true → KeyReadsBack k → key_read (key_text k) ≡ Some k
+key_again k is back = key_from (key_text k) (first_slash_from 0 (key_text k)) k is back
+
+-- ---- device ids
+
+device_itself : (d : DeviceId) → device_is_text d ≡ true → device_made d.driver d.pool d.device ≡ Some d
+device_itself d is =
+    let outer = and_true (is_utf8 d.driver && is_utf8 d.pool) (is_utf8 d.device) is in
+    let inner = and_true (is_utf8 d.driver) (is_utf8 d.pool) outer.0 in
+    λ i. option_and_then (λ a. option_and_then (λ b. option_map (λ c. record { driver = a; pool = b; device = c }) (text_there d.device outer.1 i)) (text_there d.pool inner.1 i)) (text_there d.driver inner.0 i)
+
+device_same : (x y : DeviceId) → Some x ≡ Some y → x ≡ y
+device_same x y is = cc
+
+device_lift : (driver pool device : List ℕ) (d : DeviceId) → device_is_text d ≡ true → device_with driver pool device ≡ Some d → device_made driver pool device ≡ Some d
+device_lift driver pool device d text is = ap (λ (x : DeviceId). device_made x.driver x.pool x.device) (device_same (record { driver = driver; pool = pool; device = device }) d is) ∙ device_itself d text
+
+device_from : (text : List ℕ) (first last : Option ℕ) (d : DeviceId) → device_is_text d ≡ true → by_both device_with text first last ≡ Some d → by_both device_made text first last ≡ Some d
+device_from text None last d is e = absurd cc
+device_from text (Some first) None d is e = absurd cc
+device_from text (Some first) (Some last) d is e = by_case (nat_lt first last) e
+  where
+    by_case : (b : Bool) → (if b then device_with (take first text) (take (last - (first + 1)) (drop (first + 1) text)) (drop (last + 1) text) else None) ≡ Some d
+        → (if b then device_made (take first text) (take (last - (first + 1)) (drop (first + 1) text)) (drop (last + 1) text) else None) ≡ Some d
+    by_case true e = device_lift _ _ _ d is e
+    by_case false e = absurd cc
+
+device_again : (d : DeviceId) → device_is_text d ≡ true → DeviceReadsBack d → device_read (device_text d) ≡ Some d
+device_again d is back = device_from (device_text d) (first_slash_from 0 (device_text d)) (last_slash_from 0 None (device_text d)) d is back
+
+-- ---- lists of them
+
+each_fits : {A : Type 0} (reading : List ℕ → Option A) (text : A → List ℕ) (is_text : A → Bool) (Back : A → Type 0) → ((a : A) → is_text a ≡ true → Back a → reading (text a) ≡ Some a)
+    → (items : List A) → list_any (λ a. is_long_text (text a)) items ≡ false → list_all is_text items ≡ true → AllByRecursion Back items → AllByRecursion (NameFits reading text) items
+each_fits reading text is_text Back again [] s t b = tt
+each_fits reading text is_text Back again (a ∷ items) s t b =
+    let shorts = or_false (is_long_text (text a)) (list_any (λ a. is_long_text (text a)) items) s in
+    let texts = and_true (is_text a) (list_all is_text items) t in
+    ((short (length (text a)) shorts.0, again a texts.0 b.0), each_fits reading text is_text Back again items shorts.1 texts.1 b.1)
+
+names_fit : {A : Type 0} (reading : List ℕ → Option A) (text : A → List ℕ) (is_text : A → Bool) (Back : A → Type 0) → ((a : A) → is_text a ≡ true → Back a → reading (text a) ≡ Some a)
+    → (items : List A) → are_long text items ≡ false → list_all is_text items ≡ true → AllByRecursion Back items → NamesFit reading text items
+names_fit reading text is_text Back again items s t b =
+    let shorts = or_false (nat_lt 65535 (length items)) (list_any (λ a. is_long_text (text a)) items) s in
+    (short (length items) shorts.0, each_fits reading text is_text Back again items shorts.1 t b)
+
+claim_fits : (c : Claim) → is_long_claim c ≡ false → ClaimIsText c → ClaimReadsBack c → ClaimFits c
+claim_fits c s t b =
+    let first = or_false (is_long_text c.uid) (is_long_text (key_text c.key) || (are_long key_text c.pods || are_long device_text c.devices)) s in
+    let second = or_false (is_long_text (key_text c.key)) (are_long key_text c.pods || are_long device_text c.devices) first.1 in
+    let third = or_false (are_long key_text c.pods) (are_long device_text c.devices) second.1 in
+    (
+      (short (length c.uid) first.0, text_there c.uid t.uid),
+      ((short (length (key_text c.key)) second.0, key_again c.key t.key b.0), (
+        names_fit key_read key_text key_is_text KeyReadsBack key_again c.pods third.0 t.pods b.1.0,
+        names_fit device_read device_text device_is_text DeviceReadsBack device_again c.devices third.1 t.devices b.1.1,
+      )),
+    )
+
+body_fits : (r : Record) → is_long r ≡ false → IsText r → ReadsBack r → BodyFits r
+body_fits (Begun c) s t b = claim_fits c s t b
+body_fits (Prepared c) s t b = claim_fits c s t b
+body_fits (Leaving uid) s t b = (short (length uid) s, text_there uid t)
+body_fits (Gone uid) s t b = (short (length uid) s, text_there uid t)
+
+pub fits_from : (r : Record) → is_long r ≡ false → IsText r → ReadsBack r → length (body r) < 2 ^ 32 → Fits r
+fits_from r s t b len = (body_fits r s t b, len)
+
+-- ---- room
+
+pub length-block : (r : Record) → length (block r) ≡ length (body r) + 4
+unfolding block
+length-block r = omega arith
+
+lt_true : (a b : ℕ) → a < b → nat_lt a b ≡ true
+lt_true a b lt = grind (arith, nat_tests)
+
+lt_not : (a b : ℕ) → b ≤ a → nat_lt a b ≡ false
+lt_not a b le = grind (arith, nat_tests)
+
+or_right : (a b : Bool) → b ≡ true → (a || b) ≡ true
+or_right true b is = refl
+or_right false b is = is
+
+neither : (a b : Bool) → a ≡ false → b ≡ false → (a || b) ≡ false
+neither a b p q = λ i. p i || q i
+
+pub full_when : (r : Record) (gate len : ℕ) → len ≡ length (body r) → 67108864 < gate + len + 6 → is_full gate r ≡ true
+full_when r gate len is lt = or_right (is_long r) (nat_lt 67108864 (gate + length (block r) + 2)) (lt_true 67108864 (gate + length (block r) + 2) (omega (arith, is, lt, length-block r)))
+
+pub room_when : (r : Record) (gate len : ℕ) → is_long r ≡ false → len ≡ length (body r) → gate + len + 6 ≤ 67108864 → is_full gate r ≡ false
+room_when r gate len s is le = neither (is_long r) (nat_lt 67108864 (gate + length (block r) + 2)) s (lt_not 67108864 (gate + length (block r) + 2) (omega (arith, is, le, length-block r)))
+
+pub spelled_is : (r : Record) (bytes frame : List ℕ) → bytes ≡ body r → frame ≡ to_be_bytes w32 (length bytes) ++ bytes ++ 0 ∷ [] → frame ≡ block r ++ 0 ∷ []
+unfolding block
+spelled_is r bytes frame is e = e ∙ ap (λ (l : List ℕ). to_be_bytes w32 (length l) ++ l ++ 0 ∷ []) is

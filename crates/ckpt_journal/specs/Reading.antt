@@ -1,0 +1,129 @@
+-- What the bytes of a journal stand for.
+use Rattle.std.specs.Prelude.{◌≡◌, ℕ, zero, suc, ◌+◌, ◌-◌, List, [], ◌∷◌, ◌++◌, length, take, drop, Option, Some, None, option_and_then, option_map, Result, Ok, Err, nat_lt, nat_le, if◌then◌else◌, ◌==◌}
+use Rattle.std.specs.Int.{w16, w32, from_be_bytes}
+use Rattle.object_fields.specs.declared.key.Key.{Key}
+use Rattle.object_fields.specs.declared.key.DeviceId.{DeviceId}
+use Rattle.ckpt_journal.specs.Format.{header}
+use Rattle.ckpt_journal.specs.Names.{device_read, key_read, text_read}
+use Rattle.ckpt_journal.specs.declared.error.Unread.{Unread}
+use Rattle.ckpt_journal.specs.declared.error.Unread.TheVariants.{NoRecord, Memory}
+use Rattle.ckpt_journal.specs.declared.record.Claim.{Claim}
+use Rattle.ckpt_journal.specs.declared.record.Record.{Record}
+use Rattle.ckpt_journal.specs.declared.record.Record.TheVariants.{Begun, Prepared, Leaving, Gone}
+
+-- ---- the parts of a body, each with what stands behind it
+
+-- a number of 16 bits
+unfoldable pub count_at : List ℕ → Option (ℕ × List ℕ)
+count_at bytes = if nat_lt (length bytes) 2 then None else Some (from_be_bytes w16 (take 2 bytes), drop 2 bytes)
+
+abbrev pub cut_at : ℕ × List ℕ → Option (List ℕ × List ℕ)
+cut_at x = if nat_lt (length x.1) x.0 then None else Some (take x.0 x.1, drop x.0 x.1)
+
+-- a number of 16 bits and that many bytes
+abbrev pub raw_at : List ℕ → Option (List ℕ × List ℕ)
+raw_at bytes = option_and_then cut_at (count_at bytes)
+
+abbrev pub read_raw : {A : Type 0} → (List ℕ → Option A) → List ℕ × List ℕ → Option (A × List ℕ)
+read_raw reading x = option_map (λ a. (a, x.1)) (reading x.0)
+
+-- a text that has a reading
+unfoldable pub name_at : {A : Type 0} → (List ℕ → Option A) → List ℕ → Option (A × List ℕ)
+name_at reading bytes = option_and_then (read_raw reading) (raw_at bytes)
+
+-- so many of these, put behind those read before
+abbrev pub names_from : {A : Type 0} → (List ℕ → Option A) → ℕ → List A → List ℕ → Option (List A × List ℕ)
+names_from reading zero before bytes = Some (before, bytes)
+names_from reading (suc n) before bytes = option_and_then (λ x. names_from reading n (before ++ x.0 ∷ []) x.1) (name_at reading bytes)
+
+-- a count, and so many of these
+unfoldable pub names_at : {A : Type 0} → (List ℕ → Option A) → List ℕ → Option (List A × List ℕ)
+names_at reading bytes = option_and_then (λ x. names_from reading x.0 [] x.1) (count_at bytes)
+
+-- the devices of a claim, behind its other fields
+abbrev pub claim_with : List ℕ → Key → List Key × List ℕ → Option (Claim × List ℕ)
+claim_with uid key pods = option_map (λ x. (record { uid = uid; key = key; pods = pods.0; devices = x.0 }, x.1)) (names_at device_read pods.1)
+
+-- uid, key, pods and devices
+unfoldable pub claim_at : List ℕ → Option (Claim × List ℕ)
+claim_at bytes = option_and_then (λ u. option_and_then (λ k. option_and_then (claim_with u.0 k.0) (names_at key_read k.1)) (name_at key_read u.1)) (name_at text_read bytes)
+
+-- what was read, if nothing stands behind it
+abbrev pub alone : {A : Type 0} → A × List ℕ → Option A
+alone (a, []) = Some a
+alone (a, b ∷ bs) = None
+
+abbrev pub claim_alone : List ℕ → Option Claim
+claim_alone bytes = option_and_then alone (claim_at bytes)
+
+abbrev pub uid_alone : List ℕ → Option (List ℕ)
+uid_alone bytes = option_and_then alone (name_at text_read bytes)
+
+-- the record of a body
+unfoldable pub record_of : List ℕ → Option Record
+record_of [] = None
+record_of (kind ∷ fields) =
+    if kind == 1 then option_map Begun (claim_alone fields) else
+    if kind == 2 then option_map Prepared (claim_alone fields) else
+    if kind == 3 then option_map Leaving (uid_alone fields) else
+    if kind == 4 then option_map Gone (uid_alone fields) else None
+
+-- ---- gates and records
+
+-- the record of a body, with what stands behind it
+abbrev pub with_rest : List ℕ → Option Record → Option (Record × List ℕ)
+with_rest rest None = None
+with_rest rest (Some r) = Some (r, rest)
+
+-- n bytes of body, and behind them the next gate
+unfoldable pub body_at : ℕ → List ℕ → Option (Record × List ℕ)
+body_at n bytes = if nat_le (length bytes) n then None else with_rest (drop n bytes) (record_of (take n bytes))
+
+-- the record behind a gate, and the bytes from the next gate on
+unfoldable pub block_at : List ℕ → Option (Record × List ℕ)
+block_at bytes = if nat_lt (length bytes) 4 then None else body_at (from_be_bytes w32 (take 4 bytes)) (drop 4 bytes)
+
+abbrev pub with_front : Record → Result (List Record) ℕ → Result (List Record) ℕ
+with_front r (Ok rs) = Ok (r ∷ rs)
+with_front r (Err left) = Err left
+
+abbrev pub if_block : ℕ → (List ℕ → Result (List Record) ℕ) → Option (Record × List ℕ) → Result (List Record) ℕ
+if_block left next None = Err left
+if_block left next (Some x) = with_front x.0 (next x.1)
+
+-- The records of bytes that begin with a gate, at most so many. An error says how many bytes stand from
+-- its gate on.
+abbrev pub records_from : ℕ → List ℕ → Result (List Record) ℕ
+records_from _ [] = Err 0
+records_from zero (gate ∷ bytes) = Err (length bytes + 1)
+records_from (suc most) (gate ∷ bytes) = if gate == 90 then if_block (length bytes + 1) (records_from most) (block_at bytes) else Ok []
+
+-- the first offset where bytes aren't as they should be, or are missing
+abbrev pub differs_at : ℕ → List ℕ → List ℕ → Option ℕ
+differs_at at [] bytes = None
+differs_at at (m ∷ ms) [] = Some at
+differs_at at (m ∷ ms) (b ∷ bs) = if b == m then differs_at (at + 1) ms bs else Some at
+
+abbrev pub placed : ℕ → Result (List Record) ℕ → Result (List Record) ℕ
+placed len (Ok rs) = Ok rs
+placed len (Err left) = Err (len - left)
+
+abbrev pub behind_header : List ℕ → Option ℕ → Result (List Record) ℕ
+behind_header bytes (Some at) = Err at
+behind_header bytes None = placed (length bytes) (records_from (length bytes) (drop 16 bytes))
+
+-- the records up to the first closed gate, or the offset where the bytes are no journal
+unfoldable pub records : List ℕ → Result (List Record) ℕ
+records bytes = behind_header bytes (differs_at 0 header bytes)
+
+-- ---- what a reader returns
+
+-- what a reader returned is what is there, unless memory ran out
+abbrev pub Gives : {V X : Type 0} → (V → X) → Result V Unread → Option X → Type 0
+Gives view (Ok v) found = found ≡ Some (view v)
+Gives view (Err NoRecord) found = found ≡ None
+Gives view (Err Memory) found = Unit {0}
+
+-- the same of a value as it is
+abbrev pub Reads : {X : Type 0} → Result X Unread → Option X → Type 0
+Reads result found = Gives (λ x. x) result found
