@@ -1,5 +1,5 @@
 -- A record whose texts and counts are short has a spelling that reads as it.
-use Rattle.std.proofs.Common.{◌≡◌, ℕ, ◌+◌, ◌-◌, ◌<◌, ◌≤◌, ◌^◌, ◌==◌, ◌++◌, nat_lt, Bool, true, false, ◌&&◌, ◌||◌, List, [], ◌∷◌, length, take, drop, Option, Some, None, refl, sym, ◌∙◌, ap, arith, if◌then◌else◌}
+use Rattle.std.proofs.Common.{◌≡◌, ℕ, ◌+◌, ◌-◌, ◌<◌, ◌≤◌, ◌^◌, ◌==◌, ◌++◌, nat_lt, Bool, true, false, ◌&&◌, ◌||◌, List, [], ◌∷◌, length, take, drop, Option, Some, None, refl, sym, ◌∙◌, ap, arith, length-append, if◌then◌else◌}
 use Rattle.std.proofs.lemmas.Bool.Decides.{nat_tests}
 use Rattle.std.specs.Prelude.{option_and_then, option_map}
 use Rattle.std.specs.List.{AllByRecursion, list_all, list_any}
@@ -99,20 +99,22 @@ claim_fits : (c : Claim) → is_long_claim c ≡ false → ClaimIsText c → Cla
 claim_fits c s t b =
     let first = or_false (is_long_text c.uid) (is_long_text (key_text c.key) || (are_long key_text c.pods || are_long device_text c.devices)) s in
     let second = or_false (is_long_text (key_text c.key)) (are_long key_text c.pods || are_long device_text c.devices) first.1 in
-    let third = or_false (are_long key_text c.pods) (are_long device_text c.devices) second.1 in
-    (
+    let third = or_false (are_long key_text c.pods) (are_long device_text c.devices) second.1 in (
       (short (length c.uid) first.0, text_there c.uid t.uid),
-      ((short (length (key_text c.key)) second.0, key_again c.key t.key b.0), (
-        names_fit key_read key_text key_is_text KeyReadsBack key_again c.pods third.0 t.pods b.1.0,
-        names_fit device_read device_text device_is_text DeviceReadsBack device_again c.devices third.1 t.devices b.1.1,
-      )),
+      (
+        (short (length (key_text c.key)) second.0, key_again c.key t.key b.0),
+        (
+          names_fit key_read key_text key_is_text KeyReadsBack key_again c.pods third.0 t.pods b.1.0,
+          names_fit device_read device_text device_is_text DeviceReadsBack device_again c.devices third.1 t.devices b.1.1,
+        ),
+      ),
     )
 
 body_fits : (r : Record) → is_long r ≡ false → IsText r → ReadsBack r → BodyFits r
-body_fits (Begun c) s t b = claim_fits c s t b
-body_fits (Prepared c) s t b = claim_fits c s t b
-body_fits (Leaving uid) s t b = (short (length uid) s, text_there uid t)
-body_fits (Gone uid) s t b = (short (length uid) s, text_there uid t)
+body_fits (Begun c) s t b = let fits = claim_fits c s t b in (fits.0, fits)
+body_fits (Prepared c) s t b = let fits = claim_fits c s t b in (fits.0, fits)
+body_fits (Leaving uid) s t b = ((short (length uid) s, text_there uid t), tt)
+body_fits (Gone uid) s t b = ((short (length uid) s, text_there uid t), tt)
 
 pub fits_from : (r : Record) → is_long r ≡ false → IsText r → ReadsBack r → length (body r) < 2 ^ 32 → Fits r
 fits_from r s t b len = (body_fits r s t b, len)
@@ -145,3 +147,12 @@ room_when r gate len s is le = neither (is_long r) (nat_lt 67108864 (gate + leng
 pub spelled_is : (r : Record) (bytes frame : List ℕ) → bytes ≡ body r → frame ≡ to_be_bytes w32 (length bytes) ++ bytes ++ 0 ∷ [] → frame ≡ block r ++ 0 ∷ []
 unfolding block
 spelled_is r bytes frame is e = e ∙ ap (λ (l : List ℕ). to_be_bytes w32 (length l) ++ l ++ 0 ∷ []) is
+
+-- a journal with room for a record stays small
+pub small_after : (r : Record) (gate : ℕ) (bytes : List ℕ) → is_full gate r ≡ false → bytes ≡ block r ++ 0 ∷ [] → gate + length bytes < 2 ^ 63
+small_after r gate bytes room is =
+    let most : gate + length (block r) + 2 ≤ 67108864 = not_above 67108864 (gate + length (block r) + 2) (or_false (is_long r) (nat_lt 67108864 (gate + length (block r) + 2)) room).1 in
+    omega (arith, ap length is, length-append (block r) (0 ∷ []), most)
+  where
+    not_above : (a b : ℕ) → nat_lt a b ≡ false → b ≤ a
+    not_above a b is = grind (arith, nat_tests)

@@ -1,2 +1,11 @@
+mod Again
+mod Crash
 mod Fits
+mod Header
+mod Kept
+mod Moments
 mod Names
+mod Read
+mod Slashes
+mod Taken
+mod TakenBody

@@ -1,5 +1,5 @@
 -- How a journal is spelled. All numbers are big endian.
-use Rattle.std.specs.Prelude.{◌≡◌, ℕ, ◌<◌, ◌+◌, ◌^◌, nat_lt, Bool, true, ◌||◌, List, [], ◌∷◌, ◌++◌, length, Option, Some}
+use Rattle.std.specs.Prelude.{◌≡◌, ℕ, ◌<◌, ◌+◌, ◌^◌, nat_lt, Bool, true, ◌||◌, List, [], ◌∷◌, ◌++◌, length, IfSome, Option, None, Some}
 use Rattle.std.specs.List.{AllByRecursion, flat_map, list_all, list_any}
 use Rattle.std.specs.Str.{is_utf8}
 use Rattle.std.specs.Int.{w16, w32, to_be_bytes}
@@ -118,11 +118,20 @@ same_text text = text
 abbrev pub ClaimFits : Claim → Type 0
 ClaimFits c = NameFits text_read same_text c.uid × (NameFits key_read key_text c.key × (NamesFit key_read key_text c.pods × NamesFit device_read device_text c.devices))
 
+abbrev pub uid_of : Record → List ℕ
+uid_of (Begun c) = c.uid
+uid_of (Prepared c) = c.uid
+uid_of (Leaving uid) = uid
+uid_of (Gone uid) = uid
+
+abbrev pub claim_of : Record → Option Claim
+claim_of (Begun c) = Some c
+claim_of (Prepared c) = Some c
+claim_of (Leaving uid) = None
+claim_of (Gone uid) = None
+
 abbrev pub BodyFits : Record → Type 0
-BodyFits (Begun c) = ClaimFits c
-BodyFits (Prepared c) = ClaimFits c
-BodyFits (Leaving uid) = NameFits text_read same_text uid
-BodyFits (Gone uid) = NameFits text_read same_text uid
+BodyFits r = NameFits text_read same_text (uid_of r) × IfSome (claim_of r) ClaimFits
 
 -- the record has a spelling, and that reads as it
 abbrev pub Fits : Record → Type 0

@@ -15,8 +15,17 @@ const MOST_BYTES: u64 = 67_108_864;
 /// The most bytes of a text, and the most names of a list.
 const MOST_OF_A_TEXT: usize = 65_535;
 
+/// The byte of an open gate; every other one is a closed gate's.
+pub const OPEN: u8 = 0x5a;
+
 /// The byte of a closed gate, as it is written.
 const CLOSED: u8 = 0;
+
+/// The text `DRAKCKPT`, the version 1 in 32 bits, and 0 in 32 bits.
+pub const HEADER: [u8; 16] = *b"DRAKCKPT\0\0\0\x01\0\0\0\0";
+
+/// A journal of no record: the header and a closed gate.
+pub const EMPTY: [u8; 17] = *b"DRAKCKPT\0\0\0\x01\0\0\0\0\0";
 
 /// Whether the text is over 65,535 bytes.
 fn long_name<T: Named>(name: &T) -> bool
