@@ -156,3 +156,62 @@ small_after r gate bytes room is =
   where
     not_above : (a b : ℕ) → nat_lt a b ≡ false → b ≤ a
     not_above a b is = grind (arith, nat_tests)
+
+-- ---- what was read reads back
+
+key_read_some : (namespace name : List ℕ) (k : Key) → key_made namespace name ≡ Some k → key_with namespace name ≡ Some k
+key_read_some namespace name k is = go (is_utf8 namespace) (is_utf8 name) is
+  where
+    go : (a b : Bool) → option_and_then (λ x. option_map (λ y. record { namespace = x; name = y }) (if b then Some name else None)) (if a then Some namespace else None) ≡ Some k → key_with namespace name ≡ Some k
+    go true true e = e
+    go true false e = absurd cc
+    go false b e = absurd cc
+
+key_back : (text : List ℕ) (slash : Option ℕ) (k : Key) → by_first key_made text slash ≡ Some k → by_first key_with text slash ≡ Some k
+key_back text None k e = key_read_some [] text k e
+key_back text (Some at) k e = by_case (at == 0) e
+  where
+    by_case : (b : Bool) → (if b then None else key_made (take at text) (drop (at + 1) text)) ≡ Some k → (if b then None else key_with (take at text) (drop (at + 1) text)) ≡ Some k
+    by_case true e = absurd cc
+    by_case false e = key_read_some _ _ k e
+
+device_read_some : (driver pool device : List ℕ) (d : DeviceId) → device_made driver pool device ≡ Some d → device_with driver pool device ≡ Some d
+device_read_some driver pool device d is = go (is_utf8 driver) (is_utf8 pool) (is_utf8 device) is
+  where
+    go : (a b c : Bool) → option_and_then (λ x. option_and_then (λ y. option_map (λ z. record { driver = x; pool = y; device = z }) (if c then Some device else None)) (if b then Some pool else None)) (if a then Some driver else None) ≡ Some d
+        → device_with driver pool device ≡ Some d
+    go true true true e = e
+    go true true false e = absurd cc
+    go true false c e = absurd cc
+    go false b c e = absurd cc
+
+device_back : (text : List ℕ) (first last : Option ℕ) (d : DeviceId) → by_both device_made text first last ≡ Some d → by_both device_with text first last ≡ Some d
+device_back text None last d e = absurd cc
+device_back text (Some first) None d e = absurd cc
+device_back text (Some first) (Some last) d e = by_case (nat_lt first last) e
+  where
+    by_case : (b : Bool) → (if b then device_made (take first text) (take (last - (first + 1)) (drop (first + 1) text)) (drop (last + 1) text) else None) ≡ Some d
+        → (if b then device_with (take first text) (take (last - (first + 1)) (drop (first + 1) text)) (drop (last + 1) text) else None) ≡ Some d
+    by_case true e = device_read_some _ _ _ d e
+    by_case false e = absurd cc
+
+keys_back : (ks : List Key) → AllByRecursion (NameFits key_read key_text) ks → AllByRecursion KeyReadsBack ks
+keys_back [] fits = tt
+keys_back (k ∷ ks) fits = (key_back (key_text k) (first_slash_from 0 (key_text k)) k fits.0.1, keys_back ks fits.1)
+
+devices_back : (ds : List DeviceId) → AllByRecursion (NameFits device_read device_text) ds → AllByRecursion DeviceReadsBack ds
+devices_back [] fits = tt
+devices_back (d ∷ ds) fits = (device_back (device_text d) (first_slash_from 0 (device_text d)) (last_slash_from 0 None (device_text d)) d fits.0.1, devices_back ds fits.1)
+
+claim_back : (c : Claim) → ClaimFits c → ClaimReadsBack c
+claim_back c fits = (key_back (key_text c.key) (first_slash_from 0 (key_text c.key)) c.key fits.1.0.1, (keys_back c.pods fits.1.1.0.1, devices_back c.devices fits.1.1.1.1))
+
+record_back : (r : Record) → BodyFits r → ReadsBack r
+record_back (Begun c) fits = claim_back c fits.1
+record_back (Prepared c) fits = claim_back c fits.1
+record_back (Leaving uid) fits = tt
+record_back (Gone uid) fits = tt
+
+pub all_read_back : (rs : List Record) → AllByRecursion Fits rs → AllByRecursion ReadsBack rs
+all_read_back [] fits = tt
+all_read_back (r ∷ rs) fits = (record_back r fits.0.0, all_read_back rs fits.1)

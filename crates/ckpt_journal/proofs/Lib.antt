@@ -7,5 +7,6 @@ mod Moments
 mod Names
 mod Read
 mod Slashes
+mod Spelled
 mod Taken
 mod TakenBody

@@ -51,6 +51,14 @@ abbrev pub IsSettled : List Record → ℕ → Content → Type 0
 IsSettled rs end c =
     (end < length c.bytes) × (get_or c.bytes end 90 ≢ 90) × (take end c.bytes ≡ front rs) × AllByRecursion Fits rs × (IsTrue c.honest → c.sure ≡ exactly c.bytes)
 
+-- the bytes are the header, these records behind open gates, a closed gate, and anything
+pub record IsSpelled (rs : List Record) (bytes : List ℕ) : Type 0 where
+  pub gate : ℕ
+  pub tail : List ℕ
+  pub shut : gate ≢ 90
+  pub parts : bytes ≡ front rs ++ gate ∷ tail
+  pub fits : AllByRecursion Fits rs
+
 -- these records stand in the bytes, with the first closed gate at this offset
 abbrev pub EndsAt : List Record → ℕ → List ℕ → Type 0
 EndsAt rs end bytes = (end < length bytes) × (get_or bytes end 90 ≢ 90) × (take end bytes ≡ front rs) × AllByRecursion Fits rs

@@ -1,4 +1,5 @@
-ghost use Rattle.std.specs.Prelude.{◌≡◌, ◌↔◌, ◌⊎◌, ◌+◌, ◌<◌, ◌^◌, ◌++◌, ◌∷◌, [], ℕ, Ok, Err, IfErr, IfOk, IfSome, IsErrOf, IsOk, OnErr, OnOk, false, length, true};
+ghost use Rattle.std.specs.Prelude.{◌≡◌, ◌↔◌, ◌⊎◌, ◌+◌, ◌<◌, ◌^◌, ◌++◌, ◌∷◌, [], ℕ, Ok, Err, IfErr, IfOk, IfSome, IsErrOf, IsOk, OnErr, OnOk, Some, false, length, true};
+ghost use Rattle.std.specs.List.{AllByRecursion};
 ghost use Rattle.std.specs.Option.{option_map};
 ghost use Rattle.dra_ports.specs.Causes.{Rose};
 ghost use Rattle.dra_ports.specs.DiskContent.{synced};
@@ -71,6 +72,7 @@ fn load<D: Disk>(alloc: Global, disk: &mut D) -> Result<(u64, Vec<Record>), Jour
     ensures settled { IfOk result (λ x. IfSome (D.content disk.new) (IsSettled x.1.items x.0)) }
     ensures place { IfOk result (λ x. x.0 ≡ length (front x.1.items)) }
     ensures small { IfOk result (λ x. x.0 < 2 ^ 63) }
+    ensures readable { IfOk result (λ x. AllByRecursion ReadsBack x.1.items) }
     ensures exact { IfSome (D.content disk.old) (λ c. Returns (λ x. x.1.items) result (records c.bytes)) }
     ensures synced { OnOk result (D.content disk.new ≡ option_map synced (D.content disk.old)) }
     ensures handed { (D.content disk.new ≡ D.content disk.old) ⊎ (D.content disk.new ≡ option_map synced (D.content disk.old)) }
@@ -92,12 +94,15 @@ impl<D: Disk> Journal<D> {
     /// `NotAJournal(offset)` comes just where the bytes are no journal, `Memory` only where memory runs
     /// out, and `DiskFault` only where the disk's count of faults rose in this call. With each other
     /// result the count stays. An error hands the disk back, to which nothing was written.
+    ///
+    /// What was read may be appended again: its keys and device ids read back.
     pub fn open(
         alloc: Global,
         disk: D,
     ) -> Result<(Journal<D>, Vec<Record>), Unopened<D, JournalError>>
         ensures kept { IfOk result (λ x. IfSome (D.content (disk_of x.0)) (Keeps x.1.items)) }
         ensures records { IfOk result (λ x. IfSome (D.content disk) (λ c. records c.bytes ≡ Ok x.1.items)) }
+        ensures readable { IfOk result (λ x. AllByRecursion ReadsBack x.1.items) }
         ensures place { IfOk result (λ x. place_of x.0 ≡ length (front x.1.items)) }
         ensures going { IfOk result (λ x. has_ended x.0 ≡ false) }
         ensures synced { IfOk result (λ x. D.content (disk_of x.0) ≡ option_map synced (D.content disk)) }
@@ -120,6 +125,15 @@ impl<D: Disk> Journal<D> {
             )),
             Err(why) => Err(Unopened { disk, why }),
         }
+    }
+
+    /// States what an open journal that has not ended keeps: its records, which whatever a crash leaves
+    /// has, and the offset of the first closed gate behind them.
+    pub fn keeps(&self)
+        ensures kept { has_ended self.now ≡ false → IfSome (D.content (disk_of self.now)) (Keeps (recorded (D.content (disk_of self.now)))) }
+        ensures place { has_ended self.now ≡ false → IfSome (D.content (disk_of self.now)) (λ c. place_of self.now ≡ length (front (recorded (Some c)))) }
+    {
+        let _ended = self.ended;
     }
 
     /// Hands the disk back as it is. Touches nothing and takes no memory.

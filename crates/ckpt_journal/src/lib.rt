@@ -9,6 +9,7 @@
 mod body;
 mod error;
 mod journal;
+mod laws;
 mod named;
 mod reading;
 mod record;
@@ -18,6 +19,7 @@ mod writing;
 
 pub use error::JournalError;
 pub use journal::Unopened;
+pub use laws::records_are_spelled;
 pub use record::{Claim, Record};
 pub use state::Journal;
 pub use writing::format;

@@ -1,5 +1,6 @@
 ghost use Rattle.std.specs.Prelude.{◌≡◌, IfErr, IfOk, None};
-ghost use Rattle.ckpt_journal.specs.Format.{header};
+ghost use Rattle.std.specs.List.{AllByRecursion};
+ghost use Rattle.ckpt_journal.specs.Format.{ReadsBack, header};
 ghost use Rattle.ckpt_journal.specs.Reading.{Gives, block_at, body_at, differs_at, records};
 ghost use Rattle.ckpt_journal.specs.Standing.{EndsAt, IsOfBytes, Returns};
 
@@ -56,6 +57,7 @@ fn take_block(alloc: Global, bytes: &[u8]) -> Result<(Record, &[u8]), Unread>
 pub fn read_records(alloc: Global, bytes: &[u8]) -> Result<(u64, Vec<Record>), JournalError>
     ensures exact { Returns (λ x. x.1.items) result (records bytes.now) }
     ensures ends { IfOk result (λ x. EndsAt x.1.items x.0 bytes.now) }
+    ensures readable { IfOk result (λ x. AllByRecursion ReadsBack x.1.items) }
     ensures only { IfErr result IsOfBytes }
 {
     if let Some(at) = header_fault(bytes) {
@@ -69,6 +71,7 @@ fn read_blocks(alloc: Global, bytes: &[u8]) -> Result<(u64, Vec<Record>), Journa
     requires { differs_at 0 header bytes.now ≡ None }
     ensures exact { Returns (λ x. x.1.items) result (records bytes.now) }
     ensures ends { IfOk result (λ x. EndsAt x.1.items x.0 bytes.now) }
+    ensures readable { IfOk result (λ x. AllByRecursion ReadsBack x.1.items) }
     ensures only { IfErr result IsOfBytes }
 {
     if bytes.len() <= HEADER.len() {

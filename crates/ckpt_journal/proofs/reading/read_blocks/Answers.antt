@@ -4,6 +4,7 @@ use Rattle.std.specs.List.{AllByRecursion}
 use Rattle.ckpt_journal.specs.Format.{Fits, block, front}
 use Rattle.ckpt_journal.proofs.Taken.{header_only, starts, goes_on, fault_at, next_taken, no_record, read_is}
 use Rattle.ckpt_journal.proofs.Crash.{one_more}
+use Rattle.ckpt_journal.proofs.Fits.{all_read_back}
 use Rattle.ckpt_journal.specs.Reading.{block_at}
 use Rattle.ckpt_journal.specs.declared.record.Record.{Record}
 use Rattle.ckpt_journal.proofs.reading.read_blocks.Goals as goal
@@ -54,3 +55,6 @@ pub returns-clause-exact : goal.returns-clause-exact
 returns-clause-exact c =
     let shut : get_or c.loop-rest.rest.now 0 0 ≢ 90 = c.loop-rest-test.false in
     read_is _ c.args.bytes.now c.loop-rest.rest.now c.loop-rest.invariant.parts c.loop-rest.invariant.fits c.loop-rest.invariant.more shut
+
+pub returns-clause-readable : goal.returns-clause-readable
+returns-clause-readable c = all_read_back _ c.loop-rest.invariant.fits
