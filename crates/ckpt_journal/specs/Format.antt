@@ -44,7 +44,7 @@ fields_bytes (Gone uid) = text_bytes uid
 abbrev pub body : Record → List ℕ
 body r = kind_byte r ∷ fields_bytes r
 
--- what stands between two gates: the length of the body in 32 bits, and the body
+-- what is between two gates: the length of the body in 32 bits, and the body
 unfoldable pub block : Record → List ℕ
 block r = to_be_bytes w32 (length (body r)) ++ body r
 
@@ -53,7 +53,7 @@ abbrev pub blocks : List Record → List ℕ
 blocks [] = []
 blocks (r ∷ rs) = 90 ∷ block r ++ blocks rs
 
--- all that stands before the first closed gate
+-- all that comes before the first closed gate
 abbrev pub front : List Record → List ℕ
 front rs = header ++ blocks rs
 

@@ -6,7 +6,7 @@ use Rattle.object_fields.specs.Keys.{device_text, key_text}
 use Rattle.object_fields.specs.declared.key.Key.{Key}
 use Rattle.object_fields.specs.declared.key.DeviceId.{DeviceId}
 
--- the offset of the first slash, the first of these bytes standing at this offset
+-- the offset of the first slash, where the first of these bytes has this offset
 abbrev pub first_slash_from : ℕ → List ℕ → Option ℕ
 first_slash_from at [] = None
 first_slash_from at (b ∷ bs) = if b == 47 then Some at else first_slash_from (at + 1) bs

@@ -1,4 +1,4 @@
--- What the bytes of a journal stand for.
+-- What the bytes of a journal mean.
 use Rattle.std.specs.Prelude.{◌≡◌, ℕ, zero, suc, ◌+◌, ◌-◌, List, [], ◌∷◌, ◌++◌, length, take, drop, Option, Some, None, option_and_then, option_map, Result, Ok, Err, nat_lt, nat_le, if◌then◌else◌, ◌==◌}
 use Rattle.std.specs.Int.{w16, w32, from_be_bytes}
 use Rattle.object_fields.specs.declared.key.Key.{Key}
@@ -11,7 +11,7 @@ use Rattle.ckpt_journal.specs.declared.record.Claim.{Claim}
 use Rattle.ckpt_journal.specs.declared.record.Record.{Record}
 use Rattle.ckpt_journal.specs.declared.record.Record.TheVariants.{Begun, Prepared, Leaving, Gone}
 
--- ---- the parts of a body, each with what stands behind it
+-- ---- the parts of a body, each with what follows it
 
 -- a number of 16 bits
 unfoldable pub count_at : List ℕ → Option (ℕ × List ℕ)
@@ -48,7 +48,7 @@ claim_with uid key pods = option_map (λ x. (record { uid = uid; key = key; pods
 unfoldable pub claim_at : List ℕ → Option (Claim × List ℕ)
 claim_at bytes = option_and_then (λ u. option_and_then (λ k. option_and_then (claim_with u.0 k.0) (names_at key_read k.1)) (name_at key_read u.1)) (name_at text_read bytes)
 
--- what was read, if nothing stands behind it
+-- what was read, if nothing follows it
 abbrev pub alone : {A : Type 0} → A × List ℕ → Option A
 alone (a, []) = Some a
 alone (a, b ∷ bs) = None
@@ -70,7 +70,7 @@ record_of (kind ∷ fields) =
 
 -- ---- gates and records
 
--- the record of a body, with what stands behind it
+-- the record of a body, with what follows it
 abbrev pub with_rest : List ℕ → Option Record → Option (Record × List ℕ)
 with_rest rest None = None
 with_rest rest (Some r) = Some (r, rest)
@@ -91,8 +91,8 @@ abbrev pub if_block : ℕ → (List ℕ → Result (List Record) ℕ) → Option
 if_block left next None = Err left
 if_block left next (Some x) = with_front x.0 (next x.1)
 
--- The records of bytes that begin with a gate, at most so many. An error says how many bytes stand from
--- its gate on.
+-- The records of bytes that begin with a gate, at most so many. An error says how many bytes there are
+-- from its gate on.
 abbrev pub records_from : ℕ → List ℕ → Result (List Record) ℕ
 records_from _ [] = Err 0
 records_from zero (gate ∷ bytes) = Err (length bytes + 1)

@@ -1,4 +1,4 @@
--- What a disk stands for, and what a crash leaves of it.
+-- Which records a disk has, and what a crash leaves of it.
 use Rattle.std.specs.Prelude.{◌≡◌, ◌≢◌, ◌⊎◌, ℕ, ◌<◌, get_or, take, List, [], ◌∷◌, ◌++◌, length, Option, Some, None, Result, Ok, Err, IsTrue}
 use Rattle.std.specs.List.{AllByRecursion}
 use Rattle.dra_ports.specs.DiskContent.{Content, exactly}
@@ -46,7 +46,7 @@ pub record Staged (rs : List Record) (item : Record) (end : ℕ) (c : Content) :
   pub fits : AllByRecursion Fits rs
   pub sure : IsTrue c.honest → c.sure ≡ exactly c.bytes
 
--- the same as `Settled` without what stands behind the records, so that it has one proof at most
+-- the same as `Settled` without what follows the records, so that it has one proof at most
 abbrev pub IsSettled : List Record → ℕ → Content → Type 0
 IsSettled rs end c =
     (end < length c.bytes) × (get_or c.bytes end 90 ≢ 90) × (take end c.bytes ≡ front rs) × AllByRecursion Fits rs × (IsTrue c.honest → c.sure ≡ exactly c.bytes)
@@ -59,11 +59,11 @@ pub record IsSpelled (rs : List Record) (bytes : List ℕ) : Type 0 where
   pub parts : bytes ≡ front rs ++ gate ∷ tail
   pub fits : AllByRecursion Fits rs
 
--- these records stand in the bytes, with the first closed gate at this offset
+-- the bytes have these records, with the first closed gate at this offset
 abbrev pub EndsAt : List Record → ℕ → List ℕ → Type 0
 EndsAt rs end bytes = (end < length bytes) × (get_or bytes end 90 ≢ 90) × (take end bytes ≡ front rs) × AllByRecursion Fits rs
 
--- what a call returned is what the bytes stand for, unless memory ran out or the disk failed
+-- what a call returned is what the bytes mean, unless memory ran out or the disk failed
 abbrev pub Returns : {X : Type 0} → (X → List Record) → Result X JournalError → Result (List Record) ℕ → Type 0
 Returns records_of (Ok x) read = read ≡ Ok (records_of x)
 Returns records_of (Err (NotAJournal at)) read = read ≡ Err at

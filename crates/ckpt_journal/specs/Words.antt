@@ -10,6 +10,6 @@ disk_of j = j.disk
 abbrev pub has_ended : {D : Type 0} {ghosts : Ghosts D} → Journal D ghosts → Bool
 has_ended j = j.ended
 
--- where its first closed gate stands
+-- the offset of its first closed gate
 abbrev pub place_of : {D : Type 0} {ghosts : Ghosts D} → Journal D ghosts → ℕ
 place_of j = j.end

@@ -9,7 +9,7 @@ use thiserror::Error;
 /// Why a journal did not do what it was asked.
 #[derive(Clone, Copy, Debug, PartialEq, Eq, Drop, Error)]
 pub enum JournalError {
-    /// The disk failed: its count of faults rose, or stands at its last value. A journal that was
+    /// The disk failed: its count of faults rose, or is at its last value, 2^64-1. A journal that was
     /// open has ended.
     #[error("the disk failed")]
     DiskFault,

@@ -16,13 +16,13 @@ pub trait Named: Sized {
     /// The printed form.
     ghost text: { Self → List ℕ };
 
-    /// What bytes read as.
+    /// What bytes are read as.
     ghost reading: { List ℕ → Option Self };
 
     /// Whether its parts are texts.
     ghost is_text: { Self → Bool };
 
-    /// What these bytes, the whole of the text, read as.
+    /// What these bytes, which are the whole of the text, are read as.
     fn read(alloc: Global, bytes: &[u8]) -> Result<Self, Unread>
         ensures { Reads result (reading bytes.now) };
 
@@ -36,7 +36,7 @@ pub trait Named: Sized {
         ensures is_text { OnOk result (is_text self.now ≡ true) };
 }
 
-/// The text of these bytes, which are UTF-8.
+/// These bytes as a text, if they are UTF-8.
 #[tactic(auto, using(crate::proofs::Names::text_is, crate::proofs::Names::no_text))]
 fn read_text(alloc: Global, bytes: &[u8]) -> Result<Text, Unread>
     ensures { Reads result (text_read bytes.now) }

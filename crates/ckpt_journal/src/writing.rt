@@ -61,11 +61,11 @@ pub fn write<D: Disk>(disk: &mut D, end: u64, bytes: &[u8]) -> Result<(), PortEr
     Ok(())
 }
 
-/// Makes a journal of no record out of whatever the disk holds, and makes it stable. The promise of a
-/// journal's records begins once this has returned `Ok`.
+/// Makes a journal of no record out of whatever the disk holds, and makes it stable. Before this has
+/// returned `Ok` a crash may leave anything.
 ///
-/// `DiskFault` alone is an error, and comes only where the disk's count of faults rose in this call.
-/// With `Ok` the count stays. Takes no memory of its own.
+/// The only error is `DiskFault`, and only where the disk's count of faults rose in this call. With
+/// `Ok` the count stays. Takes no memory.
 pub fn format<D: Disk>(disk: &mut D) -> Result<(), JournalError>
     ensures ok { OnOk result (IfSome (D.content disk.new) (Keeps [])) }
     ensures no_fault { OnOk result (D.faults disk.new ≡ D.faults disk.old) }

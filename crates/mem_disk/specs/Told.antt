@@ -22,7 +22,7 @@ moments_of d = (content_of d).earlier ++ (content_of d).sure ∷ []
 abbrev pub disk_plan : MemDisk → Plan
 disk_plan d = plan_of d.failures
 
--- with one more call that may take memory: where it failed without standing in the list, it found none
+-- with one more call that may take memory: where it failed and the list does not name it, it got none
 abbrev pub after_change : {T E : Type 0} → Plan → Result T E → Plan
 after_change p (Ok x) = after_call p
 after_change p (Err e) = if fails_next p then after_call p else after_fault (after_call p)

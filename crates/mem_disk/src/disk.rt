@@ -22,7 +22,7 @@ pub struct MemDisk {
 }
 
 impl MemDisk {
-    /// A disk with these bytes, all of them sure. The calls whose numbers, from 1, stand in
+    /// A disk with these bytes, all of them sure. The calls whose numbers, from 1, are in
     /// `failing` fail. `AllocError` comes only where memory runs out.
     pub fn new(alloc: Global, bytes: Vec<u8>, failing: Vec<u64>) -> Result<MemDisk, AllocError>
         ensures bytes { IfOk result (λ d. (content_of d).bytes ≡ bytes.items) }
@@ -102,7 +102,7 @@ impl MemDisk {
     }
 }
 
-/// A call whose number stands in the list of those that fail returns `Failed` and changes nothing
+/// A call whose number is in the list of those that fail returns `Failed` and changes nothing
 /// but the counts. Each other call succeeds, but for a write, a cut or a sync that gets no memory:
 /// then too only the counts change.
 impl Disk for MemDisk {

@@ -12,8 +12,8 @@ const PICKS: u64 = 8;
 pub struct Moment {
     /// What a read gives.
     pub bytes: Vec<u8>,
-    /// At each place up to the old end the byte that a crash can't change, or `None` where any byte
-    /// may stand.
+    /// At each place up to the old end the byte that a crash can't change, or `None` where it may be any
+    /// byte.
     pub places: Vec<Option<u8>>,
     /// Whether a crash may leave bytes past the places.
     pub longer: bool,

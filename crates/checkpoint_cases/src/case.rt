@@ -1,0 +1,154 @@
+ghost use Rattle.std.specs.List.{AllByRecursion};
+ghost use Rattle.ckpt_journal.specs.Format.{ReadsBack};
+
+use crate::crashes::crashes;
+use crate::faults::faults;
+use crate::files::{counted, disk_of, listed, records_of, word};
+use crate::hex::{from_hex, to_hex};
+use ckpt_journal::{Journal, JournalError, Record, format as format_disk};
+use dra_values::Text;
+use mem_disk::MemDisk;
+use std::alloc::{AllocError, Global};
+
+/// A journal of no record.
+pub fn fresh(
+    alloc: Global,
+    failing: Vec<u64>,
+) -> Result<Result<Journal<MemDisk>, JournalError>, AllocError> {
+    let mut disk = MemDisk::new(alloc, Vec::new(alloc), failing)?;
+    if let Err(error) = format_disk(&mut disk) {
+        return Ok(Err(error));
+    }
+    match Journal::open(alloc, disk) {
+        Ok((journal, _records)) => Ok(Ok(journal)),
+        Err(unopened) => Ok(Err(unopened.why)),
+    }
+}
+
+/// Appends records one after another, up to the first error.
+pub fn append_each(
+    alloc: Global,
+    journal: &mut Journal<MemDisk>,
+    items: &[Record],
+) -> Result<(), JournalError>
+    requires { AllByRecursion ReadsBack items.now }
+{
+    for item in items {
+        journal.append(alloc, item)?;
+    }
+    Ok(())
+}
+
+/// The bytes of a journal of these records, or the word of the error.
+fn written(alloc: Global, items: &[Record]) -> Result<String, AllocError>
+    requires { AllByRecursion ReadsBack items.now }
+{
+    match fresh(alloc, Vec::new(alloc))? {
+        Ok(mut journal) => match append_each(alloc, &mut journal, items) {
+            Ok(()) => to_hex(alloc, journal.close().bytes()),
+            Err(error) => word(alloc, error),
+        },
+        Err(error) => word(alloc, error),
+    }
+}
+
+/// The bytes of a new journal to which the records of a file are appended.
+fn copied(alloc: Global, bytes: Vec<u8>) -> Result<String, AllocError> {
+    match records_of(alloc, disk_of(alloc, bytes)?)? {
+        Ok(records) => written(alloc, &records),
+        Err(word) => Ok(word),
+    }
+}
+
+/// The bytes that are left of a file when it is formatted.
+fn formatted(alloc: Global, bytes: Vec<u8>) -> Result<String, AllocError> {
+    let mut disk = disk_of(alloc, bytes)?;
+    match format_disk(&mut disk) {
+        Ok(()) => to_hex(alloc, disk.bytes()),
+        Err(error) => word(alloc, error),
+    }
+}
+
+/// What becomes of a file of each length, for runs of lengths of which the same does.
+fn by_length(alloc: Global, bytes: &[u8]) -> Result<String, AllocError> {
+    let mut text = String::new(alloc);
+    let mut before = String::new(alloc);
+    for len in 0..=bytes.len() {
+        let found = counted(alloc, disk_of(alloc, bytes[..len].to_vec(alloc)?)?)?;
+        if found.as_str() != before.as_str() {
+            text.push_str(format!(in alloc; "{len}:{found} ")?.as_str())?;
+            before = found;
+        }
+    }
+    Ok(text)
+}
+
+/// The length of a journal to which the record that a claim of a uid of so many bytes is gone was
+/// appended, and the number of records then, or the word of the error.
+fn long_uid(alloc: Global, len: usize) -> Result<String, AllocError> {
+    let mut chars = String::new(alloc);
+    for _at in 0..len {
+        chars.push('u')?;
+    }
+    let item = Record::Gone(Text::new(chars));
+    match fresh(alloc, Vec::new(alloc))? {
+        Ok(mut journal) => match journal.append(alloc, &item) {
+            Ok(()) => {
+                let disk = journal.close();
+                let bytes = disk.bytes().len();
+                Ok(format!(in alloc; "{bytes} {}", counted(alloc, disk)?)?)
+            }
+            Err(error) => word(alloc, error),
+        },
+        Err(error) => word(alloc, error),
+    }
+}
+
+fn of_records(alloc: Global, kind: &str, bytes: Vec<u8>) -> Result<String, AllocError> {
+    match records_of(alloc, disk_of(alloc, bytes)?)? {
+        Ok(records) => {
+            if kind == "faults" {
+                faults(alloc, &records)
+            } else {
+                crashes(alloc, &records)
+            }
+        }
+        Err(word) => Ok(word),
+    }
+}
+
+fn of_bytes(alloc: Global, kind: &str, bytes: Vec<u8>) -> Result<String, AllocError> {
+    if kind == "open" {
+        listed(alloc, bytes)
+    } else if kind == "copy" {
+        copied(alloc, bytes)
+    } else if kind == "format" {
+        formatted(alloc, bytes)
+    } else if kind == "lengths" {
+        by_length(alloc, &bytes)
+    } else if kind == "faults" || kind == "crashes" {
+        of_records(alloc, kind, bytes)
+    } else {
+        String::from_str(alloc, "no case")
+    }
+}
+
+/// The line of a case.
+pub fn answer(alloc: Global, line: &str) -> Result<String, AllocError> {
+    if line.is_empty() || line.starts_with('#') {
+        return String::from_str(alloc, line);
+    }
+    match line.split_once(' ') {
+        Some((kind, word)) => {
+            if kind == "long" {
+                match word.parse::<usize>() {
+                    Ok(len) => long_uid(alloc, len),
+                    Err(_) => String::from_str(alloc, "no case"),
+                }
+            } else {
+                of_bytes(alloc, kind, from_hex(alloc, word)?)
+            }
+        }
+        None => String::from_str(alloc, "no case"),
+    }
+}
