@@ -23,10 +23,7 @@ pub fn disk_of(alloc: Global, bytes: Vec<u8>) -> Result<MemDisk, AllocError> {
 }
 
 /// The records of a disk, or the word of the error.
-pub fn records_of(
-    alloc: Global,
-    disk: MemDisk,
-) -> Result<Result<Vec<Record>, String>, AllocError>
+pub fn records_of(alloc: Global, disk: MemDisk) -> Result<Result<Vec<Record>, String>, AllocError>
     ensures { IfOk result (λ read. IfOk read (λ rs. AllByRecursion ReadsBack rs.items)) }
 {
     match Journal::open(alloc, disk) {
