@@ -1,0 +1,67 @@
+/// How a script is run.
+#[derive(Clone, Copy, Drop)]
+pub struct Options {
+    /// The most entries of the history.
+    pub entries: u64,
+    /// The most bytes that a read gives.
+    pub pieces: u64,
+    /// The most bytes that a write takes.
+    pub takes: u64,
+    /// The number of the read that fails, from 1, or 0.
+    pub fail_read: u64,
+    /// The number of the write that fails, from 1, or 0.
+    pub fail_write: u64,
+}
+
+impl Options {
+    /// The options of the program `dra`, whose input and output don't fail.
+    fn plain() -> Self {
+        Options {
+            entries: 1_000_000,
+            pieces: 65_536,
+            takes: u64::MAX,
+            fail_read: 0,
+            fail_write: 0,
+        }
+    }
+
+    /// The options with one changed by a word such as `pieces=7`.
+    fn with_word(self, word: &str) -> Option<Self> {
+        let (key, number) = word.split_once('=')?;
+        let number = number.parse::<u64>().ok()?;
+        match key {
+            "entries" => Some(Options {
+                entries: number,
+                ..self
+            }),
+            "pieces" => Some(Options {
+                pieces: number,
+                ..self
+            }),
+            "takes" => Some(Options {
+                takes: number,
+                ..self
+            }),
+            "fail-read" => Some(Options {
+                fail_read: number,
+                ..self
+            }),
+            "fail-write" => Some(Options {
+                fail_write: number,
+                ..self
+            }),
+            _ => None,
+        }
+    }
+
+    /// Reads options, with a space between two.
+    pub fn read(words: &str) -> Option<Self> {
+        let mut options = Options::plain();
+        for word in words.split(' ') {
+            if !word.is_empty() {
+                options = options.with_word(word)?;
+            }
+        }
+        Some(options)
+    }
+}

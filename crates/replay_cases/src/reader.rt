@@ -1,0 +1,40 @@
+ghost use Rattle.std.specs.Prelude.{◌≤◌, length};
+
+/// The bytes of a container that are left.
+#[derive(Drop)]
+pub struct Reader<'a> {
+    bytes: &'a [u8],
+}
+
+/// How many bytes stand before the first line end, or how many there are.
+fn line_length(bytes: &[u8]) -> usize
+    ensures { result ≤ length bytes.now }
+{
+    bytes.iter().take_while(|byte| **byte != b'\n').count()
+}
+
+impl<'a> Reader<'a> {
+    pub fn new(bytes: &'a [u8]) -> Self {
+        Reader { bytes }
+    }
+
+    /// The next line without its line end, or None at the end.
+    pub fn next_line(&mut self) -> Option<&'a [u8]> {
+        if self.bytes.is_empty() {
+            return None;
+        }
+        let (line, rest) = self.bytes.split_at(line_length(self.bytes));
+        self.bytes = rest.get(1..).unwrap_or(&[]);
+        Some(line)
+    }
+
+    /// The next bytes, so many, and goes over the line end behind them. None where there are fewer.
+    pub fn next_bytes(&mut self, count: usize) -> Option<&'a [u8]> {
+        if self.bytes.len() < count {
+            return None;
+        }
+        let (bytes, rest) = self.bytes.split_at(count);
+        self.bytes = rest.get(1..).unwrap_or(&[]);
+        Some(bytes)
+    }
+}
