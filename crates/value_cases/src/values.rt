@@ -1,0 +1,132 @@
+use crate::input::{CaseError, items, number_at, text, text_at};
+use dra_values::{Duplicate, Seq, Table, Text};
+use serde_json::Value;
+use std::alloc::{AllocError, Global};
+
+pub fn answer(alloc: Global, word: &str, input: &Value) -> Result<String, CaseError> {
+    match word {
+        "text" => Ok(text_forms(alloc, text(input)?)?),
+        "order" => Ok(order(alloc, text_at(input, 0)?, text_at(input, 1)?)?),
+        "list" => list(alloc, input),
+        "table" => table(alloc, input),
+        _ => Err(CaseError::BadCase),
+    }
+}
+
+/// A text's copy in quotes, the text at the right of eight places, and the text.
+fn text_forms(alloc: Global, chars: &str) -> Result<String, AllocError> {
+    let text = Text::from_str(alloc, chars)?;
+    let copy = text.duplicate(alloc)?;
+    let mut answer = format!(in alloc; "{copy:?} [{text:>8}] ")?;
+    answer.push_str(Text::new(text.into_string()).as_str())?;
+    Ok(answer)
+}
+
+/// Whether two texts are equal, and how they compare.
+fn order(alloc: Global, left: &str, right: &str) -> Result<String, AllocError> {
+    let left = Text::from_str(alloc, left)?;
+    let right = Text::from_str(alloc, right)?;
+    let order = left.cmp(&right);
+    let equal = left == right;
+    format!(in alloc; "{order:?} {equal}")
+}
+
+/// The numbers of a list, pushed one after another, copied, and taken out and put in again.
+fn list(alloc: Global, input: &Value) -> Result<String, CaseError> {
+    let mut numbers: Seq<u64> = Seq::empty(alloc);
+    for place in 0..items(input)?.len() {
+        numbers.push(number_at(input, place)?)?;
+    }
+    Ok(list_text(alloc, numbers)?)
+}
+
+fn list_text(alloc: Global, numbers: Seq<u64>) -> Result<String, AllocError> {
+    let copy = numbers.duplicate(alloc)?;
+    let equal = copy == numbers;
+    let numbers = Seq::new(numbers.into_vec());
+    format!(in alloc; "{numbers:?} {equal}")
+}
+
+/// What each step on a table of numbers answers, one after another: `["insert", key, number]`,
+/// `["set", key, number]`, `["get", key]`, `["remove", key]` or `["print"]`.
+fn table(alloc: Global, input: &Value) -> Result<String, CaseError> {
+    let mut numbers = Table::new(alloc);
+    let mut answer = String::new(alloc);
+    for step in items(input)? {
+        table_step(alloc, &mut numbers, step, &mut answer)?;
+    }
+    Ok(answer)
+}
+
+fn table_step(
+    alloc: Global,
+    numbers: &mut Table<Text, u64>,
+    step: &Value,
+    answer: &mut String,
+) -> Result<(), CaseError> {
+    match text_at(step, 0)? {
+        "insert" => insert(alloc, numbers, text_at(step, 1)?, number_at(step, 2)?),
+        "set" => set(alloc, numbers, text_at(step, 1)?, number_at(step, 2)?),
+        "get" => Ok(get(alloc, numbers, text_at(step, 1)?, answer)?),
+        "remove" => Ok(remove(alloc, numbers, text_at(step, 1)?, answer)?),
+        "print" => Ok(print(alloc, numbers, answer)?),
+        _ => Err(CaseError::BadCase),
+    }
+}
+
+fn insert(
+    alloc: Global,
+    numbers: &mut Table<Text, u64>,
+    key: &str,
+    number: u64,
+) -> Result<(), CaseError> {
+    let key = Text::from_str(alloc, key)?;
+    Ok(numbers.insert(key, number)?)
+}
+
+fn set(
+    alloc: Global,
+    numbers: &mut Table<Text, u64>,
+    key: &str,
+    number: u64,
+) -> Result<(), CaseError> {
+    let key = Text::from_str(alloc, key)?;
+    match numbers.get_mut(&key) {
+        Some(place) => {
+            *place = number;
+            Ok(())
+        }
+        None => Err(CaseError::BadCase),
+    }
+}
+
+fn get(
+    alloc: Global,
+    numbers: &Table<Text, u64>,
+    key: &str,
+    answer: &mut String,
+) -> Result<(), AllocError> {
+    let key = Text::from_str(alloc, key)?;
+    let there = numbers.contains_key(&key);
+    let number = numbers.get(&key);
+    write!(answer, "{there} {number:?};")
+}
+
+fn remove(
+    alloc: Global,
+    numbers: &mut Table<Text, u64>,
+    key: &str,
+    answer: &mut String,
+) -> Result<(), AllocError> {
+    let key = Text::from_str(alloc, key)?;
+    let number = numbers.remove(&key);
+    write!(answer, "{number:?};")
+}
+
+/// The table by a copy of it, and how many entries it has.
+fn print(alloc: Global, numbers: &Table<Text, u64>, answer: &mut String) -> Result<(), AllocError> {
+    let copy = Table::from_map(numbers.copy(alloc)?.into_map());
+    let equal = copy == *numbers;
+    let (count, empty) = (copy.len(), copy.is_empty());
+    write!(answer, "{copy:?} {equal} {count} {empty};")
+}
