@@ -3,7 +3,8 @@ use crate::input::{CaseError, text, text_at};
 use api_slice::Properties;
 use cel_meaning::{Connective, connective_of};
 use cel_tree::called_of;
-use cel_value::EvalError;
+use cel_value::{DeviceEnv, EvalError};
+use dra_values::{Table, Text};
 use serde_json::Value;
 use std::alloc::{AllocError, Global};
 
@@ -12,6 +13,7 @@ pub fn answer(alloc: Global, word: &str, input: &Value) -> Result<String, CaseEr
     match word {
         "called" => Ok(called(alloc, text(input)?)?),
         "connective" => joined(alloc, input),
+        "device" => Ok(device(alloc, text(input)?)?),
         "no_properties" => Ok(no_properties(alloc)?),
         _ => Err(CaseError::BadCase),
     }
@@ -62,4 +64,13 @@ fn no_properties(alloc: Global) -> Result<String, AllocError> {
     let none = Properties::none(alloc);
     let (attributes, capacity) = (none.attributes().is_empty(), none.capacity().is_empty());
     format!(in alloc; "{attributes} {capacity}")
+}
+
+/// The driver of a device with no attributes and no capacities, or `none` where a limit is broken.
+fn device(alloc: Global, driver: &str) -> Result<String, AllocError> {
+    let driver = Text::from_str(alloc, driver)?;
+    match DeviceEnv::checked(driver, Table::new(alloc), Table::new(alloc)) {
+        Some(device) => format!(in alloc; "{}", device.driver()),
+        None => String::from_str(alloc, "none"),
+    }
 }

@@ -1,4 +1,4 @@
-use crate::input::{CaseError, items, number_at, text, text_at};
+use crate::input::{CaseError, item, items, number_at, text, text_at};
 use dra_values::{Duplicate, Seq, Table, Text};
 use serde_json::Value;
 use std::alloc::{AllocError, Global};
@@ -31,20 +31,28 @@ fn order(alloc: Global, left: &str, right: &str) -> Result<String, AllocError> {
     format!(in alloc; "{order:?} {equal}")
 }
 
-/// The numbers of a list, pushed one after another, copied, and taken out and put in again.
+/// The pairs of a list, each a number and a truth, pushed one after another, copied, and taken out
+/// and put in again.
 fn list(alloc: Global, input: &Value) -> Result<String, CaseError> {
-    let mut numbers: Seq<u64> = Seq::empty(alloc);
-    for place in 0..items(input)?.len() {
-        numbers.push(number_at(input, place)?)?;
+    let mut pairs = Seq::empty(alloc);
+    for pair in items(input)? {
+        pairs.push((number_at(pair, 0)?, truth_at(pair, 1)?))?;
     }
-    Ok(list_text(alloc, numbers)?)
+    Ok(list_text(alloc, pairs)?)
 }
 
-fn list_text(alloc: Global, numbers: Seq<u64>) -> Result<String, AllocError> {
-    let copy = numbers.duplicate(alloc)?;
-    let equal = copy == numbers;
-    let numbers = Seq::new(numbers.into_vec());
-    format!(in alloc; "{numbers:?} {equal}")
+fn truth_at(value: &Value, place: usize) -> Result<bool, CaseError> {
+    match item(value, place)?.as_bool() {
+        Some(truth) => Ok(truth),
+        None => Err(CaseError::BadCase),
+    }
+}
+
+fn list_text(alloc: Global, pairs: Seq<(u64, bool)>) -> Result<String, AllocError> {
+    let copy = pairs.duplicate(alloc)?;
+    let equal = copy == pairs;
+    let pairs = Seq::new(pairs.into_vec());
+    format!(in alloc; "{pairs:?} {equal}")
 }
 
 /// What each step on a table of numbers answers, one after another: `["insert", key, number]`,
