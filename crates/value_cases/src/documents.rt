@@ -1,6 +1,6 @@
 use crate::fields::error_text;
 use crate::input::{CaseError, json, text};
-use alloc_rules::Object;
+use cluster::Object;
 use commands::{Command, read_commands};
 use std::alloc::{AllocError, Global};
 
