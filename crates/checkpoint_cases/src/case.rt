@@ -5,50 +5,19 @@ use crate::crashes::crashes;
 use crate::faults::faults;
 use crate::files::{counted, disk_of, listed, records_of, word};
 use crate::hex::{from_hex, to_hex};
-use ckpt_journal::{Journal, JournalError, Record, format as format_disk};
+use crate::runs::run;
+use ckpt_journal::{Record, format as format_disk};
 use dra_values::Text;
-use mem_disk::MemDisk;
 use std::alloc::{AllocError, Global};
-
-/// A journal of no record.
-pub fn fresh(
-    alloc: Global,
-    failing: Vec<u64>,
-) -> Result<Result<Journal<MemDisk>, JournalError>, AllocError> {
-    let mut disk = MemDisk::new(alloc, Vec::new(alloc), failing)?;
-    if let Err(error) = format_disk(&mut disk) {
-        return Ok(Err(error));
-    }
-    match Journal::open(alloc, disk) {
-        Ok((journal, _records)) => Ok(Ok(journal)),
-        Err(unopened) => Ok(Err(unopened.why)),
-    }
-}
-
-/// Appends records one after another, up to the first error.
-pub fn append_each(
-    alloc: Global,
-    journal: &mut Journal<MemDisk>,
-    items: &[Record],
-) -> Result<(), JournalError>
-    requires { AllByRecursion ReadsBack items.now }
-{
-    for item in items {
-        journal.append(alloc, item)?;
-    }
-    Ok(())
-}
 
 /// The bytes of a journal of these records, or the word of the error.
 fn written(alloc: Global, items: &[Record]) -> Result<String, AllocError>
     requires { AllByRecursion ReadsBack items.now }
 {
-    match fresh(alloc, Vec::new(alloc))? {
-        Ok(mut journal) => match append_each(alloc, &mut journal, items) {
-            Ok(()) => to_hex(alloc, journal.close().bytes()),
-            Err(error) => word(alloc, error),
-        },
-        Err(error) => word(alloc, error),
+    let run = run(alloc, items, Vec::new(alloc))?;
+    match run.error {
+        None => to_hex(alloc, run.disk.bytes()),
+        Some(error) => word(alloc, error),
     }
 }
 
@@ -83,25 +52,29 @@ fn by_length(alloc: Global, bytes: &[u8]) -> Result<String, AllocError> {
     Ok(text)
 }
 
-/// The length of a journal to which the record that a claim of a uid of so many bytes is gone was
-/// appended, and the number of records then, or the word of the error.
+/// The length of a journal of one record, and the number of records read from it, or the word of the
+/// error.
+fn lengths(alloc: Global, item: Record) -> Result<String, AllocError>
+    requires { ReadsBack item }
+{
+    let items = vec![in alloc; item]?;
+    let run = run(alloc, &items, Vec::new(alloc))?;
+    match run.error {
+        None => {
+            let bytes = run.disk.bytes().len();
+            Ok(format!(in alloc; "{bytes} {}", counted(alloc, run.disk)?)?)
+        }
+        Some(error) => word(alloc, error),
+    }
+}
+
+/// The same of the record that a claim of a uid of so many bytes is gone.
 fn long_uid(alloc: Global, len: usize) -> Result<String, AllocError> {
     let mut chars = String::new(alloc);
     for _at in 0..len {
         chars.push('u')?;
     }
-    let item = Record::Gone(Text::new(chars));
-    match fresh(alloc, Vec::new(alloc))? {
-        Ok(mut journal) => match journal.append(alloc, &item) {
-            Ok(()) => {
-                let disk = journal.close();
-                let bytes = disk.bytes().len();
-                Ok(format!(in alloc; "{bytes} {}", counted(alloc, disk)?)?)
-            }
-            Err(error) => word(alloc, error),
-        },
-        Err(error) => word(alloc, error),
-    }
+    lengths(alloc, Record::Gone(Text::new(chars)))
 }
 
 fn of_records(alloc: Global, kind: &str, bytes: Vec<u8>) -> Result<String, AllocError> {

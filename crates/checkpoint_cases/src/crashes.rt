@@ -3,8 +3,8 @@ ghost use Rattle.std.specs.List.{AllByRecursion};
 ghost use Rattle.ckpt_journal.specs.Format.{ReadsBack};
 ghost use Rattle.mem_disk.specs.Told.{moments_of};
 
-use crate::case::{append_each, fresh};
 use crate::files::{records_of, word};
+use crate::runs::run;
 use ckpt_journal::Record;
 use mem_disk::MemDisk;
 use std::alloc::{AllocError, Global};
@@ -42,12 +42,10 @@ fn at_moment(alloc: Global, disk: &MemDisk, at: usize) -> Result<String, AllocEr
 pub fn crashes(alloc: Global, items: &[Record]) -> Result<String, AllocError>
     requires { AllByRecursion ReadsBack items.now }
 {
-    match fresh(alloc, Vec::new(alloc))? {
-        Ok(mut journal) => match append_each(alloc, &mut journal, items) {
-            Ok(()) => each_moment(alloc, &journal.close()),
-            Err(error) => word(alloc, error),
-        },
-        Err(error) => word(alloc, error),
+    let run = run(alloc, items, Vec::new(alloc))?;
+    match run.error {
+        None => each_moment(alloc, &run.disk),
+        Some(error) => word(alloc, error),
     }
 }
 

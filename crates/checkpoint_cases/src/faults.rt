@@ -1,10 +1,9 @@
 ghost use Rattle.std.specs.List.{AllByRecursion};
 ghost use Rattle.ckpt_journal.specs.Format.{ReadsBack};
 
-use crate::case::{append_each, fresh};
 use crate::files::counted;
-use ckpt_journal::{JournalError, Record};
-use dra_values::Text;
+use crate::runs::run;
+use ckpt_journal::Record;
 use std::alloc::{AllocError, Global};
 
 /// What becomes of a list of appends in which the disk's call of this number fails: `start` where the
@@ -13,20 +12,14 @@ use std::alloc::{AllocError, Global};
 fn with_fault(alloc: Global, items: &[Record], number: u64) -> Result<String, AllocError>
     requires { AllByRecursion ReadsBack items.now }
 {
-    match fresh(alloc, vec![in alloc; number]?)? {
-        Ok(mut journal) => match append_each(alloc, &mut journal, items) {
-            Ok(()) => String::from_str(alloc, "all"),
-            Err(_) => {
-                let next = journal.append(alloc, &Record::Gone(Text::from_str(alloc, "u")?));
-                let count = counted(alloc, journal.close())?;
-                if matches!(next, Err(JournalError::Closed)) {
-                    Ok(count)
-                } else {
-                    Ok(format!(in alloc; "{count}?")?)
-                }
-            }
-        },
-        Err(_) => String::from_str(alloc, "start"),
+    let run = run(alloc, items, vec![in alloc; number]?)?;
+    if !run.begun {
+        String::from_str(alloc, "start")
+    } else if run.error.is_none() {
+        String::from_str(alloc, "all")
+    } else {
+        let mark = if run.closed { "" } else { "?" };
+        Ok(format!(in alloc; "{}{mark}", counted(alloc, run.disk)?)?)
     }
 }
 

@@ -8,6 +8,7 @@ mod crashes;
 mod faults;
 mod files;
 mod hex;
+mod runs;
 
 use std::io;
 
