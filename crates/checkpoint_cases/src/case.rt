@@ -5,7 +5,7 @@ use crate::crashes::crashes;
 use crate::faults::faults;
 use crate::files::{counted, disk_of, listed, records_of, word};
 use crate::hex::{from_hex, to_hex};
-use crate::runs::run;
+use crate::runs::run_appends;
 use ckpt_journal::{Record, format as format_disk};
 use dra_values::Text;
 use std::alloc::{AllocError, Global};
@@ -14,7 +14,7 @@ use std::alloc::{AllocError, Global};
 fn written(alloc: Global, items: &[Record]) -> Result<String, AllocError>
     requires { AllByRecursion ReadsBack items.now }
 {
-    let run = run(alloc, items, Vec::new(alloc))?;
+    let run = run_appends(alloc, items, Vec::new(alloc))?;
     match run.error {
         None => to_hex(alloc, run.disk.bytes()),
         Some(error) => word(alloc, error),
@@ -58,7 +58,7 @@ fn lengths(alloc: Global, item: Record) -> Result<String, AllocError>
     requires { ReadsBack item }
 {
     let items = vec![in alloc; item]?;
-    let run = run(alloc, &items, Vec::new(alloc))?;
+    let run = run_appends(alloc, &items, Vec::new(alloc))?;
     match run.error {
         None => {
             let bytes = run.disk.bytes().len();

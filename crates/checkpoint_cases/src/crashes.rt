@@ -4,7 +4,7 @@ ghost use Rattle.ckpt_journal.specs.Format.{ReadsBack};
 ghost use Rattle.mem_disk.specs.Told.{moments_of};
 
 use crate::files::{records_of, word};
-use crate::runs::run;
+use crate::runs::run_appends;
 use ckpt_journal::Record;
 use mem_disk::MemDisk;
 use std::alloc::{AllocError, Global};
@@ -42,7 +42,7 @@ fn at_moment(alloc: Global, disk: &MemDisk, at: usize) -> Result<String, AllocEr
 pub fn crashes(alloc: Global, items: &[Record]) -> Result<String, AllocError>
     requires { AllByRecursion ReadsBack items.now }
 {
-    let run = run(alloc, items, Vec::new(alloc))?;
+    let run = run_appends(alloc, items, Vec::new(alloc))?;
     match run.error {
         None => each_moment(alloc, &run.disk),
         Some(error) => word(alloc, error),

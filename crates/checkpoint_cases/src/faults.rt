@@ -2,7 +2,7 @@ ghost use Rattle.std.specs.List.{AllByRecursion};
 ghost use Rattle.ckpt_journal.specs.Format.{ReadsBack};
 
 use crate::files::counted;
-use crate::runs::run;
+use crate::runs::run_appends;
 use ckpt_journal::Record;
 use std::alloc::{AllocError, Global};
 
@@ -12,7 +12,7 @@ use std::alloc::{AllocError, Global};
 fn with_fault(alloc: Global, items: &[Record], number: u64) -> Result<String, AllocError>
     requires { AllByRecursion ReadsBack items.now }
 {
-    let run = run(alloc, items, vec![in alloc; number]?)?;
+    let run = run_appends(alloc, items, vec![in alloc; number]?)?;
     if !run.begun {
         String::from_str(alloc, "start")
     } else if run.error.is_none() {

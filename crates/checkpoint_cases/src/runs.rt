@@ -52,7 +52,7 @@ fn run_on(alloc: Global, mut journal: Journal<MemDisk>, items: &[Record]) -> Run
 }
 
 /// Appends records to a new journal on a disk whose calls of these numbers fail.
-pub fn run(alloc: Global, items: &[Record], failing: Vec<u64>) -> Result<Run, AllocError>
+pub fn run_appends(alloc: Global, items: &[Record], failing: Vec<u64>) -> Result<Run, AllocError>
     requires { AllByRecursion ReadsBack items.now }
 {
     let mut disk = MemDisk::new(alloc, Vec::new(alloc), failing)?;
