@@ -9,6 +9,7 @@ use Rattle.std.proofs.lemmas.List.Elements.{All-from_recursion, recursion_from_A
 use Rattle.std.proofs.lemmas.List.Folds.{list_any_at, list_any_none}
 use Rattle.walk.specs.Walk.{Open, IsChoice, IsAllocation as IsFilling}
 use Rattle.object_fields.specs.declared.key.DeviceId.{DeviceId}
+use Rattle.object_fields.specs.declared.key.Key.{Key}
 use Rattle.api_claim.specs.declared.types.ResourceClaim.{ResourceClaim}
 use Rattle.cluster.specs.declared.state.State.{State}
 use Rattle.cluster.specs.declared.plan.Grant.{Grant}
@@ -45,19 +46,24 @@ fits_both s o p d slot e f = ap (λ q. fits s q p) e ∙ ap (λ q. fits s (Some 
 same_both : (o p : Option Offered) (d e : Offered) → o ≡ Some d → p ≡ Some e → same_device o p ≡ device_eq (id_in d) (id_in e)
 same_both o p d e f g = ap (λ q. same_device q p) f ∙ ap (λ q. same_device (Some d) q) g
 
-not_held : (s : State) (d : DeviceId) → is_free s d ≡ true → Contains (held s) d → ⊥
+not_held : (s : State) (d : DeviceId) (k : Key) → is_free s d ≡ true → Contains (held s) (d, k) → ⊥
 unfolding is_free
-not_held s d e h =
-    let here : device_eq (get_or (held s) h.0 d) d ≡ true = ap (λ x. device_eq x d) h.2 ∙ device_eq-same d in
-    both_ways (list_any (λ x. device_eq x d) (held s)) (not-true (list_any (λ x. device_eq x d) (held s)) e) (list_any_at (λ x. device_eq x d) (held s) h.0 d h.1 here)
+not_held s d k e h =
+    let here : device_eq (get_or (held s) h.0 (d, k)).0 d ≡ true = ap (λ (x : DeviceId × Key). device_eq x.0 d) h.2 ∙ device_eq-same d in
+    both_ways (list_any (λ x. device_eq x.0 d) (held s)) (not-true (list_any (λ x. device_eq x.0 d) (held s)) e) (list_any_at (λ x. device_eq x.0 d) (held s) h.0 (d, k) h.1 here)
 
-pub free_from : (s : State) (d : DeviceId) → (Contains (held s) d → ⊥) → is_free s d ≡ true
+-- the first of a pair is this one
+paired : (p : DeviceId × Key) (d : DeviceId) → p.0 ≡ d → p ≡ (d, p.1)
+paired p d e = ap (λ (w : DeviceId). (w, p.1)) e
+
+pub free_from : (s : State) (d : DeviceId) → ((k : Key) → Contains (held s) (d, k) → ⊥) → is_free s d ≡ true
 unfolding is_free
 free_from s d h =
-    not_from_false (list_any (λ x. device_eq x d) (held s))
-    (list_any_none (λ x. device_eq x d) (held s)
-    (λ k e n. false_from_ne_true (device_eq (get_or (held s) k e) d)
-    (λ t. h (k, n, get_or_default (held s) k d e n ∙ same_from_device_eq (get_or (held s) k e) d t))))
+    not_from_false (list_any (λ x. device_eq x.0 d) (held s))
+    (list_any_none (λ x. device_eq x.0 d) (held s)
+    (λ i e n.
+    let p : DeviceId × Key = get_or (held s) i e in
+    false_from_ne_true (device_eq p.0 d) (λ t. h p.1 (i, n, get_or_default (held s) i (d, p.1) e n ∙ paired p d (same_from_device_eq p.0 d t)))))
 
 -- what a good list of positions says of its places
 record GoodAt (s : State) (ds : List Offered) (slots : List Slot) (l : List ℕ) (i : ℕ) : Type 0 where
@@ -125,10 +131,10 @@ allocation_from_filling s claims node choice l there_is f =
           yes_is (match_on s slot.request d) (meets s ds slots l i d slot (good i n) (at i d g).1 e).0;
       unfaulted = λ slot d n why among here. never_faults s slots ds shaped.0 slot d n why among here;
       distinct = λ i j d e h f g. apart s ds slots l i j d e h (at j e g).0 (good j (at j e g).0) (at i d f).1 (at j e g).1;
-      exclusive = λ i d e.
+      exclusive = λ i d k e.
           let n = (at i d e).0 in
           let t = there slots i (omega (arith, n, whole)) in
-          not_held s (id_in d) (meets s ds slots l i d t.0 (good i n) (at i d e).1 t.1).1;
+          not_held s (id_in d) k (meets s ds slots l i d t.0 (good i n) (at i d e).1 t.1).1;
     }
 
 pub filling_from_allocation : (s : State) (claims : List ResourceClaim) (node choice : List ℕ) (grants : List Grant) (a : IsAllocation s claims node choice grants)
@@ -147,7 +153,7 @@ filling_from_allocation s claims node choice grants a =
     let slot = there slots i (omega (arith, n, count)) in
     record {
       fitting = fits_both s (slice_get ds (get_or l i 0)) (slice_get slots i) d.0 slot.0 here slot.1
-          ∙ and_from (is_met s slot.0.request d.0) (is_free s (id_in d.0)) (ap is_yes (a.devices_match i slot.0 d.0 slot.1 (picked i d.0 d.1))) (free_from s (id_in d.0) (a.exclusive i d.0 (picked i d.0 d.1)));
+          ∙ and_from (is_met s slot.0.request d.0) (is_free s (id_in d.0)) (ap is_yes (a.devices_match i slot.0 d.0 slot.1 (picked i d.0 d.1))) (free_from s (id_in d.0) (λ k. a.exclusive i d.0 k (picked i d.0 d.1)));
       fresh = list_any_none (λ y. same_device (slice_get ds y) (slice_get ds (get_or l i 0))) (take i l)
           (λ k e m.
           let under : k < i = omega (arith, m, length-take-le i l (omega arith)) in

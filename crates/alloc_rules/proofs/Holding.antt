@@ -40,6 +40,7 @@ use Rattle.cluster.specs.Claims.{claim_keys, first_places}
 use Rattle.alloc_rules.specs.Rules.{ids_of, grants_for, results_for}
 use Rattle.alloc_rules.specs.Plans.{Holds}
 use Rattle.cluster.specs.Held.{HeldOnce}
+use Rattle.alloc_rules.proofs.HeldIds.{Claims, at_map, first_of, held_in, holder_of, ids_of_held, mapped_at}
 use Rattle.alloc_rules.proofs.Picked.{Contains-from_get}
 
 -- ---- lists whose elements differ
@@ -109,12 +110,6 @@ apart_from (x ∷ xs) h = (
 )
 
 -- ---- the devices that a table of claims holds
-
-abbrev Claims : Type 0
-Claims = List (Key × ClaimState)
-
-abbrev held_in : Claims → List DeviceId
-held_in claims = flat_map (λ e. held_by e.1.grant) claims
 
 some_claim : (c d : ClaimState) → Some c ≡ Some d → c ≡ d
 some_claim c d h = cc
@@ -368,13 +363,20 @@ grants_apart node pod (c ∷ cs) ds claims each keys olds news apart =
 
 -- ---- each change
 
+held_at : (s : State) (i : ℕ) (p : DeviceId × Key) → slice_get (held s) i ≡ Some p → slice_get (held_in s.claims) i ≡ Some p.0
+held_at s i p e = sym (ap (λ l. slice_get l i) (ids_of_held s)) ∙ at_map first_of (held s) i p e
+
+pair_at : (s : State) (i : ℕ) (d : DeviceId) → slice_get (held_in s.claims) i ≡ Some d → (p : DeviceId × Key) × (slice_get (held s) i ≡ Some p) × (first_of p ≡ d)
+pair_at s i d e = mapped_at first_of (held s) i d (ap (λ l. slice_get l i) (ids_of_held s) ∙ e)
+
 once_from : (s : State) → Apart (held_in s.claims) → HeldOnce s
-unfolding held
-once_from s a = record { apart = apart_at (held_in s.claims) a }
+once_from s a = record { apart = λ i j p q lt f g. apart_at (held_in s.claims) a i j p.0 q.0 lt (held_at s i p f) (held_at s j q g) }
 
 apart_of : (s : State) → HeldOnce s → Apart (held_in s.claims)
-unfolding held
-apart_of s h = apart_from (held_in s.claims) h.apart
+apart_of s h = apart_from (held_in s.claims) (λ i j d e lt f g same.
+    let x = pair_at s i d f in
+    let y = pair_at s j e g in
+    h.apart i j x.0 y.0 lt x.1 y.1 (x.2 ∙ same ∙ sym y.2))
 
 -- where the same devices are held
 once_same : (s t : State) → HeldOnce s → held_in t.claims ≡ held_in s.claims → HeldOnce t
@@ -406,14 +408,8 @@ once_written place pod claim s h = once_same s (with_written place pod claim s) 
 pub once_bound : (pod : Key) (node : List ℕ) (s : State) → HeldOnce s → HeldOnce (with_bound pod node s)
 once_bound pod node s h = once_same s (with_bound pod node s) h refl
 
--- what a map has at a place is made of what stands there
-mapped_at : {X Y : Type 0} (f : X → Y) (xs : List X) (i : ℕ) (y : Y) → slice_get (map f xs) i ≡ Some y → (x : X) × (slice_get xs i ≡ Some x) × (f x ≡ y)
-mapped_at f [] i y e = absurd (cc)
-mapped_at f (x ∷ xs) zero y e = let same : f x ≡ y = cc in (x, refl, same)
-mapped_at f (x ∷ xs) (suc i) y e = mapped_at f xs i y e
-
 pub once_reserved : (s : State) (job : ℕ) (pod : Key) (plan : Plan) → Holds s pod plan → HeldOnce s → HeldOnce (with_reserved job pod plan s)
-unfolding held wanted
+unfolding wanted
 once_reserved s job pod plan holds h =
     let a = holds.allocation in
     let ks = first_places [] (claim_keys holds.state.pod.object) in
@@ -425,7 +421,8 @@ once_reserved s job pod plan holds h =
     a.distinct i j x.0 y.0 under x.1 y.1 (x.2 ∙ same ∙ sym y.2) in
     let free : Disjoint ids (held_in s.claims) = λ d c g.
     let x = mapped_at id_in a.devices c.0 d (slice_get-get_or ids c.0 d c.1 ∙ ap (λ (w : DeviceId). Some w) c.2) in
-    a.exclusive c.0 x.0 x.1 (subst (λ (w : DeviceId). Contains (held_in s.claims) w) (sym x.2) g) in
+    let k = holder_of s (id_in x.0) (subst (λ (w : DeviceId). Contains (held_in s.claims) w) (sym x.2) g) in
+    a.exclusive c.0 x.0 k.0 x.1 k.1 in
     let after : Apart (held_in (with_grants plan.node pod (grants_for cs ids) s.claims)) =
     grants_apart plan.node pod cs ids s.claims (each_wanted s ks) (apart_wanted s (claim_keys holds.state.pod.object) []) (apart_of s h) (apart_from ids differ) free in
     once_from (with_reserved job pod plan s) (subst (λ (gs : List Grant). Apart (held_in (with_grants plan.node pod gs s.claims))) (sym a.in_order) after)

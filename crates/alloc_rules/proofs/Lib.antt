@@ -8,6 +8,8 @@ pub mod Walks
 pub mod Wanted
 pub mod Bridge
 pub mod Decided
+pub mod HeldIds
+pub mod Users
 pub mod Holding
 pub mod Faults
 pub mod Matched

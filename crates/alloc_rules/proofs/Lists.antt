@@ -1,12 +1,6 @@
--- Tests of lists joined end to end, and answers of equal values.
-use Rattle.std.proofs.Common.{◌≡◌, ◌∙◌, List, ◌∷◌, Bool, ◌||◌, Result, Ok, Err, sym, subst}
-use Rattle.std.specs.List.{flat_map, list_any}
+-- Answers of equal values.
+use Rattle.std.proofs.Common.{◌≡◌, ◌∙◌, Result, Ok, Err, sym, subst}
 use Rattle.std.specs.Result.{IfOk}
-use Rattle.std.proofs.lemmas.List.Folds.{list_any-append}
-
--- a test of lists joined is settled by the first, or else by the rest
-pub any_joined : {X Y : Type 0} (t : Y → Bool) (f : X → List Y) (x : X) (xs : List X) → list_any t (flat_map f (x ∷ xs)) ≡ (list_any t (f x) || list_any t (flat_map f xs))
-any_joined t f x xs = list_any-append t (f x) (flat_map f xs)
 
 -- an answer is as one equal value says
 pub ok_as : {X E : Type 0} (r : Result X E) (x y : X) → IfOk r (λ v. v ≡ x) → x ≡ y → IfOk r (λ v. v ≡ y)

@@ -17,6 +17,7 @@ use Rattle.alloc_rules.specs.Allocation.{IsAllocation}
 use Rattle.alloc_rules.specs.Plans.{Holds, IsUnsat, PlanTrue}
 use Rattle.alloc_rules.proofs.Names.{there_by_name}
 use Rattle.alloc_rules.proofs.Picked.{Contains-found}
+use Rattle.alloc_rules.proofs.Users.{users_of_built}
 use Rattle.alloc_rules.proofs.Allocations.{allocation_from_filling, filling_from_allocation}
 
 -- what the laws of walks say
@@ -63,6 +64,7 @@ holds_by law s pod plan t = record {
   state = t.state;
   idle = t.idle;
   known = t.known;
+  users = users_of_built s pod t.state t.idle.there t.built;
   choice = t.item.choice;
   allocation = subst (λ (g : List Grant). IsAllocation s (wanted s t.state.pod.object) plan.node t.item.choice g) (sym t.grants)
       (full_on law s t.state.pod.object plan.node t.item (there_by_name s.inventory.nodes plan.node t.node_known) (Contains-found ends (walk_on s t.state.pod.object plan.node) t.item t.first) t.full);

@@ -1,5 +1,6 @@
 -- What an allocation is.
 use Rattle.std.specs.Prelude.{ℕ, ◌<◌, ◌≡◌, ◌≢◌, List, Some, IsSome, Contains, map, length, slice_get}
+use Rattle.object_fields.specs.declared.key.Key.{Key}
 use Rattle.api_claim.specs.declared.types.ResourceClaim.{ResourceClaim}
 use Rattle.device_match.specs.declared.matching.Match.TheVariants.{Yes, Fault}
 use Rattle.device_match.specs.declared.verdict.Cause.{Cause}
@@ -35,4 +36,4 @@ pub record IsAllocation (s : State) (claims : List ResourceClaim) (node : List �
   -- the devices differ
   pub distinct : (i j : ℕ) (d e : Offered) → i < j → slice_get devices i ≡ Some d → slice_get devices j ≡ Some e → id_in d ≢ id_in e
   -- no claim holds them
-  pub exclusive : (i : ℕ) (d : Offered) → slice_get devices i ≡ Some d → Contains (held s) (id_in d) → ⊥
+  pub exclusive : (i : ℕ) (d : Offered) (holder : Key) → slice_get devices i ≡ Some d → Contains (held s) (id_in d, holder) → ⊥

@@ -18,6 +18,7 @@ use Rattle.cluster.specs.declared.plan.Verdict.{Verdict}
 use Rattle.pool_view.specs.Names.{text_eq, at_key}
 use Rattle.pool_view.specs.Pools.{devices_on}
 use Rattle.cluster.specs.Claims.{known_of}
+use Rattle.cluster.specs.State.{claims_of, may_use}
 use Rattle.alloc_rules.specs.Claims.{schedule_built, wanted}
 use Rattle.alloc_rules.specs.Match.{fault_for}
 use Rattle.alloc_rules.specs.Rules.{devices_picked, grants_for, ids_of, outcome_on, walk_on}
@@ -87,6 +88,8 @@ pub record Holds (s : State) (pod : Key) (plan : Plan) : Type 0 where
   pub state : PodState
   pub idle : IsIdle s pod state
   pub known : plan.known ≡ known_of s state
+  -- each of the claims has fewer users than it may have, or the pod is one of them
+  pub users : All (λ k. may_use pod (at_key s.claims k) ≡ true) (claims_of state)
   pub choice : List ℕ
   pub allocation : IsAllocation s (wanted s state.pod.object) plan.node choice plan.grants
 

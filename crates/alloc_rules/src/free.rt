@@ -28,9 +28,9 @@ fn has_device(grant: &Option<Granted>, device: &DeviceId) -> bool
 }
 
 /// Whether a claim holds the device.
-#[tactic(auto, using(crate::proofs::Lists::any_joined), unfolding(cluster::specs::Held::held))]
+#[tactic(auto, unfolding(cluster::specs::Held::held))]
 fn is_held(state: &State, device: &DeviceId) -> bool
-    ensures { result ≡ list_any (λ h. device_eq h device.now) (held state.now) }
+    ensures { result ≡ list_any (λ h. device_eq h.0 device.now) (held state.now) }
 {
     for (_, claim) in state.claims.as_map() {
         if has_device(&claim.grant, device) {

@@ -21,7 +21,7 @@ after place job (Reserved pod plan) s = with_reserved job pod plan s
 after place job (Wrote pod claim seen) s = with_written place pod claim s
 after place job (Bound pod node) s = with_bound pod node s
 after place job (Judged pod verdict) s = with_verdict s
-after place job (Denied denial) s = with_denial s
+after place job (Denied command refusal) s = with_denial s
 
 -- what an entry of the job at a place leaves of its stand
 abbrev pub stand_after : ℕ → Event → Stand
@@ -30,7 +30,7 @@ stand_after place (Reserved pod plan) = reserved_leaves
 stand_after place (Wrote pod claim seen) = wrote_leaves
 stand_after place (Bound pod node) = bound_leaves place
 stand_after place (Judged pod verdict) = judged_leaves place
-stand_after place (Denied denial) = denied_leaves place
+stand_after place (Denied command refusal) = denied_leaves place
 
 -- a job that stands so may make the entry
 abbrev pub allows : Stand → Event → Bool
@@ -39,13 +39,13 @@ allows stand.Fresh (Reserved pod plan) = true
 allows stand.Fresh (Wrote pod claim seen) = false
 allows stand.Fresh (Bound pod node) = false
 allows stand.Fresh (Judged pod verdict) = true
-allows stand.Fresh (Denied denial) = true
+allows stand.Fresh (Denied command refusal) = true
 allows stand.Reserved (Applied object) = false
 allows stand.Reserved (Reserved pod plan) = false
 allows stand.Reserved (Wrote pod claim seen) = true
 allows stand.Reserved (Bound pod node) = true
 allows stand.Reserved (Judged pod verdict) = false
-allows stand.Reserved (Denied denial) = false
+allows stand.Reserved (Denied command refusal) = false
 allows (stand.Ended place) event = false
 
 -- what became of a command, by the kind of its entry
@@ -55,4 +55,4 @@ outcome_of (Reserved pod plan) = outcome.Made
 outcome_of (Wrote pod claim seen) = outcome.Made
 outcome_of (Bound pod node) = outcome.Made
 outcome_of (Judged pod verdict) = outcome.Made
-outcome_of (Denied denial) = outcome.Denied
+outcome_of (Denied command refusal) = outcome.Denied

@@ -1,5 +1,5 @@
 -- What a state has at its keys.
-use Rattle.std.specs.Prelude.{ℕ, ◌≡◌, ◌+◌, List, [], Bool, true, false, Option, None, Some, length, nat_le}
+use Rattle.std.specs.Prelude.{ℕ, ◌≡◌, ◌+◌, List, [], Bool, true, false, Option, None, Some, length, nat_le, nat_lt, is_some, ◌||◌}
 use Rattle.object_fields.specs.declared.key.Key.{Key}
 use Rattle.pool_view.specs.Inventory.{device_count, devices_most, empty_inventory}
 use Rattle.pool_view.specs.Names.{at_key, at_name}
@@ -26,6 +26,14 @@ IsAbsent s (object.Class x) = at_name s.classes x.name ≡ None
 IsAbsent s (object.Claim x) = at_key s.claims x.key ≡ None
 IsAbsent s (object.Pod x) = at_key s.pods x.key ≡ None
 
+-- an object of this kind and name is there
+abbrev pub is_there : State → Object → Bool
+is_there s (object.Node x) = is_some (at_name s.inventory.nodes x.name)
+is_there s (object.Slice x) = is_some (at_name s.inventory.slices x.name)
+is_there s (object.Class x) = is_some (at_name s.classes x.name)
+is_there s (object.Claim x) = is_some (at_key s.claims x.key)
+is_there s (object.Pod x) = is_some (at_key s.pods x.key)
+
 -- all slices with the object have at most the devices that they may have
 abbrev pub has_room : State → Object → Bool
 has_room s (object.Node x) = true
@@ -42,6 +50,11 @@ abbrev pub is_idle : Phase → Bool
 is_idle phase.Idle = true
 is_idle (phase.Taken job node) = false
 is_idle (phase.Bound node) = false
+
+-- the claim has fewer users than it may have, or the pod is one of them
+abbrev pub may_use : Key → Option ClaimState → Bool
+may_use pod None = true
+may_use pod (Some c) = is_some (at_key c.users pod) || nat_lt (length c.users) most_users
 
 -- how a pod uses a claim
 abbrev pub use_in : Key → Option ClaimState → Option Use

@@ -23,19 +23,29 @@ pub enum Event {
     Bound { pod: Key, node: Text },
     /// Says that the pod can't be scheduled, and changes nothing.
     Judged { pod: Key, verdict: Verdict },
-    /// Refuses a command, and changes nothing.
-    Denied(Denial),
+    /// Refuses a command by the first of its refusals that holds, and changes nothing.
+    Denied { command: Command, refusal: Refusal },
 }
 
-/// Why a command was refused.
+/// What a job is to do, as far as it may be refused.
 #[derive(Drop)]
-pub enum Denial {
-    /// The document of an object whose fields have this first error, which isn't want of memory. It
-    /// names nothing.
+pub enum Command {
+    /// To apply the document of an object whose fields, or else whose selectors, have this first error,
+    /// which isn't that memory ran out. It names nothing.
     Invalid(FieldError),
-    /// An object that was to be created, with which all slices would have more devices than they
-    /// may have.
-    Devices(Object),
+    /// To create an object.
+    Create(Object),
+}
+
+/// Why a command is refused.
+#[derive(Clone, Copy, Debug, PartialEq, Eq, Drop)]
+pub enum Refusal {
+    /// The document has an error.
+    Invalid,
+    /// An object of this kind and name is there.
+    Exists,
+    /// All slices would have more than 65,536 devices.
+    Devices,
 }
 
 /// What became of a command, by the kind of its entry.

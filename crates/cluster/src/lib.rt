@@ -8,7 +8,7 @@ mod plan;
 mod ready;
 mod state;
 
-pub use entry::{Denial, Entry, Event, Outcome, Stand};
+pub use entry::{Command, Entry, Event, Outcome, Refusal, Stand};
 pub use kept::Kept;
 pub use object::Object;
 pub use plan::{

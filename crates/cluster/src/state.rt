@@ -3,7 +3,7 @@ ghost use Rattle.cluster.specs.Tables.{changed_at, with_phase};
 ghost use Rattle.cluster.specs.Reserved.{with_grant, with_grants};
 ghost use Rattle.cluster.specs.Wrote.{written_by};
 
-use crate::{DeviceResult, Grant, Kept, Object, Plan};
+use crate::{Command, DeviceResult, Grant, Kept, Object, Plan, Refusal};
 use api_cluster::Pod;
 use dra_values::{Seq, Table, Text};
 use object_fields::Key;
@@ -66,9 +66,11 @@ pub struct State {
 }
 
 impl State {
-    ghost use Rattle.std.specs.Prelude.{◌≡◌, ◌↔◌, true, IsTrue, OnOk, OnErr};
+    ghost use Rattle.std.specs.Prelude.{◌≡◌, true, OnOk, OnErr};
     ghost use Rattle.cluster.specs.Ready.{object_of};
-    ghost use Rattle.cluster.specs.State.{empty_state, has_room, IsAbsent};
+    ghost use Rattle.cluster.specs.State.{empty_state, has_room, is_there};
+    ghost use Rattle.cluster.specs.Denied.{first_refusal};
+    ghost use Rattle.cluster.specs.declared.entry.Command.TheVariants.{Create};
     ghost use Rattle.cluster.specs.Applied.{with_object};
 
     /// The state in which nothing is there.
@@ -83,21 +85,46 @@ impl State {
         }
     }
 
-    /// Whether no object of this kind and name is there.
-    pub fn is_absent(&self, object: &Object) -> bool
-        ensures { IsTrue result ↔ IsAbsent self.now object.now }
+    /// Whether an object of this kind and name is there.
+    fn is_there(&self, object: &Object) -> bool
+        ensures { result ≡ is_there self.now object.now }
     {
         match object {
-            Object::Node(node) => self.inventory.nodes().get(&node.name).is_none(),
-            Object::Slice(slice) => self.inventory.slices().get(&slice.name).is_none(),
-            Object::Class(class) => self.classes.get(&class.name).is_none(),
-            Object::Claim(claim) => self.claims.get(&claim.key).is_none(),
-            Object::Pod(pod) => self.pods.get(&pod.key).is_none(),
+            Object::Node(node) => self.inventory.nodes().contains_key(&node.name),
+            Object::Slice(slice) => self.inventory.slices().contains_key(&slice.name),
+            Object::Class(class) => self.classes.contains_key(&class.name),
+            Object::Claim(claim) => self.claims.contains_key(&claim.key),
+            Object::Pod(pod) => self.pods.contains_key(&pod.key),
         }
     }
 
-    /// Whether all slices with the object have at most 65,536 devices. Takes no memory.
-    pub fn has_room(&self, object: &Object) -> bool
+    /// The first refusal of a command that holds: of a document with an error that it has one, and of
+    /// an object to be created that one of its kind and name is there, and then that all slices would
+    /// have more than 65,536 devices. Takes no memory.
+    pub fn first_refusal(&self, command: &Command) -> Option<Refusal>
+        ensures { result ≡ first_refusal self.now command.now }
+    {
+        match command {
+            Command::Invalid(_) => Some(Refusal::Invalid),
+            Command::Create(object) => self.creation_refusal(object),
+        }
+    }
+
+    /// The first refusal that holds of an object to be created. Takes no memory.
+    pub fn creation_refusal(&self, object: &Object) -> Option<Refusal>
+        ensures { result ≡ first_refusal self.now (Create object.now) }
+    {
+        if self.is_there(object) {
+            Some(Refusal::Exists)
+        } else if self.has_room(object) {
+            None
+        } else {
+            Some(Refusal::Devices)
+        }
+    }
+
+    /// Whether all slices with the object have at most 65,536 devices.
+    fn has_room(&self, object: &Object) -> bool
         ensures { result ≡ has_room self.now object.now }
     {
         match object {

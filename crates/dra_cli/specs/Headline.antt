@@ -4,7 +4,8 @@ use Rattle.object_fields.specs.declared.key.Key.{Key}
 use Rattle.cluster.specs.declared.plan.Plan.{Plan}
 use Rattle.cluster.specs.declared.plan.Verdict.{Verdict}
 use Rattle.cluster.specs.Held.{HeldOnce}
-use Rattle.cluster.specs.declared.entry.Denial.{Denial}
+use Rattle.cluster.specs.declared.entry.Command.{Command}
+use Rattle.cluster.specs.declared.entry.Refusal.{Refusal}
 use Rattle.cluster.specs.declared.entry.Entry.{Entry}
 use Rattle.cluster.specs.declared.entry.Event.TheVariants.{Reserved, Judged, Denied}
 use Rattle.ledger_core.specs.Denied.{MayDeny}
@@ -14,13 +15,13 @@ use Rattle.ledger_core.specs.Limits.{ObjectsKept}
 use Rattle.replay_core.specs.Replay.{EndsDone}
 
 -- Each reservation grants an allocation over the state before it, and each verdict names a place with
--- no allocation. An object denied for want of room had none in the state before it, and no denial is
--- for want of memory. At no place does a device have two holders, and at each the objects keep their
--- limits.
+-- no allocation. Each denial carries the first refusal of its command that holds in the state before
+-- it, and none is because memory ran out. At no place does a device have two holders, and at each the
+-- objects keep their limits.
 pub record IsTrueHistory (h : List Entry) : Type 0 where
   pub grants : (front back : List Entry) (job : ℕ) (pod : Key) (plan : Plan) → h ≡ front ++ record { job = job; event = Reserved pod plan } ∷ back → IsGrantOf front pod plan
   pub verdicts : (front back : List Entry) (job : ℕ) (pod : Key) (verdict : Verdict) → h ≡ front ++ record { job = job; event = Judged pod verdict } ∷ back → IsVerdictOf front pod verdict
-  pub denials : (front back : List Entry) (job : ℕ) (denial : Denial) → h ≡ front ++ record { job = job; event = Denied denial } ∷ back → MayDeny (state_of front) denial
+  pub denials : (front back : List Entry) (job : ℕ) (command : Command) (refusal : Refusal) → h ≡ front ++ record { job = job; event = Denied command refusal } ∷ back → MayDeny (state_of front) command refusal
   pub holders : (place : ℕ) → HeldOnce (state_at h place)
   pub limits : (place : ℕ) → ObjectsKept (state_at h place)
 

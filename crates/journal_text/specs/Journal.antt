@@ -23,8 +23,10 @@ use Rattle.pool_view.specs.Inventory.{devices_most}
 use Rattle.cluster.specs.declared.state.State.{State}
 use Rattle.cluster.specs.declared.state.Phase.{Phase}
 use Rattle.cluster.specs.declared.state.Phase.TheVariants as phase
-use Rattle.cluster.specs.declared.entry.Denial.{Denial}
-use Rattle.cluster.specs.declared.entry.Denial.TheVariants.{Invalid, Devices}
+use Rattle.cluster.specs.declared.entry.Command.{Command}
+use Rattle.cluster.specs.declared.entry.Command.TheVariants.{Create, Invalid}
+use Rattle.cluster.specs.declared.entry.Refusal.{Refusal}
+use Rattle.cluster.specs.declared.entry.Refusal.TheVariants as refusal
 use Rattle.cluster.specs.declared.entry.Entry.{Entry}
 use Rattle.cluster.specs.declared.entry.Event.{Event}
 use Rattle.cluster.specs.declared.entry.Event.TheVariants.{Applied, Reserved, Wrote, Bound, Judged, Denied}
@@ -101,11 +103,17 @@ verdict_text pod verdict =
     codes "verdict " ++ key_text pod ++ codes " " ++ verdict_word verdict ++ codes " at=" ++ decimal verdict.at
     ++ codes " nodes=" ++ listed passed_text verdict.nodes
 
--- a refusal: of a document's fields the word of the error and its path, of too many devices how many
--- all slices may have
-abbrev pub denial_text : Denial → List ℕ
-denial_text (Invalid error) = codes "denied Invalid " ++ kind_word error.kind ++ codes " " ++ path_text error.path
-denial_text (Devices object) = codes "denied Devices " ++ decimal devices_most
+-- a refusal to create an object: its word and the object, or of too many devices how many all slices
+-- may have
+abbrev pub creation_text : Object → Refusal → List ℕ
+creation_text object refusal.Invalid = codes "denied Invalid " ++ object_text object
+creation_text object refusal.Exists = codes "denied Exists " ++ object_text object
+creation_text object refusal.Devices = codes "denied Devices " ++ decimal devices_most
+
+-- a refusal; of a document with an error the word of the error and its path
+abbrev pub denial_text : Command → Refusal → List ℕ
+denial_text (Invalid error) refused = codes "denied Invalid " ++ kind_word error.kind ++ codes " " ++ path_text error.path
+denial_text (Create object) refused = creation_text object refused
 
 -- what a line says after its place and job
 abbrev pub event_text : Event → List ℕ
@@ -114,7 +122,7 @@ event_text (Reserved pod plan) = reserved_text pod plan
 event_text (Wrote pod claim seen) = codes "wrote " ++ key_text pod ++ codes " " ++ key_text claim ++ codes " seen=" ++ decimal seen
 event_text (Bound pod node) = codes "bound " ++ key_text pod ++ codes " " ++ node
 event_text (Judged pod verdict) = verdict_text pod verdict
-event_text (Denied denial) = denial_text denial
+event_text (Denied command refused) = denial_text command refused
 
 -- `?` for a byte below 0x20 and for 0x7f
 abbrev pub clean : ℕ → ℕ

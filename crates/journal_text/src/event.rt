@@ -1,9 +1,9 @@
 ghost use Rattle.std.specs.Prelude.{◌≡◌, IfOk, string_bytes};
-ghost use Rattle.journal_text.specs.Journal.{denial_text, event_text, object_text, reserved_text, verdict_text, verdict_word};
+ghost use Rattle.journal_text.specs.Journal.{creation_text, denial_text, event_text, object_text, reserved_text, verdict_text, verdict_word};
 ghost use Rattle.cluster.specs.Judged.{has_fault, is_fault};
 
 use crate::worded::listed;
-use cluster::{Cause, Denial, Event, Object, Plan, Verdict};
+use cluster::{Cause, Command, Event, Object, Plan, Refusal, Verdict};
 use object_fields::Key;
 use pool_view::MOST_DEVICES;
 use std::alloc::{AllocError, Global};
@@ -68,14 +68,26 @@ fn is_fault(cause: &Cause) -> bool
     }
 }
 
-fn denial_text(alloc: Global, denial: &Denial) -> Result<String, AllocError>
-    ensures { IfOk result (λ s. string_bytes s ≡ denial_text denial.now) }
+/// A refusal to create an object.
+fn creation_text(alloc: Global, object: &Object, refusal: Refusal) -> Result<String, AllocError>
+    ensures { IfOk result (λ s. string_bytes s ≡ creation_text object.now refusal) }
 {
-    match denial {
-        Denial::Invalid(error) => {
+    let name = object_text(alloc, object)?;
+    match refusal {
+        Refusal::Invalid => format!(in alloc; "denied Invalid {name}"),
+        Refusal::Exists => format!(in alloc; "denied Exists {name}"),
+        Refusal::Devices => format!(in alloc; "denied Devices {MOST_DEVICES}"),
+    }
+}
+
+fn denial_text(alloc: Global, command: &Command, refusal: Refusal) -> Result<String, AllocError>
+    ensures { IfOk result (λ s. string_bytes s ≡ denial_text command.now refusal) }
+{
+    match command {
+        Command::Invalid(error) => {
             format!(in alloc; "denied Invalid {} {}", error.kind, error.path)
         }
-        Denial::Devices(_) => format!(in alloc; "denied Devices {MOST_DEVICES}"),
+        Command::Create(object) => creation_text(alloc, object, refusal),
     }
 }
 
@@ -94,6 +106,6 @@ pub fn event_text(alloc: Global, event: &Event) -> Result<String, AllocError>
         }
         Event::Bound { pod, node } => format!(in alloc; "bound {pod} {node}"),
         Event::Judged { pod, verdict } => verdict_text(alloc, pod, verdict),
-        Event::Denied(denial) => denial_text(alloc, denial),
+        Event::Denied { command, refusal } => denial_text(alloc, command, *refusal),
     }
 }

@@ -1,11 +1,11 @@
 -- What a legal history says of each of its entries.
-use Rattle.std.proofs.Common.{ℕ, ◌≡◌, ◌∙◌, List, [], ◌∷◌, ◌++◌, Bool, true, false, ◌||◌, refl, sym, subst, append_assoc, append-nil}
-use Rattle.std.specs.List.{All, AllByRecursion, Contains, list_any}
+use Rattle.std.proofs.Common.{ℕ, ◌≡◌, ◌∙◌, List, [], ◌∷◌, ◌++◌, true, refl, arith, sym, subst, append_assoc, append-nil}
+use Rattle.std.specs.List.{All, AllByRecursion, Contains}
 use Rattle.std.specs.Map.{keys_of}
 use Rattle.std.specs.Option.{IsSome}
 use Rattle.std.specs.Ordering.{eq_by_cmp}
 use Rattle.std.specs.Cmp.Lexicographic.{same_text, texts_ties}
-use Rattle.std.proofs.lemmas.List.Elements.{All-contains, All-from_recursion, All-map, recursion_from_All}
+use Rattle.std.proofs.lemmas.List.Elements.{Contains-append_right, All-contains, All-from_recursion, All-map, recursion_from_All}
 use Rattle.std.proofs.lemmas.Map.Views.{Contains-keys_from_lookup}
 use Rattle.object_fields.specs.declared.key.Key.{Key}
 use Rattle.api_cluster.specs.declared.types.Pod.{Pod}
@@ -20,7 +20,8 @@ use Rattle.pool_view.specs.Names.{at_name, text_cmp}
 use Rattle.alloc_rules.specs.Claims.{wanted}
 use Rattle.alloc_rules.specs.Allocation.{IsAllocation}
 use Rattle.alloc_rules.specs.Plans.{CauseTrue, IsUnsat, VerdictTrue, nodes_of}
-use Rattle.cluster.specs.declared.entry.Denial.{Denial}
+use Rattle.cluster.specs.declared.entry.Command.{Command}
+use Rattle.cluster.specs.declared.entry.Refusal.{Refusal}
 use Rattle.cluster.specs.declared.entry.Entry.{Entry}
 use Rattle.cluster.specs.declared.entry.Event.TheVariants.{Reserved, Judged, Denied}
 use Rattle.cluster.specs.History.{state_at, state_of}
@@ -29,7 +30,6 @@ use Rattle.ledger_core.specs.Judged.{MayJudge}
 use Rattle.ledger_core.specs.Denied.{MayDeny}
 use Rattle.ledger_core.specs.Legal.{Step, LegalAfter, Legal}
 use Rattle.ledger_core.specs.Headline.{IsGrantOf, IsVerdictOf}
-use Rattle.cluster.specs.Judged.{has_fault, is_fault}
 use Rattle.ledger_core.proofs.Histories.{state_of-more}
 
 step_after : (before front : List Entry) (e : Entry) (back : List Entry) → LegalAfter before (front ++ e ∷ back) → Step (before ++ front) e
@@ -61,26 +61,23 @@ grant_of before pod plan may =
 pub grant_at : (front back : List Entry) (job : ℕ) (pod : Key) (plan : Plan) → Legal (front ++ record { job = job; event = Reserved pod plan } ∷ back) → IsGrantOf front pod plan
 grant_at front back job pod plan legal = grant_of front pod plan (step_at front (record { job = job; event = Reserved pod plan }) back legal).stands
 
-unsat_by : (s : State) (pod : Pod) (node : List ℕ) (c : Cause) → is_fault c ≡ false → CauseTrue s pod node c → IsUnsat s pod node
+unsat_by : (s : State) (pod : Pod) (node : List ℕ) (c : Cause) → c ≡ cause.Unsat → CauseTrue s pod node c → IsUnsat s pod node
 unsat_by s pod node cause.Unsat e h = h
 unsat_by s pod node (cause.Fault fault) e h = absurd (cc)
 
--- a node that has no fault has none
-unsat_at : (s : State) (pod : Pod) (ps : List Passed) (p : Passed) → All (λ p. CauseTrue s pod p.node p.cause) ps → Contains ps p → is_fault p.cause ≡ false → IsUnsat s pod p.node
+-- a node that has no allocation has none
+unsat_at : (s : State) (pod : Pod) (ps : List Passed) (p : Passed) → All (λ p. CauseTrue s pod p.node p.cause) ps → Contains ps p → p.cause ≡ cause.Unsat → IsUnsat s pod p.node
 unsat_at s pod ps p causes among e = unsat_by s pod p.node p.cause e (All-contains (λ (q : Passed). CauseTrue s pod q.node q.cause) ps p causes among)
 
-neither : (b c : Bool) → (b || c) ≡ false → (b ≡ false) × (c ≡ false)
-neither true c e = absurd (cc)
-neither false c e = (refl, e)
-
-all_unsat : (s : State) (pod : Pod) (ps : List Passed) → AllByRecursion (λ p. CauseTrue s pod p.node p.cause) ps → list_any (λ p. is_fault p.cause) ps ≡ false → AllByRecursion (λ p. IsUnsat s pod p.node) ps
+all_unsat : (s : State) (pod : Pod) (ps : List Passed) → AllByRecursion (λ p. CauseTrue s pod p.node p.cause) ps → ((p : Passed) → Contains ps p → p.cause ≡ cause.Unsat)
+    → AllByRecursion (λ p. IsUnsat s pod p.node) ps
 all_unsat s pod [] h e = tt
 all_unsat s pod (p ∷ ps) h e =
-    let n = neither (is_fault p.cause) (list_any (λ q. is_fault q.cause) ps) e in
-    (unsat_by s pod p.node p.cause n.0 h.0, all_unsat s pod ps h.1 n.1)
+    (unsat_by s pod p.node p.cause (e p (0, omega arith, refl)) h.0, all_unsat s pod ps h.1 (λ q among. e q (Contains-append_right (p ∷ []) ps q among)))
 
--- each of the nodes that a verdict without faults names has none
-unsat_among : (s : State) (pod : Pod) (ps : List Passed) (node : List ℕ) → All (λ p. CauseTrue s pod p.node p.cause) ps → list_any (λ p. is_fault p.cause) ps ≡ false → Contains (nodes_of ps) node → IsUnsat s pod node
+-- each of the nodes that a verdict names, all by this cause, has none
+unsat_among : (s : State) (pod : Pod) (ps : List Passed) (node : List ℕ) → All (λ p. CauseTrue s pod p.node p.cause) ps → ((p : Passed) → Contains ps p → p.cause ≡ cause.Unsat)
+    → Contains (nodes_of ps) node → IsUnsat s pod node
 unsat_among s pod ps node causes e among =
     All-contains (λ (n : List ℕ). IsUnsat s pod n) (nodes_of ps) node
     (All-map (λ (n : List ℕ). IsUnsat s pod n) (λ (p : Passed). p.node) ps
@@ -94,7 +91,7 @@ same_by_cmp a b e = same_text a b (sym (texts_ties a b ∙ e))
 known_by_name : {V : Type 0} (table : List (List ℕ × V)) (name : List ℕ) → IsSome (at_name table name) → Contains (keys_of table) name
 known_by_name table name there = Contains-keys_from_lookup same_by_cmp name table there
 
-verdict_none : (s : State) (pod : Key) (verdict : Verdict) (t : VerdictTrue s pod verdict) → has_fault verdict ≡ false → (node choice : List ℕ) (grants : List Grant)
+verdict_none : (s : State) (pod : Key) (verdict : Verdict) (t : VerdictTrue s pod verdict) → ((p : Passed) → Contains verdict.nodes p → p.cause ≡ cause.Unsat) → (node choice : List ℕ) (grants : List Grant)
     → IsAllocation s (wanted s t.state.pod.object) node choice grants → ⊥
 verdict_none s pod verdict t e node choice grants a =
     let among : Contains (nodes_of verdict.nodes) node =
@@ -117,9 +114,9 @@ pub verdict_at : (front back : List Entry) (job : ℕ) (pod : Key) (verdict : Ve
 verdict_at front back job pod verdict legal = verdict_of front pod verdict (step_at front (record { job = job; event = Judged pod verdict }) back legal).stands
 
 -- each denial of a legal history is due
-pub denial_at : (front back : List Entry) (job : ℕ) (denial : Denial) → Legal (front ++ record { job = job; event = Denied denial } ∷ back) → MayDeny (state_of front) denial
-denial_at front back job denial legal = (step_at front (record { job = job; event = Denied denial }) back legal).stands
+pub denial_at : (front back : List Entry) (job : ℕ) (command : Command) (refusal : Refusal) → Legal (front ++ record { job = job; event = Denied command refusal } ∷ back) → MayDeny (state_of front) command refusal
+denial_at front back job command refusal legal = (step_at front (record { job = job; event = Denied command refusal }) back legal).stands
 
 -- and leaves the state as it was
-pub denial_kept : (front : List Entry) (job : ℕ) (denial : Denial) → state_of (front ++ record { job = job; event = Denied denial } ∷ []) ≡ state_of front
-denial_kept front job denial = state_of-more front (record { job = job; event = Denied denial })
+pub denial_kept : (front : List Entry) (job : ℕ) (command : Command) (refusal : Refusal) → state_of (front ++ record { job = job; event = Denied command refusal } ∷ []) ≡ state_of front
+denial_kept front job command refusal = state_of-more front (record { job = job; event = Denied command refusal })

@@ -19,6 +19,7 @@ use Rattle.cluster.specs.Events.{after}
 use Rattle.cluster.specs.History.{state_of, state_at}
 use Rattle.ledger_core.specs.Legal.{LegalAfter, Legal, MayStand}
 use Rattle.ledger_core.proofs.Histories.{state_of-empty, state_of-more}
+use Rattle.ledger_core.proofs.Creating.{absent_of}
 use Rattle.ledger_core.proofs.Headlines.{front_legal}
 
 module _ (empty : HeldOnce empty_state)
@@ -28,12 +29,12 @@ module _ (empty : HeldOnce empty_state)
     (bound : (pod : Key) (node : List ℕ) (s : State) → HeldOnce s → HeldOnce (with_bound pod node s)) where
   -- an entry that may stand keeps it
   once_after : (before : List Entry) (place job : ℕ) (event : Event) → MayStand before job event → HeldOnce (state_of before) → HeldOnce (after place job event (state_of before))
-  once_after before place job (Applied object) may h = created place object (state_of before) may.absent h
+  once_after before place job (Applied object) may h = created place object (state_of before) (absent_of (state_of before) object may.unrefused) h
   once_after before place job (Reserved pod plan) may h = reserved (state_of before) job pod plan may.holds_now h
   once_after before place job (Wrote pod claim seen) may h = written place pod claim (state_of before) h
   once_after before place job (Bound pod node) may h = bound pod node (state_of before) h
   once_after before place job (Judged pod verdict) may h = h
-  once_after before place job (Denied denial) may h = h
+  once_after before place job (Denied command refusal) may h = h
 
   once_along : (before es : List Entry) → LegalAfter before es → HeldOnce (state_of before) → HeldOnce (state_of (before ++ es))
   unfolding LegalAfter

@@ -111,7 +111,7 @@ kept_after before place job (Wrote pod claim seen) may h =
 kept_after before place job (Bound pod node) may h =
     record { nodes = h.nodes; slices = h.slices; classes = h.classes; claims = h.claims; pods = changed PodFits pod _ (state_of before).pods h.pods (λ p k. k) }
 kept_after before place job (Judged pod verdict) may h = h
-kept_after before place job (Denied denial) may h = h
+kept_after before place job (Denied command refusal) may h = h
 
 -- ---- histories
 

@@ -1,19 +1,20 @@
 -- When a command may be refused.
-use Rattle.std.specs.Prelude.{◌≡◌, false}
+use Rattle.std.specs.Prelude.{◌≡◌, Some}
 use Rattle.object_fields.specs.declared.kind.Kind.TheVariants.{Memory}
-use Rattle.cluster.specs.declared.entry.Denial.{Denial}
-use Rattle.cluster.specs.declared.entry.Denial.TheVariants as denial
-use Rattle.cluster.specs.declared.object.Object.{Object}
+use Rattle.cluster.specs.declared.entry.Command.{Command}
+use Rattle.cluster.specs.declared.entry.Command.TheVariants as command
+use Rattle.cluster.specs.declared.entry.Refusal.{Refusal}
 use Rattle.cluster.specs.declared.state.State.{State}
-use Rattle.cluster.specs.State.{IsAbsent, has_room}
+use Rattle.cluster.specs.Denied.{first_refusal}
+use Rattle.cluster.specs.Ready.{IsReady}
 
--- the object isn't there, and there is no room for it
-pub record HasNoRoom (s : State) (object : Object) : Type 0 where
-  pub absent : IsAbsent s object
-  pub crowded : has_room s object ≡ false
+-- Which document has an error is for the reading to say, and not for the state; that memory ran out
+-- is no error of a document. An object that is to be created has none.
+abbrev pub IsAsked : Command → Type 0
+IsAsked (command.Invalid error) = error.kind ≡ Memory → ⊥
+IsAsked (command.Create object) = IsReady object
 
--- Where a command may be refused so. Which document has an error is for the reading to say, and not
--- for the state; want of memory is no error of a document.
-abbrev pub MayDeny : State → Denial → Type 0
-MayDeny s (denial.Invalid error) = error.kind ≡ Memory → ⊥
-MayDeny s (denial.Devices object) = HasNoRoom s object
+-- the refusal is the first that holds
+pub record MayDeny (s : State) (command : Command) (refusal : Refusal) : Type 0 where
+  pub asked : IsAsked command
+  pub due : first_refusal s command ≡ Some refusal

@@ -19,7 +19,7 @@ MayStand before job (Reserved pod plan) = MayReserve before pod plan
 MayStand before job (Wrote pod claim seen) = MayWrite (state_of before) pod job claim seen
 MayStand before job (Bound pod node) = MayBind (state_of before) pod job node
 MayStand before job (Judged pod verdict) = MayJudge before pod verdict
-MayStand before job (Denied denial) = MayDeny (state_of before) denial
+MayStand before job (Denied command refusal) = MayDeny (state_of before) command refusal
 
 -- the entry may follow these
 pub record Step (before : List Entry) (e : Entry) : Type 0 where

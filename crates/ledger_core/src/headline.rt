@@ -3,7 +3,8 @@ ghost use Rattle.object_fields.specs.declared.key.Key.{Key};
 ghost use Rattle.cluster.specs.declared.plan.Plan.{Plan};
 ghost use Rattle.cluster.specs.declared.plan.Verdict.{Verdict};
 ghost use Rattle.cluster.specs.Held.{HeldOnce};
-ghost use Rattle.cluster.specs.declared.entry.Denial.{Denial};
+ghost use Rattle.cluster.specs.declared.entry.Command.{Command};
+ghost use Rattle.cluster.specs.declared.entry.Refusal.{Refusal};
 ghost use Rattle.cluster.specs.declared.entry.Entry.{Entry};
 ghost use Rattle.cluster.specs.declared.entry.Event.{Event};
 ghost use Rattle.cluster.specs.History.{state_at, state_of};
@@ -28,22 +29,23 @@ pub fn grants_are_allocations()
         Legal (front ++ record { job = job; event = Event.Reserved pod plan } ∷ back) → IsGrantOf front pod plan }
 {}
 
-/// Each verdict of a legal history is true: at the verdict's place no node had an allocation for the
-/// pod.
+/// Each verdict of a legal history is true: at the verdict's place a node whose cause says so had no
+/// allocation for the pod, and where each cause says so, no node had one.
 pub fn verdicts_are_true()
     ensures { (front back : List Entry) (job : ℕ) (pod : Key) (verdict : Verdict) →
         Legal (front ++ record { job = job; event = Event.Judged pod verdict } ∷ back) → IsVerdictOf front pod verdict }
 {}
 
-/// If a legal history denies an object for want of room, then in the state before the denial the
-/// object isn't there and the state has no room for its devices. If it denies a document for an
-/// error, the error isn't out of memory; that the document has this error isn't said here, since a
-/// history holds no documents. The state after a denial is the one before it.
+/// If a legal history denies a command, its refusal is the first that holds of the command in the
+/// state before the denial: an object of its kind and name is there, or there is no room for its
+/// devices. If it denies a document for an error, the error isn't out of memory; that the document
+/// has this error isn't said here, since a history holds no documents. The state after a denial is the
+/// one before it.
 pub fn denials_change_nothing()
-    ensures due { (front back : List Entry) (job : ℕ) (denial : Denial) →
-        Legal (front ++ record { job = job; event = Event.Denied denial } ∷ back) → MayDeny (state_of front) denial }
-    ensures kept { (front : List Entry) (job : ℕ) (denial : Denial) →
-        state_of (front ++ record { job = job; event = Event.Denied denial } ∷ []) ≡ state_of front }
+    ensures due { (front back : List Entry) (job : ℕ) (command : Command) (refusal : Refusal) →
+        Legal (front ++ record { job = job; event = Event.Denied command refusal } ∷ back) → MayDeny (state_of front) command refusal }
+    ensures kept { (front : List Entry) (job : ℕ) (command : Command) (refusal : Refusal) →
+        state_of (front ++ record { job = job; event = Event.Denied command refusal } ∷ []) ≡ state_of front }
 {}
 
 /// Each object keeps the limits and name rules of the API references of `v1` and of

@@ -3,9 +3,10 @@ ghost use Rattle.std.specs.Vec.{vec_capacity};
 ghost use Rattle.cluster.specs.Ready.{object_of};
 ghost use Rattle.cluster.specs.Applied.{with_object};
 ghost use Rattle.cluster.specs.Reserved.{with_reserved};
-ghost use Rattle.cluster.specs.State.{IsAbsent};
 ghost use Rattle.alloc_rules.specs.Plans.{PlanTrue, VerdictTrue};
-ghost use Rattle.cluster.specs.declared.entry.Denial.TheVariants.{Invalid};
+ghost use Rattle.cluster.specs.declared.entry.Command.TheVariants.{Create, Invalid};
+ghost use Rattle.cluster.specs.declared.entry.Refusal.TheVariants as refusal;
+ghost use Rattle.cluster.specs.Denied.{first_refusal};
 ghost use Rattle.cluster.specs.declared.entry.Event.TheVariants.{Applied, Reserved, Wrote, Bound, Judged, Denied};
 ghost use Rattle.cluster.specs.Events.{allows, outcome_of, stand_after};
 ghost use Rattle.ledger_core.specs.Applied.{creation};
@@ -22,7 +23,8 @@ use crate::LedgerError;
 use crate::room::make_room;
 use alloc_rules::{grants_at_most_one, plan_holds};
 use cluster::{
-    Denial, Entry, Event, Kept, Outcome, Phase, Plan, Ready, ReadyParts, Stand, State, Verdict,
+    Command, Entry, Event, Kept, Outcome, Phase, Plan, Ready, ReadyParts, Refusal, Stand, State,
+    Verdict,
 };
 use dra_values::Text;
 use object_fields::{FieldError, Key, Kind};
@@ -109,13 +111,12 @@ impl Ledger {
         stand_in(&self.entries, job)
     }
 
-    /// Creates an object that isn't there, whose selectors are compiled. Where all slices with it would
-    /// have more than 65,536 devices, the command is refused: the entry is a denial that carries the object, and the state
-    /// stays as it was. `Full` comes where the history has its limit of entries, and `Memory` only
+    /// Creates an object whose selectors are compiled. Where one of its kind and name is there, or all
+    /// slices with it would have more than 65,536 devices, the command is refused: the entry is a denial
+    /// that carries the object and the first of these refusals, and the state stays as it was. `Full` comes where the history has its limit of entries, and `Memory` only
     /// where memory runs out; then nothing changed.
     pub fn apply(&mut self, alloc: Global, job: u64, ready: Ready) -> Result<Done, LedgerError>
         requires stand { allows (stand_of self.old.entries job) (Applied ready) ≡ true }
-        requires absent { IsAbsent (state_of self.old.entries) ready }
         ensures ok { OnOk result (self.new ≡ appended self.old job (creation (state_of self.old.entries) ready)) }
         ensures place { IfOk result (λ done. done.place ≡ length self.new.entries) }
         ensures outcome { IfOk result (λ done. done.outcome ≡ outcome_of (creation (state_of self.old.entries) ready)) }
@@ -123,10 +124,12 @@ impl Ledger {
         ensures full { (n : ℕ) → IsErrOf result (LedgerError.Full n) → (length self.old.entries ≡ n) × (self.old.limit ≤ n) }
         ensures err { OnErr result (self.new ≡ self.old) }
     {
-        if self.state.has_room(ready.object()) {
-            self.create(alloc, job, ready)
-        } else {
-            self.refuse(job, Denial::Devices(ready.into_parts().object))
+        match self.state.creation_refusal(ready.object()) {
+            None => self.create(alloc, job, ready),
+            Some(refusal) => {
+                let object = ready.into_parts().object;
+                self.refuse(job, Command::Create(object), refusal)
+            }
         }
     }
 
@@ -134,8 +137,8 @@ impl Ledger {
     /// the history. `Full` comes where the history has its limit of entries, and `Memory` only where
     /// memory runs out or where the error is want of memory itself; then nothing changed.
     pub fn deny(&mut self, job: u64, error: FieldError) -> Result<Done, LedgerError>
-        requires { allows (stand_of self.old.entries job) (Denied (Invalid error)) ≡ true }
-        ensures ok { OnOk result (self.new ≡ appended self.old job (Denied (Invalid error))) }
+        requires { allows (stand_of self.old.entries job) (Denied (Invalid error) refusal.Invalid) ≡ true }
+        ensures ok { OnOk result (self.new ≡ appended self.old job (Denied (Invalid error) refusal.Invalid)) }
         ensures place { IfOk result (λ done. done.place ≡ length self.new.entries) }
         ensures outcome { IfOk result (λ done. done.outcome ≡ Outcome.Denied) }
         ensures legal { Legal self.new.entries }
@@ -146,7 +149,7 @@ impl Ledger {
         if error.kind == Kind::Memory {
             return Err(LedgerError::Memory);
         }
-        self.refuse(job, Denial::Invalid(error))
+        self.refuse(job, Command::Invalid(error), Refusal::Invalid)
     }
 
     /// Takes the pod for the job, and makes the plan's grants.
@@ -302,10 +305,10 @@ impl Ledger {
     }
 
     /// Refuses a command.
-    fn refuse(&mut self, job: u64, denial: Denial) -> Result<Done, LedgerError>
-        requires stand { allows (stand_of self.old.entries job) (Denied denial) ≡ true }
-        requires due { MayDeny (state_of self.old.entries) denial }
-        ensures ok { OnOk result (self.new ≡ appended self.old job (Denied denial)) }
+    fn refuse(&mut self, job: u64, command: Command, refusal: Refusal) -> Result<Done, LedgerError>
+        requires stand { allows (stand_of self.old.entries job) (Denied command refusal) ≡ true }
+        requires due { MayDeny (state_of self.old.entries) command refusal }
+        ensures ok { OnOk result (self.new ≡ appended self.old job (Denied command refusal)) }
         ensures place { IfOk result (λ done. done.place ≡ length self.new.entries) }
         ensures outcome { IfOk result (λ done. done.outcome ≡ Outcome.Denied) }
         ensures legal { Legal self.new.entries }
@@ -315,7 +318,7 @@ impl Ledger {
         let place = make_room(&mut self.entries, self.limit)?;
         self.entries.push_reserved(Entry {
             job,
-            event: Event::Denied(denial),
+            event: Event::Denied { command, refusal },
         });
         Ok(Done {
             place,
@@ -393,7 +396,7 @@ fn stand_after(place: u64, event: &Event) -> Stand
     ensures { result ≡ stand_after place event.now }
 {
     match event {
-        Event::Applied(_) | Event::Bound { .. } | Event::Judged { .. } | Event::Denied(_) => {
+        Event::Applied(_) | Event::Bound { .. } | Event::Judged { .. } | Event::Denied { .. } => {
             Stand::Ended(place)
         }
         Event::Reserved { .. } | Event::Wrote { .. } => Stand::Reserved,

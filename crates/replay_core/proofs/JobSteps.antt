@@ -30,7 +30,7 @@ never_fails (Reserved pod plan) = refl
 never_fails (Wrote pod claim seen) = refl
 never_fails (Bound pod node) = refl
 never_fails (Judged pod verdict) = refl
-never_fails (Denied denial) = refl
+never_fails (Denied asked refused) = refl
 
 unfailed_next : (b : Bool) (n : ℕ) → b ≡ false → n ≡ 0 → cond b 1 0 + n ≡ 0
 unfailed_next true n off e = absurd (cc)
@@ -162,7 +162,7 @@ pub timely_now : (h : List Entry) (job at : ℕ) → at ≡ length h → IsTimel
 unfolding last_place
 timely_now h job at e =
     let last : last_from job 0 0 h ≤ 0 + length h = last_within job 0 0 h (omega arith) in
-    record { after_begin = omega (arith, e); after_last = omega (arith, e, last) }
+    record { within = omega (arith, e); after_begin = omega (arith, e); after_last = omega (arith, e, last) }
 
 -- the state at the end of a history is the one after it
 pub state_at-end : (h : List Entry) (at : ℕ) → at ≡ length h → state_of h ≡ state_at h at

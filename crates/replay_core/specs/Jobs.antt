@@ -2,7 +2,9 @@
 use Rattle.std.specs.Prelude.{ℕ, ◌≡◌, ◌≤◌, ◌<◌, ◌+◌, ◌==◌, ◌⊎◌, Bool, false, List, [], ◌∷◌, ◌++◌, Option, None, Some, length, count_by, if◌then◌else◌}
 use Rattle.object_fields.specs.declared.key.Key.{Key}
 use Rattle.alloc_rules.specs.Plans.{PlanBy, VerdictBy}
-use Rattle.cluster.specs.declared.entry.Denial.TheVariants.{Invalid, Devices}
+use Rattle.cluster.specs.declared.entry.Command.TheVariants.{Create, Invalid}
+use Rattle.cluster.specs.declared.entry.Refusal.{Refusal}
+use Rattle.cluster.specs.declared.entry.Refusal.TheVariants as refusal
 use Rattle.cluster.specs.declared.entry.Entry.{Entry}
 use Rattle.cluster.specs.declared.entry.Event.{Event}
 use Rattle.cluster.specs.declared.entry.Event.TheVariants.{Applied, Reserved, Wrote, Bound, Judged, Denied}
@@ -18,13 +20,13 @@ pod_of (Reserved pod plan) = Some pod
 pod_of (Wrote pod claim seen) = Some pod
 pod_of (Bound pod node) = Some pod
 pod_of (Judged pod verdict) = Some pod
-pod_of (Denied denial) = None
+pod_of (Denied asked refused) = None
 
 -- the entry is of the command: it names the command's object or pod, and a denial of a document that
 -- doesn't read carries the first error of the reading
 abbrev pub IsOf : Command → Event → Type 0
-IsOf (command.Apply object) event = (event ≡ Applied object) ⊎ (event ≡ Denied (Devices object))
-IsOf (command.Invalid error) event = event ≡ Denied (Invalid error)
+IsOf (command.Apply object) event = (event ≡ Applied object) ⊎ ((r : Refusal) × (event ≡ Denied (Create object) r))
+IsOf (command.Invalid error) event = event ≡ Denied (Invalid error) refusal.Invalid
 IsOf (command.Schedule pod) event = pod_of event ≡ Some pod
 IsOf command.NotBuilt event = ⊥
 
@@ -37,8 +39,9 @@ last_from job last n (e ∷ es) = last_from job (if e.job == job then n + 1 else
 unfoldable pub last_place : List Entry → ℕ → ℕ
 last_place h job = last_from job 0 0 h
 
--- a search's place is neither before the job began nor before its last entry
+-- a search's place is neither before the job began nor before its last entry, and not past the entries
 pub record IsTimely (before : List Entry) (job begun at : ℕ) : Type 0 where
+  pub within : at ≤ length before
   pub after_begin : begun ≤ at
   pub after_last : last_place before job ≤ at
 
@@ -49,7 +52,7 @@ IsSearched before job begun budget (Reserved pod plan) = IsTimely before job beg
 IsSearched before job begun budget (Wrote pod claim seen) = Unit {0}
 IsSearched before job begun budget (Bound pod node) = Unit {0}
 IsSearched before job begun budget (Judged pod verdict) = IsTimely before job begun verdict.at × VerdictBy (state_at before verdict.at) pod budget verdict
-IsSearched before job begun budget (Denied denial) = Unit {0}
+IsSearched before job begun budget (Denied asked refused) = Unit {0}
 
 -- an entry of the job, whose command began after so many entries
 pub record IsMade (job : ℕ) (c : Command) (begun budget : ℕ) (before : List Entry) (e : Entry) : Type 0 where
@@ -68,7 +71,7 @@ is_failure (Reserved pod plan) = false
 is_failure (Wrote pod claim seen) = false
 is_failure (Bound pod node) = false
 is_failure (Judged pod verdict) = false
-is_failure (Denied denial) = false
+is_failure (Denied asked refused) = false
 
 abbrev pub failures : List Entry → ℕ
 failures es = count_by (λ e. is_failure e.event) es

@@ -4,7 +4,8 @@ use Rattle.object_fields.specs.declared.key.Key.{Key}
 use Rattle.cluster.specs.declared.plan.Plan.{Plan}
 use Rattle.cluster.specs.declared.plan.Verdict.{Verdict}
 use Rattle.cluster.specs.Held.{HeldOnce}
-use Rattle.cluster.specs.declared.entry.Denial.{Denial}
+use Rattle.cluster.specs.declared.entry.Command.{Command}
+use Rattle.cluster.specs.declared.entry.Refusal.{Refusal}
 use Rattle.cluster.specs.declared.entry.Entry.{Entry}
 use Rattle.cluster.specs.declared.entry.Event.TheVariants.{Reserved, Judged, Denied}
 use Rattle.ledger_core.specs.Legal.{Legal}
@@ -23,7 +24,7 @@ VerdictLaw : Type 0
 VerdictLaw = (front back : List Entry) (job : ℕ) (pod : Key) (verdict : Verdict) → Legal (front ++ record { job = job; event = Judged pod verdict } ∷ back) → IsVerdictOf front pod verdict
 
 DenialLaw : Type 0
-DenialLaw = (front back : List Entry) (job : ℕ) (denial : Denial) → Legal (front ++ record { job = job; event = Denied denial } ∷ back) → MayDeny (state_of front) denial
+DenialLaw = (front back : List Entry) (job : ℕ) (command : Command) (refusal : Refusal) → Legal (front ++ record { job = job; event = Denied command refusal } ∷ back) → MayDeny (state_of front) command refusal
 
 HolderLaw : Type 0
 HolderLaw = (h : List Entry) (place : ℕ) → Legal h → HeldOnce (state_at h place)
@@ -38,7 +39,7 @@ replayed left before after grants verdicts denials holders limits d = record {
   history = record {
     grants = λ front back job pod plan e. grants front back job pod plan (subst (λ (h : List Entry). Legal h) e d.run.legal);
     verdicts = λ front back job pod verdict e. verdicts front back job pod verdict (subst (λ (h : List Entry). Legal h) e d.run.legal);
-    denials = λ front back job denial e. denials front back job denial (subst (λ (h : List Entry). Legal h) e d.run.legal);
+    denials = λ front back job command refusal e. denials front back job command refusal (subst (λ (h : List Entry). Legal h) e d.run.legal);
     holders = λ place. holders d.history place d.run.legal;
     limits = λ place. limits d.history place d.run.legal;
   };

@@ -2,12 +2,9 @@ use Rattle.std.proofs.Common.{◌+◌, length}
 use Rattle.commands.specs.declared.command.Command.TheVariants.{Apply}
 use Rattle.ledger_core.specs.Applied.{creation}
 use Rattle.cluster.specs.History.{state_of}
-use Rattle.replay_core.proofs.Created.{built_absent, creation_ends, creation_of, creation_searched}
+use Rattle.replay_core.proofs.Created.{creation_ends, creation_of, creation_searched}
 use Rattle.replay_core.proofs.JobSteps.{begun_on_err, ran_first}
 use Rattle.replay_core.proofs.jobs.apply.Goals as goal
-
-pub apply-requires-clause-absent : goal.apply-requires-clause-absent
-apply-requires-clause-absent c = built_absent (state_of c.args.ledger.now.entries) c.args.ready c.requires.built
 
 pub returns-in_err-apply-clause-begun : goal.returns-in_err-apply-clause-begun
 returns-in_err-apply-clause-begun c = begun_on_err c.from_residual.result c.args.job (Apply c.args.ready) c.args.ledger.now c.apply.new.self c.in_err-apply.ensures.err c.requires.fresh

@@ -8,7 +8,7 @@ use Rattle.ledger_core.proofs.ledger.Ledger.refuse.Goals as goal
 
 pub invariant_of-self-2 : goal.invariant_of-self-2
 invariant_of-self-2 c =
-    let e : Entry = record { job = c.args.job; event = Denied c.args.denial } in
+    let e : Entry = record { job = c.args.job; event = Denied c.args.command c.args.refusal } in
     let step = subst (λ (h : History). Step h.entries e) (sym c.self.view_is) (record { allowed = c.requires.stand; stands = c.requires.due }) in
     rw (c.push_reserved.ensures.items, c.in_ok-place.ensures.entries) (IsKept-more _ e _ _ _ c.self.invariant step c.in_ok-place.ensures.within refl)
 

@@ -1,5 +1,5 @@
 use Rattle.std.proofs.Common.{rules}
-use Rattle.cluster.proofs.state.State.is_absent.Goals as goal
+use Rattle.cluster.proofs.state.State.is_there.Goals as goal
 
 pub returns-in-Claim : goal.returns-in-Claim
 returns-in-Claim c = rw (c.in-Claim.is, ← c.claim.view_is) (Prim.search rules)
