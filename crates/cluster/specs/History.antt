@@ -7,14 +7,18 @@ use Rattle.cluster.specs.declared.state.State.{State}
 use Rattle.cluster.specs.Events.{after, stand_after}
 use Rattle.cluster.specs.State.{empty_state}
 
--- the state after the entries es, which follow n entries that left s
-unfoldable pub state_from : State → ℕ → List Entry → State
-state_from s n [] = s
-state_from s n (e ∷ es) = state_from (after (n + 1) e.job e.event s) (n + 1) es
+-- What the entries es make of a, one after another, by what each does at its place; n entries stand
+-- before them.
+unfoldable pub told : {A : Type 0} → (A → ℕ → Entry → A) → A → ℕ → List Entry → A
+told step a n [] = a
+told step a n (e ∷ es) = told step (step a (n + 1) e) (n + 1) es
+
+abbrev pub next_state : State → ℕ → Entry → State
+next_state s place e = after place e.job e.event s
 
 -- the state after a history
 unfoldable pub state_of : List Entry → State
-state_of h = state_from empty_state 0 h
+state_of h = told next_state empty_state 0 h
 
 -- the state after the first entries
 abbrev pub state_at : List Entry → ℕ → State
@@ -24,11 +28,9 @@ state_at h place = state_of (take place h)
 abbrev pub entry_at : List Entry → ℕ → Option Entry
 entry_at h place = if place == 0 then None else slice_get h (place - 1)
 
--- the stand of the job after the entries es, which follow n entries that left it at st
-unfoldable pub stand_from : ℕ → Stand → ℕ → List Entry → Stand
-stand_from job st n [] = st
-stand_from job st n (e ∷ es) = stand_from job (if e.job == job then stand_after (n + 1) e.event else st) (n + 1) es
+abbrev pub next_stand : ℕ → Stand → ℕ → Entry → Stand
+next_stand job st place e = if e.job == job then stand_after st place e.event else st
 
 -- what the job's entries in a history leave
 unfoldable pub stand_of : List Entry → ℕ → Stand
-stand_of h job = stand_from job Fresh 0 h
+stand_of h job = told (next_stand job) Fresh 0 h

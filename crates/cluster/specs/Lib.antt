@@ -4,6 +4,7 @@ pub mod Tables
 pub mod Claims
 pub mod State
 pub mod Held
+pub mod Stand
 pub mod Applied
 pub mod Reserved
 pub mod Wrote

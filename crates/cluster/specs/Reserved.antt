@@ -12,6 +12,7 @@ use Rattle.cluster.specs.declared.state.ClaimState.{ClaimState}
 use Rattle.cluster.specs.declared.state.Phase.TheVariants.{Taken}
 use Rattle.cluster.specs.declared.state.State.{State}
 use Rattle.cluster.specs.declared.state.Use.TheVariants.{Assumed}
+use Rattle.cluster.specs.Stand.{failures}
 use Rattle.cluster.specs.Tables.{changed_at, with_phase}
 
 -- the claim granted to a pod, whose use is assumed at the claim's version
@@ -28,6 +29,6 @@ with_grants node pod (g ∷ gs) claims = with_grants node pod gs (with_grant nod
 abbrev pub with_reserved : ℕ → Key → Plan → State → State
 with_reserved job pod plan s = record s { claims = with_grants plan.node pod plan.grants s.claims; pods = with_phase pod (Taken job plan.node) s.pods }
 
--- its job has reserved
-abbrev pub reserved_leaves : Stand
-reserved_leaves = stand.Reserved
+-- its job has reserved, after as many failed attempts
+abbrev pub reserved_leaves : Stand → Stand
+reserved_leaves st = stand.Reserved (failures st)

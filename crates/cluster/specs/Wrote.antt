@@ -7,6 +7,7 @@ use Rattle.cluster.specs.declared.state.ClaimState.{ClaimState}
 use Rattle.cluster.specs.declared.state.Granted.{Granted}
 use Rattle.cluster.specs.declared.state.State.{State}
 use Rattle.cluster.specs.declared.state.Use.TheVariants.{Written}
+use Rattle.cluster.specs.Stand.{failures}
 use Rattle.cluster.specs.Tables.{changed_at}
 
 -- what was granted, for others to see
@@ -22,5 +23,5 @@ abbrev pub with_written : ℕ → Key → Key → State → State
 with_written place pod claim s = record s { claims = changed_at claim (written_by place pod) s.claims }
 
 -- its job has reserved still
-abbrev pub wrote_leaves : Stand
-wrote_leaves = stand.Reserved
+abbrev pub wrote_leaves : Stand → Stand
+wrote_leaves st = stand.Reserved (failures st)

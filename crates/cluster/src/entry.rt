@@ -57,13 +57,17 @@ pub enum Outcome {
     Denied,
 }
 
-/// What a job's entries leave.
+/// What a job's entries leave. The numbers count the attempts of the job that have failed.
 #[derive(Clone, Copy, Debug, PartialEq, Eq, Drop)]
 pub enum Stand {
     /// It has no entry.
     Fresh,
     /// It has reserved for its pod.
-    Reserved,
-    /// Its last entry stands at this place.
+    Reserved(u64),
+    /// It has met another version of a claim than the one it assumed.
+    Conflicted(u64),
+    /// Its last attempt has failed.
+    Failed(u64),
+    /// Its last entry is at this place.
     Ended(u64),
 }

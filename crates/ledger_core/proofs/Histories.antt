@@ -1,5 +1,5 @@
 -- What one entry more does to a history.
-use Rattle.std.proofs.Common.{ℕ, ◌+◌, ◌≤◌, ◌<◌, List, [], ◌∷◌, ◌++◌, ◌≡◌, ◌∙◌, length, refl, ap, arith, take, append_assoc, subst, sym, append-nil, length-append}
+use Rattle.std.proofs.Common.{ℕ, ◌+◌, ◌≤◌, ◌<◌, List, [], ◌∷◌, ◌++◌, ◌≡◌, ◌∙◌, cond, eqb, length, refl, ap, arith, take, append_assoc, subst, sym, append-nil, length-append}
 use Rattle.std.proofs.lemmas.List.{take_all}
 use Rattle.object_fields.specs.declared.key.Key.{Key}
 use Rattle.cluster.specs.declared.state.State.{State}
@@ -8,31 +8,42 @@ use Rattle.cluster.specs.declared.plan.Verdict.{Verdict}
 use Rattle.alloc_rules.specs.Plans.{PlanTrue, Holds, VerdictTrue}
 use Rattle.cluster.specs.State.{empty_state}
 use Rattle.cluster.specs.declared.entry.Entry.{Entry}
-use Rattle.cluster.specs.Events.{after}
-use Rattle.cluster.specs.History.{state_from, state_of, state_at}
+use Rattle.cluster.specs.declared.entry.Stand.TheVariants.{Fresh}
+use Rattle.cluster.specs.Events.{after, stand_after}
+use Rattle.cluster.specs.History.{next_stand, next_state, stand_of, state_at, state_of, told}
 use Rattle.ledger_core.specs.Reserved.{MayReserve}
 use Rattle.ledger_core.specs.Judged.{MayJudge}
 use Rattle.ledger_core.specs.Legal.{Step, LegalAfter, Legal}
-use Rattle.ledger_core.specs.Ledger.{IsKept}
 
-pub state_from-more : (s : State) (n : ℕ) (es : List Entry) (e : Entry) → state_from s n (es ++ e ∷ []) ≡ after (n + length es + 1) e.job e.event (state_from s n es)
-unfolding state_from
-state_from-more s n [] e = let eq : n + 1 ≡ n + 0 + 1 = omega arith in ap (λ (k : ℕ). after k e.job e.event s) eq
-state_from-more s n (d ∷ es) e =
-    let s' = after (n + 1) d.job d.event s in
+told-more : {A : Type 0} (step : A → ℕ → Entry → A) (a : A) (n : ℕ) (es : List Entry) (e : Entry) → told step a n (es ++ e ∷ []) ≡ step (told step a n es) (n + length es + 1) e
+unfolding told
+told-more step a n [] e = let eq : n + 1 ≡ n + 0 + 1 = omega arith in ap (λ (k : ℕ). step a k e) eq
+told-more step a n (d ∷ es) e =
     let eq : n + 1 + length es + 1 ≡ n + length (d ∷ es) + 1 = omega arith in
-    state_from-more s' (n + 1) es e ∙ ap (λ (k : ℕ). after k e.job e.event (state_from s' (n + 1) es)) eq
+    told-more step (step a (n + 1) d) (n + 1) es e ∙ ap (λ (k : ℕ). step (told step (step a (n + 1) d) (n + 1) es) k e) eq
+
+told_whole : {A : Type 0} (step : A → ℕ → Entry → A) (a : A) (es : List Entry) (e : Entry) → told step a 0 (es ++ e ∷ []) ≡ step (told step a 0 es) (length es + 1) e
+told_whole step a es e =
+    let eq : 0 + length es + 1 ≡ length es + 1 = omega arith in
+    told-more step a 0 es e ∙ ap (λ (k : ℕ). step (told step a 0 es) k e) eq
 
 pub state_of-empty : state_of [] ≡ empty_state
-unfolding state_of state_from
+unfolding state_of told
 state_of-empty = refl
+
+pub stand_of-empty : (job : ℕ) → stand_of [] job ≡ Fresh
+unfolding stand_of told
+stand_of-empty job = refl
 
 -- the state after one entry more
 pub state_of-more : (es : List Entry) (e : Entry) → state_of (es ++ e ∷ []) ≡ after (length es + 1) e.job e.event (state_of es)
 unfolding state_of
-state_of-more es e =
-    let eq : 0 + length es + 1 ≡ length es + 1 = omega arith in
-    state_from-more empty_state 0 es e ∙ ap (λ (k : ℕ). after k e.job e.event (state_from empty_state 0 es)) eq
+state_of-more es e = told_whole next_state empty_state es e
+
+-- the stand after one entry more
+pub stand_of-more : (es : List Entry) (e : Entry) (job : ℕ) → stand_of (es ++ e ∷ []) job ≡ cond (eqb e.job job) (stand_after (stand_of es job) (length es + 1) e.event) (stand_of es job)
+unfolding stand_of
+stand_of-more es e job = told_whole (next_stand job) Fresh es e
 
 pub LegalAfter-more : (before es : List Entry) (e : Entry) → LegalAfter before es → Step (before ++ es) e → LegalAfter before (es ++ e ∷ [])
 unfolding LegalAfter
@@ -48,16 +59,6 @@ Legal-empty = tt
 pub Legal-more : (es : List Entry) (e : Entry) → Legal es → Step es e → Legal (es ++ e ∷ [])
 unfolding Legal
 Legal-more es e legal step = LegalAfter-more [] es e legal step
-
--- what a ledger keeps, it keeps with one entry more
-pub IsKept-more : (es : List Entry) (e : Entry) (s s' : State) (limit : ℕ) → IsKept es s limit → Step es e → length es < limit
-    → s' ≡ after (length es + 1) e.job e.event s → IsKept (es ++ e ∷ []) s' limit
-IsKept-more es e s s' limit kept step room is = record {
-  legal = Legal-more es e kept.legal step;
-  state_is = is ∙ ap (λ (t : State). after (length es + 1) e.job e.event t) kept.state_is ∙ sym (state_of-more es e);
-  within = omega (arith, length-append es (e ∷ []));
-  small = kept.small;
-}
 
 -- the state at the end of a history is the one after it
 pub state_at-end : (h : List Entry) (at : ℕ) → at ≡ length h → state_of h ≡ state_at h at

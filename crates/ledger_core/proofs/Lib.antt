@@ -1,5 +1,7 @@
 pub mod Histories
-pub mod Stands
+pub mod Rows
+pub mod Standing
+pub mod Keeping
 pub mod GoingOn
 pub mod Creating
 pub mod Headlines

@@ -1,10 +1,16 @@
 -- A ledger as contracts see it.
-use Rattle.std.specs.Prelude.{ℕ, ◌≡◌, ◌≤◌, ◌^◌, ◌<◌, ◌++◌, ◌∷◌, [], List, length}
+use Rattle.std.specs.Prelude.{ℕ, ◌≡◌, ◌≤◌, ◌^◌, ◌<◌, ◌++◌, ◌∷◌, [], List, length, Option}
+use Rattle.std.specs.BTreeMap.{is_at}
+use Rattle.std.specs.Map.{lookup}
+use Rattle.std.specs.Option.{unwrap_or}
+use Rattle.std.specs.Ordering.{nat_cmp}
+use Rattle.cluster.specs.declared.entry.Stand.{Stand}
+use Rattle.cluster.specs.declared.entry.Stand.TheVariants.{Fresh}
 use Rattle.cluster.specs.declared.state.State.{State}
 use Rattle.cluster.specs.declared.entry.Entry.{Entry}
 use Rattle.cluster.specs.declared.entry.Event.{Event}
 use Rattle.ledger_core.specs.Legal.{Legal}
-use Rattle.cluster.specs.History.{state_of}
+use Rattle.cluster.specs.History.{stand_of, state_of}
 
 -- its entries, and how many it may have
 pub record History : Type 0 where
@@ -15,9 +21,18 @@ pub record History : Type 0 where
 abbrev pub appended : History → ℕ → Event → History
 appended h job event = record h { entries = h.entries ++ record { job = job; event = event } ∷ [] }
 
--- the entries are a legal history, and the state is the one after them
-pub record IsKept (entries : List Entry) (state : State) (limit : ℕ) : Type 0 where
+-- what a table has at a number
+abbrev pub at : {V : Type 0} → List (ℕ × V) → ℕ → Option V
+at table n = lookup (is_at (nat_cmp n)) table
+
+-- the row of a job in the table of stands; a job without one is Fresh
+abbrev pub stand_in : List (ℕ × Stand) → ℕ → Stand
+stand_in stands job = unwrap_or (at stands job) Fresh
+
+-- the entries are a legal history, and the state and each job's stand are those after them
+pub record IsKept (entries : List Entry) (state : State) (stands : List (ℕ × Stand)) (limit : ℕ) : Type 0 where
   pub legal : Legal entries
   pub state_is : state ≡ state_of entries
+  pub stands_are : (job : ℕ) → stand_in stands job ≡ stand_of entries job
   pub within : length entries ≤ limit
   pub small : limit < 2 ^ 48

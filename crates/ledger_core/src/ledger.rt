@@ -1,4 +1,4 @@
-ghost use Rattle.std.specs.Prelude.{◌≡◌, ◌≤◌, ◌<◌, ◌^◌, ◌+◌, ◌-◌, [], length, ℕ, List, true, IfOk, OnOk, OnErr, IsErrOf, vec_len, option_copied, if◌then◌else◌, ◌==◌};
+ghost use Rattle.std.specs.Prelude.{◌≡◌, ◌≤◌, ◌<◌, ◌^◌, ◌+◌, ◌-◌, [], length, ℕ, List, true, IfOk, OnOk, OnErr, IsErrOf, is_some, vec_len, option_copied, if◌then◌else◌, ◌==◌};
 ghost use Rattle.std.specs.Vec.{vec_capacity};
 ghost use Rattle.cluster.specs.Ready.{object_of};
 ghost use Rattle.cluster.specs.Applied.{with_object};
@@ -8,25 +8,26 @@ ghost use Rattle.cluster.specs.declared.entry.Command.TheVariants.{Create, Inval
 ghost use Rattle.cluster.specs.declared.entry.Refusal.TheVariants as refusal;
 ghost use Rattle.cluster.specs.Denied.{first_refusal};
 ghost use Rattle.cluster.specs.declared.entry.Event.TheVariants.{Applied, Reserved, Wrote, Bound, Judged, Denied};
+ghost use Rattle.cluster.specs.Stand.{has_reserved};
 ghost use Rattle.cluster.specs.Events.{allows, outcome_of, stand_after};
 ghost use Rattle.ledger_core.specs.Applied.{creation};
 ghost use Rattle.ledger_core.specs.Wrote.{MayWrite};
 ghost use Rattle.ledger_core.specs.Bound.{MayBind};
 ghost use Rattle.cluster.specs.State.{has_room, taken_node, version_of};
-ghost use Rattle.ledger_core.specs.Ledger.{appended};
+ghost use Rattle.ledger_core.specs.Ledger.{appended, at, stand_in};
 ghost use Rattle.cluster.specs.History.{entry_at, state_of, stand_of};
 ghost use Rattle.ledger_core.specs.Legal.{Legal};
 ghost use Rattle.ledger_core.specs.Applied.{MayCreate};
 ghost use Rattle.ledger_core.specs.Denied.{MayDeny};
 
 use crate::LedgerError;
-use crate::room::make_room;
+use crate::room::{Stands, append, make_room, stand_in};
 use alloc_rules::{grants_at_most_one, plan_holds};
 use cluster::{
     Command, Entry, Event, Kept, Outcome, Phase, Plan, Ready, ReadyParts, Refusal, Stand, State,
     Verdict,
 };
-use dra_values::Text;
+use dra_values::{Table, Text};
 use object_fields::{FieldError, Key, Kind};
 use std::alloc::{AllocError, Global};
 use std::marker::Model;
@@ -45,6 +46,7 @@ pub struct Done {
 pub struct Ledger {
     entries: Vec<Entry>,
     state: State,
+    stands: Stands,
     limit: u64,
 }
 
@@ -55,7 +57,7 @@ impl Model for Ledger {
 
     ghost view = { λ l. record { entries = l.entries.items; limit = l.limit } };
 
-    ghost invariant = { λ l. IsKept l.entries.items l.state l.limit };
+    ghost invariant = { λ l. IsKept l.entries.items l.state l.stands l.limit };
 }
 
 impl Ledger {
@@ -67,6 +69,7 @@ impl Ledger {
         Ok(Ledger {
             entries: Vec::new(alloc),
             state: State::new(alloc),
+            stands: Table::new(alloc),
             limit,
         })
     }
@@ -108,7 +111,7 @@ impl Ledger {
     pub fn stand(&self, job: u64) -> Stand
         ensures { result ≡ stand_of self.now.entries job }
     {
-        stand_in(&self.entries, job)
+        stand_in(&self.stands, job)
     }
 
     /// Creates an object whose selectors are compiled. Where one of its kind and name is there, or all
@@ -172,12 +175,10 @@ impl Ledger {
     {
         plan_holds();
         grants_at_most_one();
-        let place = make_room(&mut self.entries, self.limit)?;
+        let place = make_room(&mut self.entries, &mut self.stands, self.limit, job)?;
         let (pod, plan) = grant(alloc, &mut self.state, job, pod, plan)?;
-        self.entries.push_reserved(Entry {
-            job,
-            event: Event::Reserved { pod, plan },
-        });
+        let event = Event::Reserved { pod, plan };
+        append(&mut self.entries, &mut self.stands, job, event);
         Ok(Done {
             place,
             outcome: Outcome::Made,
@@ -192,7 +193,7 @@ impl Ledger {
         pod: &Key,
         claim: &Key,
     ) -> Result<Done, LedgerError>
-        requires stand { stand_of self.old.entries job ≡ Stand.Reserved }
+        requires stand { has_reserved (stand_of self.old.entries job) ≡ true }
         requires step { MayWrite (state_of self.old.entries) pod.now job claim.now (version_of (state_of self.old.entries) claim.now) }
         ensures ok { OnOk result (self.new ≡ appended self.old job (Wrote pod.now claim.now (version_of (state_of self.old.entries) claim.now))) }
         ensures place { IfOk result (λ done. done.place ≡ length self.new.entries) }
@@ -201,19 +202,17 @@ impl Ledger {
         ensures full { (n : ℕ) → IsErrOf result (LedgerError.Full n) → (length self.old.entries ≡ n) × (self.old.limit ≤ n) }
         ensures err { OnErr result (self.new ≡ self.old) }
     {
-        let place = make_room(&mut self.entries, self.limit)?;
+        let place = make_room(&mut self.entries, &mut self.stands, self.limit, job)?;
         let kept_pod = pod.copy(alloc)?;
         let kept_claim = claim.copy(alloc)?;
         let seen = version(&self.state, claim);
         self.state.write(place, pod, claim);
-        self.entries.push_reserved(Entry {
-            job,
-            event: Event::Wrote {
-                pod: kept_pod,
-                claim: kept_claim,
-                seen,
-            },
-        });
+        let event = Event::Wrote {
+            pod: kept_pod,
+            claim: kept_claim,
+            seen,
+        };
+        append(&mut self.entries, &mut self.stands, job, event);
         Ok(Done {
             place,
             outcome: Outcome::Made,
@@ -222,7 +221,7 @@ impl Ledger {
 
     /// Binds the pod to the node that the job took it for, once each of its uses is written.
     pub fn bind(&mut self, alloc: Global, job: u64, pod: &Key) -> Result<Done, LedgerError>
-        requires stand { stand_of self.old.entries job ≡ Stand.Reserved }
+        requires stand { has_reserved (stand_of self.old.entries job) ≡ true }
         requires step { MayBind (state_of self.old.entries) pod.now job (taken_node (state_of self.old.entries) pod.now) }
         ensures ok { OnOk result (self.new ≡ appended self.old job (Bound pod.now (taken_node (state_of self.old.entries) pod.now))) }
         ensures place { IfOk result (λ done. done.place ≡ length self.new.entries) }
@@ -231,18 +230,16 @@ impl Ledger {
         ensures full { (n : ℕ) → IsErrOf result (LedgerError.Full n) → (length self.old.entries ≡ n) × (self.old.limit ≤ n) }
         ensures err { OnErr result (self.new ≡ self.old) }
     {
-        let place = make_room(&mut self.entries, self.limit)?;
+        let place = make_room(&mut self.entries, &mut self.stands, self.limit, job)?;
         let kept_pod = pod.copy(alloc)?;
         let node = node_of(alloc, &self.state, pod)?;
         let kept_node = node.copy(alloc)?;
         self.state.bind(pod, node);
-        self.entries.push_reserved(Entry {
-            job,
-            event: Event::Bound {
-                pod: kept_pod,
-                node: kept_node,
-            },
-        });
+        let event = Event::Bound {
+            pod: kept_pod,
+            node: kept_node,
+        };
+        append(&mut self.entries, &mut self.stands, job, event);
         Ok(Done {
             place,
             outcome: Outcome::Made,
@@ -267,12 +264,10 @@ impl Ledger {
         ensures full { (n : ℕ) → IsErrOf result (LedgerError.Full n) → (length self.old.entries ≡ n) × (self.old.limit ≤ n) }
         ensures err { OnErr result (self.new ≡ self.old) }
     {
-        let place = make_room(&mut self.entries, self.limit)?;
+        let place = make_room(&mut self.entries, &mut self.stands, self.limit, job)?;
         let pod = pod.copy(alloc)?;
-        self.entries.push_reserved(Entry {
-            job,
-            event: Event::Judged { pod, verdict },
-        });
+        let event = Event::Judged { pod, verdict };
+        append(&mut self.entries, &mut self.stands, job, event);
         Ok(Done {
             place,
             outcome: Outcome::Made,
@@ -293,11 +288,17 @@ impl Ledger {
         ensures err { OnErr result (self.new ≡ self.old) }
     {
         let ReadyParts { object, kept } = ready.into_parts();
-        let place = put_object(alloc, &mut self.entries, &mut self.state, self.limit, kept)?;
-        self.entries.push_reserved(Entry {
+        let place = put_object(
+            alloc,
+            &mut self.entries,
+            &mut self.stands,
+            &mut self.state,
+            self.limit,
             job,
-            event: Event::Applied(object),
-        });
+            kept,
+        )?;
+        let event = Event::Applied(object);
+        append(&mut self.entries, &mut self.stands, job, event);
         Ok(Done {
             place,
             outcome: Outcome::Made,
@@ -315,11 +316,9 @@ impl Ledger {
         ensures full { (n : ℕ) → IsErrOf result (LedgerError.Full n) → (length self.old.entries ≡ n) × (self.old.limit ≤ n) }
         ensures err { OnErr result (self.new ≡ self.old) }
     {
-        let place = make_room(&mut self.entries, self.limit)?;
-        self.entries.push_reserved(Entry {
-            job,
-            event: Event::Denied { command, refusal },
-        });
+        let place = make_room(&mut self.entries, &mut self.stands, self.limit, job)?;
+        let event = Event::Denied { command, refusal };
+        append(&mut self.entries, &mut self.stands, job, event);
         Ok(Done {
             place,
             outcome: Outcome::Denied,
@@ -331,13 +330,17 @@ impl Ledger {
 fn put_object(
     alloc: Global,
     entries: &mut Vec<Entry>,
+    stands: &mut Stands,
     state: &mut State,
     limit: u64,
+    job: u64,
     kept: Kept,
 ) -> Result<u64, LedgerError>
     requires limit { limit < 2 ^ 48 }
     requires free { has_room state.old (object_of kept) ≡ true }
     ensures entries { entries.new.items ≡ entries.old.items }
+    ensures stands { (j : ℕ) → stand_in stands.new j ≡ stand_in stands.old j }
+    ensures row { OnOk result (is_some (at stands.new job) ≡ true) }
     ensures room { OnOk result (vec_len entries.new < vec_capacity entries.new) }
     ensures within { OnOk result (length entries.old.items < limit) }
     ensures place { IfOk result (λ place. place ≡ length entries.old.items + 1) }
@@ -345,7 +348,7 @@ fn put_object(
     ensures full { (n : ℕ) → IsErrOf result (LedgerError.Full n) → (length entries.old.items ≡ n) × (limit ≤ n) }
     ensures err { OnErr result (state.new ≡ state.old) }
 {
-    let place = make_room(entries, limit)?;
+    let place = make_room(entries, stands, limit, job)?;
     state.put(alloc, place, kept)?;
     Ok(place)
 }
@@ -390,36 +393,4 @@ fn node_of(alloc: Global, state: &State, pod: &Key) -> Result<Text, AllocError>
             Phase::Idle | Phase::Bound(_) => Text::from_str(alloc, ""),
         },
     }
-}
-
-fn stand_after(place: u64, event: &Event) -> Stand
-    ensures { result ≡ stand_after place event.now }
-{
-    match event {
-        Event::Applied(_) | Event::Bound { .. } | Event::Judged { .. } | Event::Denied { .. } => {
-            Stand::Ended(place)
-        }
-        Event::Reserved { .. } | Event::Wrote { .. } => Stand::Reserved,
-    }
-}
-
-/// The stand after one entry more.
-fn next_stand(stand: Stand, entry: &Entry, job: u64, place: u64) -> Stand
-    ensures { result ≡ (if entry.now.job == job then stand_after place entry.now.event else stand) }
-{
-    if entry.job == job {
-        stand_after(place, &entry.event)
-    } else {
-        stand
-    }
-}
-
-fn stand_in(entries: &[Entry], job: u64) -> Stand
-    ensures { result ≡ stand_of entries.now job }
-{
-    let mut stand = Stand::Fresh;
-    for i in 0..entries.len() {
-        stand = next_stand(stand, &entries[i], job, i as u64 + 1);
-    }
-    stand
 }

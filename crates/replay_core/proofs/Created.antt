@@ -3,6 +3,7 @@ use Rattle.std.proofs.Common.{ℕ, List, ◌≡◌, Option, None, Some, refl, in
 use Rattle.cluster.specs.declared.entry.Command.TheVariants.{Create}
 use Rattle.cluster.specs.declared.entry.Entry.{Entry}
 use Rattle.cluster.specs.declared.entry.Refusal.{Refusal}
+use Rattle.cluster.specs.declared.entry.Stand.{Stand}
 use Rattle.cluster.specs.declared.entry.Stand.TheVariants.{Ended}
 use Rattle.cluster.specs.declared.object.Object.{Object}
 use Rattle.cluster.specs.declared.state.State.{State}
@@ -20,9 +21,9 @@ searched_creation : (o : Option Refusal) (before : List Entry) (job begun budget
 searched_creation None before job begun budget x = tt
 searched_creation (Some r) before job begun budget x = tt
 
-ended_creation : (o : Option Refusal) (place : ℕ) (x : Object) → stand_after place (creation_by x o) ≡ Ended place
-ended_creation None place x = refl
-ended_creation (Some r) place x = refl
+ended_creation : (st : Stand) (o : Option Refusal) (place : ℕ) (x : Object) → stand_after st place (creation_by x o) ≡ Ended place
+ended_creation st None place x = refl
+ended_creation st (Some r) place x = refl
 
 -- what it makes is of the command
 pub creation_of : (s : State) (x : Object) → IsOf (command.Apply x) (creation s x)
@@ -33,5 +34,5 @@ pub creation_searched : (s : State) (before : List Entry) (job begun budget : �
 creation_searched s before job begun budget x = searched_creation (first_refusal s (Create x)) before job begun budget x
 
 -- and ends its job
-pub creation_ends : (s : State) (place : ℕ) (x : Object) → stand_after place (creation s x) ≡ Ended place
-creation_ends s place x = ended_creation (first_refusal s (Create x)) place x
+pub creation_ends : (s : State) (st : Stand) (place : ℕ) (x : Object) → stand_after st place (creation s x) ≡ Ended place
+creation_ends s st place x = ended_creation st (first_refusal s (Create x)) place x

@@ -143,8 +143,8 @@ begun_on_err r job c old new same fresh =
     (λ budget attempts two some. begun_at_first job c budget attempts old new same fresh some)
 
 -- a job that has reserved isn't ended
-pub reserved_goes : (job : ℕ) (h : List Entry) → stand_of h job ≡ stand.Reserved → (place : ℕ) → stand_of h job ≡ stand.Ended place → ⊥
-reserved_goes job h reserved place ended = let e : stand.Reserved ≡ stand.Ended place = sym reserved ∙ ended in absurd (cc)
+pub reserved_goes : (job : ℕ) (h : List Entry) → stand_of h job ≡ stand.Reserved 0 → (place : ℕ) → stand_of h job ≡ stand.Ended place → ⊥
+reserved_goes job h reserved place ended = let e : stand.Reserved 0 ≡ stand.Ended place = sym reserved ∙ ended in absurd (cc)
 
 within_next : (b : Bool) (last n : ℕ) → last ≤ n → cond b (n + 1) last ≤ n + 1
 within_next true last n le = omega arith
@@ -188,16 +188,16 @@ steps_two job c a b d first second =
     record { doing = λ budget start x. second.doing budget start (first.doing budget start x); limit = second.limit ∙ first.limit }
 
 -- what an entry of the job leaves of its stand
-pub stand_now : (law : (h : List Entry) (e : Entry) (job : ℕ) → stand_of (h ++ e ∷ []) job ≡ cond (eqb e.job job) (stand_after (length h + 1) e.event) (stand_of h job))
-    → (job : ℕ) (old new : History) (event : Event) → new ≡ appended old job event → stand_of new.entries job ≡ stand_after (length old.entries + 1) event
+pub stand_now : (law : (h : List Entry) (e : Entry) (job : ℕ) → stand_of (h ++ e ∷ []) job ≡ cond (eqb e.job job) (stand_after (stand_of h job) (length h + 1) e.event) (stand_of h job))
+    → (job : ℕ) (old new : History) (event : Event) → new ≡ appended old job event → stand_of new.entries job ≡ stand_after (stand_of old.entries job) (length old.entries + 1) event
 stand_now law job old new event is =
     ap (λ (h : History). stand_of h.entries job) is ∙ law old.entries (record { job = job; event = event }) job
-    ∙ ap (λ (b : Bool). cond b (stand_after (length old.entries + 1) event) (stand_of old.entries job)) (eq-eqb job job refl)
+    ∙ ap (λ (b : Bool). cond b (stand_after (stand_of old.entries job) (length old.entries + 1) event) (stand_of old.entries job)) (eq-eqb job job refl)
 
 -- a job whose first entry ends it was run whole
-pub ran_first : (law : (h : List Entry) (e : Entry) (job : ℕ) → stand_of (h ++ e ∷ []) job ≡ cond (eqb e.job job) (stand_after (length h + 1) e.event) (stand_of h job))
+pub ran_first : (law : (h : List Entry) (e : Entry) (job : ℕ) → stand_of (h ++ e ∷ []) job ≡ cond (eqb e.job job) (stand_after (stand_of h job) (length h + 1) e.event) (stand_of h job))
     → (job : ℕ) (c : Command) (budget attempts : ℕ) (old new : History) (event : Event) → new ≡ appended old job event → IsOf c event
-    → IsSearched old.entries job (length old.entries) budget event → stand_after (length old.entries + 1) event ≡ stand.Ended (length old.entries + 1) → 0 < attempts
+    → IsSearched old.entries job (length old.entries) budget event → stand_after (stand_of old.entries job) (length old.entries + 1) event ≡ stand.Ended (length old.entries + 1) → 0 < attempts
     → Ran job c budget attempts old new
 ran_first law job c budget attempts old new event is of_command searched ends some =
     ran_from job c budget attempts old new (subst (λ (h : History). Doing job c budget old.entries h.entries) (sym is) (doing_first job c budget old.entries event of_command searched))
@@ -223,7 +223,7 @@ ran_at_end (Err e) job c old mid new begun limit steps ended = tt
 -- one that began well and was not ended was begun
 pub begun_later : {X E : Type 0} (r : Result X E) (job : ℕ) (pod : Key) (old mid new : History)
     → ((budget : ℕ) → 2 ≤ budget → Doing job (command.Schedule pod) budget old.entries mid.entries) → mid.limit ≡ old.limit → StepsOn job (command.Schedule pod) mid new
-    → OnErr r (stand_of new.entries job ≡ stand.Reserved)
+    → OnErr r (stand_of new.entries job ≡ stand.Reserved 0)
     → OnErr r ((budget attempts : ℕ) → 2 ≤ budget → 0 < attempts → Begun job (command.Schedule pod) budget attempts old new)
 begun_later (Ok x) job pod old mid new begun limit steps stands = tt
 begun_later (Err e) job pod old mid new begun limit steps stands =

@@ -23,7 +23,7 @@ use Rattle.replay_core.proofs.Scripts.{at_each_joined}
 
 -- the laws of histories and of lines, which the calls of lower crates state
 abbrev pub StandLaw : Type 0
-StandLaw = (h : List Entry) (e : Entry) (job : ℕ) → stand_of (h ++ e ∷ []) job ≡ cond (eqb e.job job) (stand_after (length h + 1) e.event) (stand_of h job)
+StandLaw = (h : List Entry) (e : Entry) (job : ℕ) → stand_of (h ++ e ∷ []) job ≡ cond (eqb e.job job) (stand_after (stand_of h job) (length h + 1) e.event) (stand_of h job)
 
 abbrev pub LinesLaw : Type 0
 LinesLaw = (n : ℕ) (xs ys : List Entry) → lines_from n (xs ++ ys) ≡ lines_from n xs ++ lines_from (n + length xs) ys
@@ -64,7 +64,7 @@ own_only law job c begun b before (e ∷ es) other made apart =
     ap (λ (h : List Entry). stand_of h other) (sym (append_assoc before (e ∷ []) es))
     ∙ own_only law job c begun b (before ++ e ∷ []) es other made.1 apart
     ∙ law before e other
-    ∙ ap (λ (t : Bool). cond t (stand_after (length before + 1) e.event) (stand_of before other)) differs
+    ∙ ap (λ (t : Bool). cond t (stand_after (stand_of before other) (length before + 1) e.event) (stand_of before other)) differs
 
 drop_front : (xs ys : List Entry) → drop (length xs) (xs ++ ys) ≡ ys
 drop_front [] ys = refl

@@ -43,7 +43,7 @@ pub record StepsOn (job : ℕ) (c : Command) (old new : History) : Type 0 where
 
 -- the job has reserved for the pod, and may write its uses of these claims and then bind it
 pub record MayFinish (job : ℕ) (pod : Key) (claims : List Key) (h : List Entry) : Type 0 where
-  pub stand : stand_of h job ≡ stand.Reserved
+  pub stand : stand_of h job ≡ stand.Reserved 0
   pub node : List ℕ
   pub goes_on : GoesOn (state_of h) pod job node claims
 

@@ -213,7 +213,7 @@ fn finish(
     requires { MayFinish job pod.now claims.now ledger.old.entries }
     ensures steps { StepsOn job (Schedule pod.now) ledger.old ledger.new }
     ensures ended { OnOk result ((place : ℕ) × (stand_of ledger.new.entries job ≡ Ended place)) }
-    ensures begun { OnErr result (stand_of ledger.new.entries job ≡ Reserved) }
+    ensures begun { OnErr result (stand_of ledger.new.entries job ≡ Reserved 0) }
     ensures full { (n : ℕ) → IsErrOf result (LedgerError.Full n) → IsFull ledger.new n }
 {
     write_uses(alloc, ledger, job, pod, claims)?;
@@ -231,7 +231,7 @@ fn write_uses(
     requires { MayFinish job pod.now claims.now ledger.old.entries }
     ensures steps { StepsOn job (Schedule pod.now) ledger.old ledger.new }
     ensures ok { OnOk result (MayFinish job pod.now [] ledger.new.entries) }
-    ensures begun { stand_of ledger.new.entries job ≡ Reserved }
+    ensures begun { stand_of ledger.new.entries job ≡ Reserved 0 }
     ensures full { (n : ℕ) → IsErrOf result (LedgerError.Full n) → IsFull ledger.new n }
 {
     for claim in claims {
@@ -251,7 +251,7 @@ fn write_use(
     requires { (rest : List Key) × MayFinish job pod.now (claim.now ∷ rest) ledger.old.entries }
     ensures steps { StepsOn job (Schedule pod.now) ledger.old ledger.new }
     ensures ok { OnOk result ((rest : List Key) → MayFinish job pod.now (claim.now ∷ rest) ledger.old.entries → MayFinish job pod.now rest ledger.new.entries) }
-    ensures begun { stand_of ledger.new.entries job ≡ Reserved }
+    ensures begun { stand_of ledger.new.entries job ≡ Reserved 0 }
     ensures full { (n : ℕ) → IsErrOf result (LedgerError.Full n) → IsFull ledger.new n }
 {
     histories_grow();
@@ -264,7 +264,7 @@ fn bind(alloc: Global, ledger: &mut Ledger, job: u64, pod: &Key) -> Result<(), L
     requires { MayFinish job pod.now [] ledger.old.entries }
     ensures steps { StepsOn job (Schedule pod.now) ledger.old ledger.new }
     ensures ended { OnOk result ((place : ℕ) × (stand_of ledger.new.entries job ≡ Ended place)) }
-    ensures begun { OnErr result (stand_of ledger.new.entries job ≡ Reserved) }
+    ensures begun { OnErr result (stand_of ledger.new.entries job ≡ Reserved 0) }
     ensures full { (n : ℕ) → IsErrOf result (LedgerError.Full n) → IsFull ledger.new n }
 {
     histories_grow();

@@ -1,5 +1,4 @@
-use Rattle.ledger_core.proofs.Histories.{state_of-more}
-use Rattle.ledger_core.proofs.Stands.{stand_of-more, stand_of-empty}
+use Rattle.ledger_core.proofs.Histories.{stand_of-empty, stand_of-more, state_of-more}
 use Rattle.ledger_core.proofs.laws.histories_grow.Goals as goal
 
 pub returns-clause-state : goal.returns-clause-state

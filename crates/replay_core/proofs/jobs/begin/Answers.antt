@@ -1,8 +1,10 @@
-use Rattle.std.proofs.Common.{length, ◌∙◌, refl, sym, ap, subst}
+use Rattle.std.proofs.Common.{length, ◌+◌, ◌∙◌, refl, sym, ap, subst}
 use Rattle.cluster.specs.declared.state.State.{State}
 use Rattle.alloc_rules.specs.Plans.{PlanBy}
 use Rattle.commands.specs.declared.command.Command.TheVariants.{Schedule}
 use Rattle.cluster.specs.declared.entry.Event.TheVariants.{Reserved}
+use Rattle.cluster.specs.declared.entry.Stand.{Stand}
+use Rattle.cluster.specs.Events.{stand_after}
 use Rattle.cluster.specs.History.{state_of}
 use Rattle.ledger_core.specs.Ledger.{History}
 use Rattle.replay_core.specs.Jobs.{IsSearched}
@@ -27,6 +29,6 @@ returns-clause-may_finish c =
     let plan = c.args.plan.now in
     let event = Reserved pod plan in
     let ok = c.in_ok-reserve.ensures.ok in
-    may_finish c.args.job pod plan old new c.requires.plan.holds (stand_now c.histories_grow.ensures.stand c.args.job old new event ok)
+    may_finish c.args.job pod plan old new c.requires.plan.holds (stand_now c.histories_grow.ensures.stand c.args.job old new event ok ∙ ap (λ (st : Stand). stand_after st (length old.entries + 1) event) c.requires.fresh)
     (ap (λ (x : History). state_of x.entries) ok ∙ c.histories_grow.ensures.state old.entries (record { job = c.args.job; event = event }))
     (c.reserved_goes_on.ensures (state_of old.entries) pod plan c.args.job c.requires.plan.holds)

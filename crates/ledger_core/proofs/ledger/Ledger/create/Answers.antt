@@ -6,7 +6,7 @@ use Rattle.cluster.specs.declared.entry.Event.TheVariants.{Applied}
 use Rattle.cluster.specs.Events.{after}
 use Rattle.ledger_core.specs.Ledger.{History}
 use Rattle.ledger_core.specs.Legal.{Step}
-use Rattle.ledger_core.proofs.Histories.{IsKept-more}
+use Rattle.ledger_core.proofs.Keeping.{kept_more}
 use Rattle.ledger_core.proofs.ledger.Ledger.create.Goals as goal
 
 pub invariant_of-self-2 : goal.invariant_of-self-2
@@ -17,7 +17,7 @@ invariant_of-self-2 c =
     let placed = c.in_ok-place.ensures in
     let made : c.put_object.new.state ≡ after (length c.self.inside.entries.items + 1) c.args.job (Applied c.args.ready) c.self.inside.state =
     placed.ok ∙ ap (λ (x : Object). with_object (length c.self.inside.entries.items + 1) x c.self.inside.state) parts.kept.same in
-    rw (c.push_reserved.ensures.items, c.put_object.ensures.entries, parts.object) (IsKept-more _ e _ _ _ c.self.invariant step placed.within made)
+    rw (c.append.ensures.entries, c.put_object.ensures.entries, parts.object) (kept_more _ e _ _ _ _ _ _ c.self.invariant step placed.within made c.put_object.ensures.stands (rw c.put_object.ensures.entries at c.append.ensures.stands))
 
 pub returns-clause-legal : goal.returns-clause-legal
 returns-clause-legal c = (invariant_of-self-2 c).legal

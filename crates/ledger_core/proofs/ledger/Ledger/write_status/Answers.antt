@@ -3,13 +3,12 @@ use Rattle.cluster.specs.declared.state.State.{State}
 use Rattle.cluster.specs.Wrote.{with_written}
 use Rattle.cluster.specs.declared.entry.Entry.{Entry}
 use Rattle.cluster.specs.declared.entry.Event.TheVariants.{Wrote}
-use Rattle.cluster.specs.declared.entry.Stand.{Stand}
-use Rattle.cluster.specs.Events.{after, allows}
+use Rattle.cluster.specs.Events.{after}
 use Rattle.cluster.specs.State.{version_of}
 use Rattle.ledger_core.specs.Ledger.{History}
 use Rattle.ledger_core.specs.Legal.{Step}
 use Rattle.cluster.specs.History.{state_of}
-use Rattle.ledger_core.proofs.Histories.{IsKept-more}
+use Rattle.ledger_core.proofs.Keeping.{kept_more}
 use Rattle.ledger_core.proofs.ledger.Ledger.write_status.Goals as goal
 
 pub invariant_of-self-2 : goal.invariant_of-self-2
@@ -20,12 +19,12 @@ invariant_of-self-2 c =
     let e : Entry = record { job = c.args.job; event = Wrote pod claim n } in
     let step =
     subst (λ (h : History). Step h.entries (record { job = c.args.job; event = Wrote pod claim (version_of (state_of h.entries) claim) })) (sym c.self.view_is)
-    (record { allowed = ap (λ (st : Stand). allows st (Wrote pod claim (version_of (state_of c.args.self.now.entries) claim))) c.requires.stand; stands = c.requires.step }) in
+    (record { allowed = c.requires.stand; stands = c.requires.step }) in
     let seen : c.version-seen.result ≡ n = c.version-seen.ensures ∙ ap (λ (s : State). version_of s claim) c.self.invariant.state_is in
     let made : c.write.new.self ≡ after (length c.self.inside.entries.items + 1) c.args.job (Wrote pod claim n) c.self.inside.state =
     c.write.ensures ∙ ap (λ (k : ℕ). with_written k pod claim c.self.inside.state) c.in_ok-place.ensures.place in
-    rw (c.push_reserved.ensures.items, c.in_ok-place.ensures.entries, c.in_ok-kept_pod.ensures, c.in_ok-kept_claim.ensures, seen)
-    (IsKept-more _ e _ _ _ c.self.invariant step c.in_ok-place.ensures.within made)
+    rw (c.append.ensures.entries, c.in_ok-place.ensures.entries, c.in_ok-kept_pod.ensures, c.in_ok-kept_claim.ensures, seen)
+    (kept_more _ e _ _ _ _ _ _ c.self.invariant step c.in_ok-place.ensures.within made c.in_ok-place.ensures.stands c.append.ensures.stands)
 
 pub returns-clause-legal : goal.returns-clause-legal
 returns-clause-legal c = (invariant_of-self-2 c).legal

@@ -1,0 +1,35 @@
+-- How a job stands.
+use Rattle.std.specs.Prelude.{ℕ, Bool, true, false}
+use Rattle.cluster.specs.declared.entry.Stand.{Stand}
+use Rattle.cluster.specs.declared.entry.Stand.TheVariants as stand
+
+-- how many attempts of the job have failed
+abbrev pub failures : Stand → ℕ
+failures stand.Fresh = 0
+failures (stand.Reserved k) = k
+failures (stand.Conflicted k) = k
+failures (stand.Failed k) = k
+failures (stand.Ended place) = 0
+
+-- it has no entry
+abbrev pub is_fresh : Stand → Bool
+is_fresh stand.Fresh = true
+is_fresh (stand.Reserved k) = false
+is_fresh (stand.Conflicted k) = false
+is_fresh (stand.Failed k) = false
+is_fresh (stand.Ended place) = false
+
+-- an attempt may begin
+abbrev pub may_try : Stand → Bool
+may_try stand.Fresh = true
+may_try (stand.Reserved k) = false
+may_try (stand.Conflicted k) = false
+may_try (stand.Failed k) = true
+may_try (stand.Ended place) = false
+
+abbrev pub has_reserved : Stand → Bool
+has_reserved stand.Fresh = false
+has_reserved (stand.Reserved k) = true
+has_reserved (stand.Conflicted k) = false
+has_reserved (stand.Failed k) = false
+has_reserved (stand.Ended place) = false
