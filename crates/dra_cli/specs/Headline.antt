@@ -13,6 +13,7 @@ use Rattle.cluster.specs.History.{state_at, state_of}
 use Rattle.ledger_core.specs.Headline.{IsGrantOf, IsVerdictOf}
 use Rattle.ledger_core.specs.Limits.{ObjectsKept}
 use Rattle.replay_core.specs.Replay.{EndsDone}
+use Rattle.dra_cli.specs.Program.{most_entries}
 
 -- Each reservation grants an allocation over the state before it, and each verdict names a place with
 -- no allocation. Each denial carries the first refusal of its command that holds in the state before
@@ -27,5 +28,5 @@ pub record IsTrueHistory (h : List Entry) : Type 0 where
 
 -- all commands of the script were done, what was written is the text of their history, and it is true
 pub record Replayed (left before after : Option (List ℕ)) : Type 0 where
-  pub ends : EndsDone left before after
+  pub ends : EndsDone most_entries left before after
   pub history : IsTrueHistory ends.history

@@ -43,6 +43,9 @@ fn is_replay(words: &[String]) -> bool
 /// `NotYet` the lines of the commands done before; with `Limit` also those of the entries that the
 /// last command still made; with `Memory` and `Write` a front of such lines or of the whole text,
 /// perhaps all of it.
+///
+/// Each command that was done is of a supported form in the state before it, and the history has at
+/// most 1,000,000 entries.
 pub fn run<R: AllocGlobal, S: Source, K: Sink>(
     rt: &R,
     words: &Vec<String>,
@@ -54,16 +57,16 @@ pub fn run<R: AllocGlobal, S: Source, K: Sink>(
     ensures usage_output { result ≡ Status.Usage → output.new ≡ output.old }
     ensures done { result ≡ Status.Done → Replayed (S.left input.old) (K.written output.old) (K.written output.new) }
     ensures all_read { result ≡ Status.Done → IsAtEnd (S.left input.new) }
-    ensures document { (at : ℕ) → result ≡ Status.Document at → EndsAt (Bad at) (S.left input.old) (K.written output.old) (K.written output.new) }
+    ensures document { (at : ℕ) → result ≡ Status.Document at → EndsAt most_entries (Bad at) (S.left input.old) (K.written output.old) (K.written output.new) }
     ensures memory { result ≡ Status.Memory → EndsShort most_entries (S.left input.old) (K.written output.old) (K.written output.new) }
     ensures read { result ≡ Status.Read → Rose (S.faults input.old) (S.faults input.new) }
-    ensures read_prints { result ≡ Status.Read → EndsRead (S.left input.old) (S.left input.new) (K.written output.old) (K.written output.new) }
+    ensures read_prints { result ≡ Status.Read → EndsRead most_entries (S.left input.old) (S.left input.new) (K.written output.old) (K.written output.new) }
     ensures faultless_input { (result ≡ Status.Read → ⊥) → S.faults input.new ≡ S.faults input.old }
     ensures write { result ≡ Status.Write → Rose (K.faults output.old) (K.faults output.new) }
     ensures write_prints { result ≡ Status.Write → EndsShort most_entries (S.left input.old) (K.written output.old) (K.written output.new) }
     ensures faultless_output { (result ≡ Status.Write → ⊥) → K.faults output.new ≡ K.faults output.old }
-    ensures limit { (count : ℕ) → result ≡ Status.Limit count → EndsFull most_entries count (S.left input.old) (K.written output.old) (K.written output.new) ⊎ ((count ≡ most_input) × EndsAt Long (S.left input.old) (K.written output.old) (K.written output.new)) }
-    ensures not_yet { (at : ℕ) → result ≡ Status.NotYet at → EndsNotYet at (S.left input.old) (K.written output.old) (K.written output.new) }
+    ensures limit { (count : ℕ) → result ≡ Status.Limit count → EndsFull most_entries count (S.left input.old) (K.written output.old) (K.written output.new) ⊎ ((count ≡ most_input) × EndsAt most_entries Long (S.left input.old) (K.written output.old) (K.written output.new)) }
+    ensures not_yet { (at : ℕ) → result ≡ Status.NotYet at → EndsNotYet most_entries at (S.left input.old) (K.written output.old) (K.written output.new) }
 {
     grants_are_allocations();
     verdicts_are_true();

@@ -9,7 +9,6 @@ use Rattle.doc_split.specs.Documents as documents
 use Rattle.doc_split.specs.Limits.{the_limits}
 use Rattle.doc_split.specs.Split.{Split, remaining}
 use Rattle.ledger_core.specs.Ledger.{History}
-use Rattle.ledger_core.specs.Legal.{Legal}
 use Rattle.journal_text.specs.Journal.{lines_from, summary_of, text_of}
 use Rattle.commands.specs.declared.command.Command.{Command}
 use Rattle.commands.specs.Commands.{commands_of_document}
@@ -20,7 +19,7 @@ use Rattle.replay_core.specs.Script.{Clean, Cut, Bad, Script, add_commands, at_e
 use Rattle.replay_core.specs.Jobs.{JobBegun}
 use Rattle.replay_core.specs.Lines.{MetNext, MetPrinted, PrintedShort, Stops, Summarized, new_lines, search_budget, schedule_attempts}
 use Rattle.replay_core.specs.Replay.{Ends, EndsAt, EndsFull, EndsRead, EndsShort, IsPart, Tells, TellsFirst}
-use Rattle.replay_core.specs.Progress.{Progress, Standing}
+use Rattle.replay_core.specs.Progress.{IsSound, Progress, Standing}
 use Rattle.replay_core.specs.Turns.{DocumentDid, DocumentStops, Unread}
 use Rattle.replay_core.proofs.Known.{appends_front, appends_kept, appends_more, consumes_more, front_all, rest_of}
 use Rattle.replay_core.proofs.Running.{LinesLaw, lines_more, run_more}
@@ -53,9 +52,9 @@ short_lines limit left before now next done old s tells kept = record {
   written = front_all before next (lines_from 0 old.ledger.entries) (appends_kept before now next (lines_from 0 old.ledger.entries) s.printed kept);
 }
 
-part_of : (limit : ℕ) (before now : Option (List ℕ)) (done : List (ℕ × Command)) (c : Command) (old new : Work) (n : ℕ) → Standing limit before now done old → Legal new.ledger.entries → MetNext c old new n
+part_of : (limit : ℕ) (before now : Option (List ℕ)) (done : List (ℕ × Command)) (c : Command) (old new : Work) (n : ℕ) → Standing limit before now done old → IsSound new.ledger → MetNext c old new n
     → IsPart done c limit new.ledger.entries
-part_of limit before now done c old new n s legal met =
+part_of limit before now done c old new n s sound met =
     let grown : new.ledger.entries ≡ old.ledger.entries ++ met.segment = ap (λ (h : History). h.entries) met.is in
     let same : new.ledger.limit ≡ old.ledger.limit = ap (λ (h : History). h.limit) met.is in
     let job : old.commands + 1 ≡ length done + 1 = omega (arith, s.count_is) in
@@ -63,37 +62,38 @@ part_of limit before now done c old new n s legal met =
       before = old.ledger.entries;
       segment = met.segment;
       is = grown;
-      legal = legal;
+      legal = sound.legal;
       run = s.run.run;
+      built = met.built;
       begun = subst (λ (k : ℕ). JobBegun k c search_budget schedule_attempts old.ledger.entries met.segment) job met.begun;
-      full = omega (arith, same, s.limit_is, met.full, met.count_is);
+      full = omega (arith, same, s.limit_is, met.full, met.count_is, sound.within);
     }
 
 -- a command of which a front of the lines is printed
 short_command : LinesLaw → (limit : ℕ) (left before now next : Option (List ℕ)) (done : List (ℕ × Command)) (at : ℕ) (c : Command) (old new : Work) → Standing limit before now done old
-    → TellsFirst left (done ++ (at, c) ∷ []) → Legal new.ledger.entries → PrintedShort c old new now next → EndsShort limit left before next
-short_command lines limit left before now next done at c old new s tells legal (inl ran) = record {
+    → TellsFirst left (done ++ (at, c) ∷ []) → IsSound new.ledger → PrintedShort c old new now next → EndsShort limit left before next
+short_command lines limit left before now next done at c old new s tells sound (inl ran) = record {
   text = lines_from 0 new.ledger.entries;
-  due = inl (record { done = done ++ (at, c) ∷ []; script = tells; history = new.ledger.entries; run = run_more done at c old new s.run s.count_is legal ran.ran; is = refl });
+  due = inl (record { done = done ++ (at, c) ∷ []; script = tells; history = new.ledger.entries; run = run_more limit done at c old new s.run s.count_is s.limit_is sound ran.built ran.ran; is = refl });
   written = subst (λ (t : List ℕ). AppendsFront before next t) (sym (lines_more lines old.ledger new.ledger ran.ran.segment ran.ran.is))
       (appends_front before now next (lines_from 0 old.ledger.entries) (new_lines old.ledger new.ledger) s.printed ran.printed);
 }
-short_command lines limit left before now next done at c old new s tells legal (inr met) = record {
+short_command lines limit left before now next done at c old new s tells sound (inr met) = record {
   text = lines_from 0 new.ledger.entries;
-  due = inr (inl (record { done = done; at = at; command = c; script = tells; history = new.ledger.entries; part = part_of limit before now done c old new met.count s legal met.met; is = refl }));
+  due = inr (inl (record { done = done; at = at; command = c; script = tells; history = new.ledger.entries; part = part_of limit before now done c old new met.count s sound met.met; is = refl }));
   written = subst (λ (t : List ℕ). AppendsFront before next t) (sym (lines_more lines old.ledger new.ledger met.met.segment met.met.is))
       (appends_front before now next (lines_from 0 old.ledger.entries) (new_lines old.ledger new.ledger) s.printed met.printed);
 }
 
 full_command : LinesLaw → (limit : ℕ) (left before now next : Option (List ℕ)) (done : List (ℕ × Command)) (at : ℕ) (c : Command) (old new : Work) (n : ℕ) → Standing limit before now done old
-    → TellsFirst left (done ++ (at, c) ∷ []) → Legal new.ledger.entries → MetPrinted c old new now next n → EndsFull limit n left before next
-full_command lines limit left before now next done at c old new n s tells legal met = record {
+    → TellsFirst left (done ++ (at, c) ∷ []) → IsSound new.ledger → MetPrinted c old new now next n → EndsFull limit n left before next
+full_command lines limit left before now next done at c old new n s tells sound met = record {
   done = done;
   at = at;
   command = c;
   script = tells;
   history = new.ledger.entries;
-  part = part_of limit before now done c old new n s legal met.met;
+  part = part_of limit before now done c old new n s sound met.met;
   count_is = sym met.met.count_is;
   written = subst (λ (t : List ℕ). Appends before next t) (sym (lines_more lines old.ledger new.ledger met.met.segment met.met.is))
       (appends_more before now next (lines_from 0 old.ledger.entries) (new_lines old.ledger new.ledger) s.printed met.printed);
@@ -116,20 +116,20 @@ tells_up_to left done at document cs front c back tells is are bytes e =
 
 -- a command that wasn't done
 command_stops : LinesLaw → (limit : ℕ) (left left_now before now next : Option (List ℕ)) (done : List (ℕ × Command)) (at : ℕ) (c : Command) (old new : Work) (s : Status)
-    → Standing limit before now done old → TellsFirst left (done ++ (at, c) ∷ []) → Legal new.ledger.entries → Stops at c old new now next s → Ends limit left left_now before next s
-command_stops lines limit left left_now before now next done at c old new status.Done standing tells legal stops = absurd stops
-command_stops lines limit left left_now before now next done at c old new status.Usage standing tells legal stops = absurd stops
-command_stops lines limit left left_now before now next done at c old new (status.Document place) standing tells legal stops = absurd stops
-command_stops lines limit left left_now before now next done at c old new status.Memory standing tells legal (inl kept) =
+    → Standing limit before now done old → TellsFirst left (done ++ (at, c) ∷ []) → IsSound new.ledger → Stops at c old new now next s → Ends limit left left_now before next s
+command_stops lines limit left left_now before now next done at c old new status.Done standing tells sound stops = absurd stops
+command_stops lines limit left left_now before now next done at c old new status.Usage standing tells sound stops = absurd stops
+command_stops lines limit left left_now before now next done at c old new (status.Document place) standing tells sound stops = absurd stops
+command_stops lines limit left left_now before now next done at c old new status.Memory standing tells sound (inl kept) =
     short_lines limit left before now next done old standing (tells_before left done ((at, c) ∷ []) tells) kept
-command_stops lines limit left left_now before now next done at c old new status.Memory standing tells legal (inr short) =
-    short_command lines limit left before now next done at c old new standing tells legal short
-command_stops lines limit left left_now before now next done at c old new status.Read standing tells legal stops = absurd stops
-command_stops lines limit left left_now before now next done at c old new status.Write standing tells legal short =
-    short_command lines limit left before now next done at c old new standing tells legal short
-command_stops lines limit left left_now before now next done at c old new (status.Limit n) standing tells legal met =
-    inl (full_command lines limit left before now next done at c old new n standing tells legal met)
-command_stops lines limit left left_now before now next done at c old new (status.NotYet place) standing tells legal (same, undone) = record {
+command_stops lines limit left left_now before now next done at c old new status.Memory standing tells sound (inr short) =
+    short_command lines limit left before now next done at c old new standing tells sound short
+command_stops lines limit left left_now before now next done at c old new status.Read standing tells sound stops = absurd stops
+command_stops lines limit left left_now before now next done at c old new status.Write standing tells sound short =
+    short_command lines limit left before now next done at c old new standing tells sound short
+command_stops lines limit left left_now before now next done at c old new (status.Limit n) standing tells sound met =
+    inl (full_command lines limit left before now next done at c old new n standing tells sound met)
+command_stops lines limit left left_now before now next done at c old new (status.NotYet place) standing tells sound (same, undone) = record {
   done = done;
   command = c;
   script = subst (λ (k : ℕ). TellsFirst left (done ++ (k, c) ∷ [])) (sym same) tells;
@@ -160,13 +160,13 @@ unread_ends limit left left_now before now next done at document old (status.Not
 
 -- a document that wasn't done
 pub document_stops : LinesLaw → (limit : ℕ) (left left_now before now next : Option (List ℕ)) (done : List (ℕ × Command)) (at : ℕ) (document : List ℕ) (old new : Work) (s : Status)
-    → Standing limit before now done old → TellsDocument left done at document → Legal new.ledger.entries → DocumentStops at document old new now next s → Ends limit left left_now before next s
-document_stops lines limit left left_now before now next done at document old new s standing tells legal (inl unread) =
+    → Standing limit before now done old → TellsDocument left done at document → IsSound new.ledger → DocumentStops at document old new now next s → Ends limit left left_now before next s
+document_stops lines limit left left_now before now next done at document old new s standing tells sound (inl unread) =
     unread_ends limit left left_now before now next done at document old s standing tells unread
-document_stops lines limit left left_now before now next done at document old new s standing tells legal (inr (cs, is, stopped)) =
+document_stops lines limit left left_now before now next done at document old new s standing tells sound (inr (cs, is, stopped)) =
     command_stops lines limit left left_now before stopped.between next (done ++ at_each at stopped.front) at stopped.command stopped.work new s
     (stopped.done.standing limit before done standing)
-    (tells_up_to left done at document cs stopped.front stopped.command stopped.back tells is stopped.are) legal stopped.stops
+    (tells_up_to left done at document cs stopped.front stopped.command stopped.back tells is stopped.are) sound stopped.stops
 
 -- what the script is where a document is next
 pub tells_document : (limit : ℕ) (left before written : Option (List ℕ)) (a b : Split) (left_a left_b : Option (List ℕ)) (work : Work) (doc : Document) → (p : Progress limit left (remaining a left_a) before written a.at work)
@@ -211,7 +211,7 @@ none_within at taken (inr (place, e)) = ap (script_by false) e
 
 -- a fault of the input
 pub read_short : (limit : ℕ) (left left_now before written : Option (List ℕ)) (a : Split) (left_a : Option (List ℕ)) (work : Work) → Progress limit left (remaining a left_a) before written a.at work
-    → IsCut the_limits a left_a left_now → EndsRead left left_now before written
+    → IsCut the_limits a left_a left_now → EndsRead limit left left_now before written
 read_short limit left left_now before written a left_a work p cut = record {
   taken = p.taken ++ cut.taken;
   consumed = consumes_more left (remaining a left_a) left_now p.taken cut.taken p.consumed cut.consumed;
@@ -230,7 +230,7 @@ tells_none limit left before written a left_a work ending p none bytes e =
     t.1 ∙ ap (λ (d : Documents). prepend p.done (script_by true d)) (none t.0 t.2) ∙ prepend_nothing p.done (ending_of true ending)
 
 pub ends_at : (limit : ℕ) (left before written : Option (List ℕ)) (a : Split) (left_a : Option (List ℕ)) (work : Work) (ending : documents.Ending) → Progress limit left (remaining a left_a) before written a.at work
-    → HasNone the_limits a left_a ending → EndsAt (ending_of true ending) left before written
+    → HasNone the_limits a left_a ending → EndsAt limit (ending_of true ending) left before written
 ends_at limit left before written a left_a work ending p none = record {
   done = p.done;
   script = tells_none limit left before written a left_a work ending p none;

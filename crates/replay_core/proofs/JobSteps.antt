@@ -20,6 +20,7 @@ use Rattle.cluster.specs.History.{state_at, state_of, stand_of}
 use Rattle.ledger_core.specs.Ledger.{History, appended}
 use Rattle.commands.specs.declared.command.Command.{Command}
 use Rattle.commands.specs.declared.command.Command.TheVariants as command
+use Rattle.replay_core.specs.Built.{is_built}
 use Rattle.replay_core.specs.Jobs.{IsOf, IsSearched, IsTimely, IsMade, AllMade, HasNone, is_failure, failures, last_from, last_place}
 use Rattle.replay_core.specs.Doing.{Begun, Doing, Ran, Met, StepsOn, MayFinish, IsFull}
 use Rattle.replay_core.specs.Claims.{keys_by, keys_at}
@@ -111,8 +112,8 @@ begun_from job c budget attempts old new d limit begun none some =
     }
 
 -- one that met the limit of the history
-pub met_from : (job : ℕ) (c : Command) (budget attempts : ℕ) (old new : History) (n : ℕ) → Begun job c budget attempts old new → IsFull new n → Met job c budget attempts old new n
-met_from job c budget attempts old new n b full = record { segment = b.segment; is = b.is; begun = b.begun; count_is = full.count_is; full = full.full }
+pub met_from : (job : ℕ) (c : Command) (budget attempts : ℕ) (old new : History) (n : ℕ) → is_built (state_of old.entries) c ≡ true → Begun job c budget attempts old new → IsFull new n → Met job c budget attempts old new n
+met_from job c budget attempts old new n built b full = record { built = built; segment = b.segment; is = b.is; begun = b.begun; count_is = full.count_is; full = full.full }
 
 fresh_goes : (job : ℕ) (h : List Entry) → stand_of h job ≡ stand.Fresh → (place : ℕ) → stand_of h job ≡ stand.Ended place → ⊥
 fresh_goes job h fresh place ended = let e : stand.Fresh ≡ stand.Ended place = sym fresh ∙ ended in absurd (cc)

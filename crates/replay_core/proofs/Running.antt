@@ -1,5 +1,5 @@
 -- One command more.
-use Rattle.std.proofs.Common.{ℕ, ◌+◌, ◌^◌, ◌≤◌, ◌<◌, ◌≡◌, ◌∙◌, List, [], ◌∷◌, ◌++◌, Bool, false, cond, eqb, length, refl, sym, ap, subst, arith, append_assoc, append-nil, length-append}
+use Rattle.std.proofs.Common.{ℕ, ◌+◌, ◌^◌, ◌≤◌, ◌<◌, ◌≡◌, ◌∙◌, List, [], ◌∷◌, ◌++◌, Bool, true, false, cond, eqb, length, refl, sym, ap, subst, arith, append_assoc, append-nil, length-append}
 use Rattle.std.proofs.lemmas.Bool.{ne_eqb}
 use Rattle.std.specs.Prelude.{Option, drop}
 use Rattle.std.specs.Io.KnownBytes.{Appends}
@@ -7,16 +7,16 @@ use Rattle.cluster.specs.declared.entry.Entry.{Entry}
 use Rattle.cluster.specs.declared.entry.Stand.TheVariants.{Fresh, Ended}
 use Rattle.cluster.specs.Events.{stand_after}
 use Rattle.ledger_core.specs.Ledger.{History}
-use Rattle.ledger_core.specs.Legal.{Legal}
-use Rattle.cluster.specs.History.{stand_of}
+use Rattle.cluster.specs.History.{state_of, stand_of}
 use Rattle.journal_text.specs.Journal.{lines_from}
 use Rattle.commands.specs.declared.command.Command.{Command}
 use Rattle.replay_core.specs.declared.work.Work.{Work}
 use Rattle.replay_core.specs.Script.{at_each, commands_of}
+use Rattle.replay_core.specs.Built.{is_built}
 use Rattle.replay_core.specs.Jobs.{AllMade, JobRun, RunFrom, RunOf}
 use Rattle.replay_core.specs.Lines.{Did, RanNext, new_lines, search_budget, schedule_attempts}
 use Rattle.replay_core.specs.Replay.{IsRun}
-use Rattle.replay_core.specs.Progress.{IsReady, Standing}
+use Rattle.replay_core.specs.Progress.{IsReady, IsSound, Standing}
 use Rattle.replay_core.specs.Turns.{StandsOn}
 use Rattle.replay_core.proofs.Known.{appends_more}
 use Rattle.replay_core.proofs.Scripts.{at_each_joined}
@@ -29,14 +29,14 @@ abbrev pub LinesLaw : Type 0
 LinesLaw = (n : ℕ) (xs ys : List Entry) → lines_from n (xs ++ ys) ≡ lines_from n xs ++ lines_from (n + length xs) ys
 
 RunFrom-more : (b a n : ℕ) (before : List Entry) (cs : List Command) (mid : List Entry) (c : Command) (seg : List Entry)
-    → RunFrom b a n before cs mid → JobRun (n + length cs + 1) c b a mid seg → RunFrom b a n before (cs ++ c ∷ []) (mid ++ seg)
+    → RunFrom b a n before cs mid → is_built (state_of mid) c ≡ true → JobRun (n + length cs + 1) c b a mid seg → RunFrom b a n before (cs ++ c ∷ []) (mid ++ seg)
 unfolding RunFrom
-RunFrom-more b a n before [] mid c seg is run =
+RunFrom-more b a n before [] mid c seg is built run =
     let eq : n + 0 + 1 ≡ n + 1 = omega arith in
-    (seg, subst (λ (h : List Entry). JobRun (n + 1) c b a h seg) is (subst (λ (k : ℕ). JobRun k c b a mid seg) eq run), ap (λ (h : List Entry). h ++ seg) is)
-RunFrom-more b a n before (d ∷ ds) mid c seg r run =
+    (seg, subst (λ (h : List Entry). is_built (state_of h) c ≡ true) is built, subst (λ (h : List Entry). JobRun (n + 1) c b a h seg) is (subst (λ (k : ℕ). JobRun k c b a mid seg) eq run), ap (λ (h : List Entry). h ++ seg) is)
+RunFrom-more b a n before (d ∷ ds) mid c seg r built run =
     let eq : n + length (d ∷ ds) + 1 ≡ n + 1 + length ds + 1 = omega arith in
-    (r.0, r.1, RunFrom-more b a (n + 1) (before ++ r.0) ds mid c seg r.2 (subst (λ (k : ℕ). JobRun k c b a mid seg) eq run))
+    (r.0, r.1, r.2, RunFrom-more b a (n + 1) (before ++ r.0) ds mid c seg r.3 built (subst (λ (k : ℕ). JobRun k c b a mid seg) eq run))
 
 commands_len : (done : List (ℕ × Command)) → length (commands_of done) ≡ length done
 commands_len [] = refl
@@ -48,12 +48,12 @@ commands_more (d ∷ ds) at c = ap (λ (l : List Command). d.1 ∷ l) (commands_
 
 -- the run of one command more
 pub RunOf-more : (b a : ℕ) (done : List (ℕ × Command)) (mid : List Entry) (at : ℕ) (c : Command) (seg : List Entry) (n : ℕ) → n ≡ length done
-    → RunOf b a (commands_of done) mid → JobRun (n + 1) c b a mid seg → RunOf b a (commands_of (done ++ (at, c) ∷ [])) (mid ++ seg)
+    → RunOf b a (commands_of done) mid → is_built (state_of mid) c ≡ true → JobRun (n + 1) c b a mid seg → RunOf b a (commands_of (done ++ (at, c) ∷ [])) (mid ++ seg)
 unfolding RunOf
-RunOf-more b a done mid at c seg n is run job =
+RunOf-more b a done mid at c seg n is run built job =
     let eq : n + 1 ≡ 0 + length (commands_of done) + 1 = omega (arith, commands_len done) in
     subst (λ (cs : List Command). RunFrom b a 0 [] cs (mid ++ seg)) (sym (commands_more done at c))
-    (RunFrom-more b a 0 [] (commands_of done) mid c seg run (subst (λ (k : ℕ). JobRun k c b a mid seg) eq job))
+    (RunFrom-more b a 0 [] (commands_of done) mid c seg run built (subst (λ (k : ℕ). JobRun k c b a mid seg) eq job))
 
 -- a job's entries leave other jobs as they stood
 pub own_only : StandLaw → (job : ℕ) (c : Command) (begun b : ℕ) (before seg : List Entry) (other : ℕ) → AllMade job c begun b before seg → (job ≡ other → ⊥) → stand_of (before ++ seg) other ≡ stand_of before other
@@ -82,14 +82,16 @@ lines_more law old new seg is =
     ∙ ap (λ (l : List Entry). lines_from 0 old.entries ++ lines_from (length old.entries) l) (sym rest)
 
 -- the history of one command more
-pub run_more : (done : List (ℕ × Command)) (at : ℕ) (c : Command) (old new : Work) → IsRun done old.ledger.entries → old.commands ≡ length done → Legal new.ledger.entries → RanNext c old new
-    → IsRun (done ++ (at, c) ∷ []) new.ledger.entries
-run_more done at c old new run count legal ran =
+pub run_more : (limit : ℕ) (done : List (ℕ × Command)) (at : ℕ) (c : Command) (old new : Work) → IsRun limit done old.ledger.entries → old.commands ≡ length done → old.ledger.limit ≡ limit → IsSound new.ledger
+    → is_built (state_of old.ledger.entries) c ≡ true → RanNext c old new → IsRun limit (done ++ (at, c) ∷ []) new.ledger.entries
+run_more limit done at c old new run count same sound built ran =
     let grown : new.ledger.entries ≡ old.ledger.entries ++ ran.segment = ap (λ (h : History). h.entries) ran.is in
+    let kept : new.ledger.limit ≡ old.ledger.limit = ap (λ (h : History). h.limit) ran.is in
     record {
-      legal = legal;
+      within = omega (arith, kept, same, sound.within);
+      legal = sound.legal;
       run = subst (λ (h : List Entry). RunOf search_budget schedule_attempts (commands_of (done ++ (at, c) ∷ [])) h) (sym grown)
-          (RunOf-more search_budget schedule_attempts done old.ledger.entries at c ran.segment old.commands count run.run ran.run);
+          (RunOf-more search_budget schedule_attempts done old.ledger.entries at c ran.segment old.commands count run.run built ran.run);
     }
 
 -- a job that had no entry and has ended has one
@@ -120,12 +122,12 @@ ready_more stands c old new before after r did =
 
 -- one command more was done
 pub standing_more : StandLaw → LinesLaw → (limit : ℕ) (before now next : Option (List ℕ)) (done : List (ℕ × Command)) (at : ℕ) (c : Command) (old new : Work)
-    → Standing limit before now done old → Did c old new now next → Legal new.ledger.entries → Standing limit before next (done ++ (at, c) ∷ []) new
-standing_more stands lines limit before now next done at c old new s did legal =
+    → Standing limit before now done old → Did c old new now next → IsSound new.ledger → Standing limit before next (done ++ (at, c) ∷ []) new
+standing_more stands lines limit before now next done at c old new s did sound =
     let ran = did.ran in
     let same : new.ledger.limit ≡ old.ledger.limit = ap (λ (h : History). h.limit) ran.is in
     record {
-      run = run_more done at c old new s.run s.count_is legal ran;
+      run = run_more limit done at c old new s.run s.count_is s.limit_is sound did.built ran;
       count_is = omega (arith, did.counted, s.count_is, length-append done ((at, c) ∷ []));
       ready = ready_more stands c old new now next s.ready did;
       printed = subst (λ (t : List ℕ). Appends before next t) (sym (lines_more lines old.ledger new.ledger ran.segment ran.is))
@@ -141,11 +143,11 @@ stands_first old before = record {
 
 -- and then one command more
 pub stands_more : StandLaw → LinesLaw → (at : ℕ) (front : List Command) (c : Command) (old mid new : Work) (before now next : Option (List ℕ))
-    → StandsOn (at_each at front) old mid before now → Did c mid new now next → Legal new.ledger.entries → StandsOn (at_each at (front ++ c ∷ [])) old new before next
-stands_more stands lines at front c old mid new before now next on did legal = record {
+    → StandsOn (at_each at front) old mid before now → Did c mid new now next → IsSound new.ledger → StandsOn (at_each at (front ++ c ∷ [])) old new before next
+stands_more stands lines at front c old mid new before now next on did sound = record {
   standing = λ limit start done s.
       let joined : (done ++ at_each at front) ++ (at, c) ∷ [] ≡ done ++ at_each at (front ++ c ∷ []) =
       append_assoc done (at_each at front) ((at, c) ∷ []) ∙ ap (λ (l : List (ℕ × Command)). done ++ l) (sym (at_each_joined at front (c ∷ []))) in
       subst (λ (l : List (ℕ × Command)). Standing limit start next l new) joined
-      (standing_more stands lines limit start now next (done ++ at_each at front) at c mid new (on.standing limit start done s) did legal);
+      (standing_more stands lines limit start now next (done ++ at_each at front) at c mid new (on.standing limit start done s) did sound);
 }

@@ -21,7 +21,7 @@ use Rattle.replay_core.specs.Script.{script_of}
 use Rattle.replay_core.specs.Jobs.{RunFrom, RunOf}
 use Rattle.replay_core.specs.Lines.{Summarized, input_status}
 use Rattle.replay_core.specs.Replay.{Ends, EndsShort, IsRun}
-use Rattle.replay_core.specs.Progress.{Progress}
+use Rattle.replay_core.specs.Progress.{IsSound, Progress}
 use Rattle.replay_core.specs.Turns.{DocumentDid, DocumentStops}
 use Rattle.replay_core.proofs.Known.{appends_none}
 use Rattle.replay_core.proofs.Ending.{document_moves, document_stops, ends_at, memory_short, over_document, read_short, summary_ends, tells_document, tells_none}
@@ -44,12 +44,12 @@ step_on limit left before was written a b left_a left_b work work_now o d e answ
 
 -- it wasn't
 pub step_ends : LinesLaw → (limit : ℕ) (left before was written : Option (List ℕ)) (a b : Split) (left_a left_b : Option (List ℕ)) (work work_now : Work) (o : Option Doc) (d : Doc) (s : Status) → o ≡ Some d
-    → Answers the_limits a b left_a left_b (Ok o) → DocumentStops d.at d.bytes.items work work_now was written s → Legal work_now.ledger.entries → Progress limit left (remaining a left_a) before was a.at work
+    → Answers the_limits a b left_a left_b (Ok o) → DocumentStops d.at d.bytes.items work work_now was written s → IsSound work_now.ledger → Progress limit left (remaining a left_a) before was a.at work
     → Ends limit left left_b before written s
-step_ends lines limit left before was written a b left_a left_b work work_now o d s e answers stops legal p =
+step_ends lines limit left before was written a b left_a left_b work work_now o d s e answers stops sound p =
     let n : IsNext the_limits a b left_a left_b (document_of d) = subst (λ (x : Option Doc). Answers the_limits a b left_a left_b (Ok x)) e answers in
     document_stops lines limit left left_b before was written p.done d.at d.bytes.items work work_now s p.standing
-    (tells_document limit left before was a b left_a left_b work (document_of d) p n) legal stops
+    (tells_document limit left before was a b left_a left_b work (document_of d) p n) sound stops
 
 -- there was none, to the end
 pub end_of : (a b : Split) (left_a left_b : Option (List ℕ)) (o : Option Doc) → o ≡ None → Answers the_limits a b left_a left_b (Ok o) → EndsSo the_limits a b left_a left_b documents.Clean
@@ -71,9 +71,9 @@ none_ends limit left before written a b left_a left_b work (doc.TooLong at) p n 
 none_ends limit left before written a b left_a left_b work doc.Memory p n = memory_short limit left (remaining a left_a) before written a.at work p
 none_ends limit left before written a b left_a left_b work doc.Input p n = inr (refl, ends_at limit left before written a left_a work documents.Long p n)
 
-empty_run : IsRun [] []
+empty_run : (limit : ℕ) → IsRun limit [] []
 unfolding Legal LegalAfter RunOf RunFrom
-empty_run = record { legal = tt; run = refl }
+empty_run limit = record { within = omega arith; legal = tt; run = refl }
 
 no_lines : lines_from 0 [] ≡ []
 unfolding lines_from
@@ -94,7 +94,7 @@ progress_begins limit left before work small law none ledger =
       done = [];
       script = λ ended more. refl;
       standing = record {
-        run = subst (λ (h : List Entry). IsRun [] h) (sym entries) empty_run;
+        run = subst (λ (h : List Entry). IsRun limit [] h) (sym entries) (empty_run limit);
         count_is = none;
         ready = record {
           fresh = λ job above. ap (λ (h : List Entry). stand_of h job) entries ∙ law job;
@@ -110,6 +110,6 @@ progress_begins limit left before work small law none ledger =
 pub nothing_done : (limit : ℕ) (left before : Option (List ℕ)) → EndsShort limit left before before
 nothing_done limit left before = record {
   text = [];
-  due = inl (record { done = []; script = λ bytes e. (script_of bytes, refl); history = []; run = empty_run; is = sym no_lines });
+  due = inl (record { done = []; script = λ bytes e. (script_of bytes, refl); history = []; run = empty_run limit; is = sym no_lines });
   written = (0, appends_none before);
 }

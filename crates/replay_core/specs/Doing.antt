@@ -1,5 +1,5 @@
 -- How far a job has come.
-use Rattle.std.specs.Prelude.{ℕ, ◌≡◌, ◌≤◌, List, ◌++◌, length}
+use Rattle.std.specs.Prelude.{ℕ, ◌≡◌, ◌≤◌, true, List, ◌++◌, length}
 use Rattle.object_fields.specs.declared.key.Key.{Key}
 use Rattle.cluster.specs.declared.entry.Entry.{Entry}
 use Rattle.cluster.specs.declared.entry.Stand.TheVariants as stand
@@ -7,6 +7,7 @@ use Rattle.ledger_core.specs.GoesOn.{GoesOn}
 use Rattle.cluster.specs.History.{state_of, stand_of}
 use Rattle.ledger_core.specs.Ledger.{History}
 use Rattle.commands.specs.declared.command.Command.{Command}
+use Rattle.replay_core.specs.Built.{is_built}
 use Rattle.replay_core.specs.Jobs.{AllMade, JobRun, JobBegun, failures}
 
 -- what follows the start are entries of the job
@@ -28,8 +29,9 @@ pub record Begun (job : ℕ) (c : Command) (budget attempts : ℕ) (old new : Hi
   pub is : new ≡ record old { entries = old.entries ++ segment }
   pub begun : JobBegun job c budget attempts old.entries segment
 
--- the job was begun, and met the limit of the history
+-- the job of a command that is of a form that is done was begun, and met the limit of the history
 pub record Met (job : ℕ) (c : Command) (budget attempts : ℕ) (old new : History) (count : ℕ) : Type 0 where
+  pub built : is_built (state_of old.entries) c ≡ true
   pub segment : List Entry
   pub is : new ≡ record old { entries = old.entries ++ segment }
   pub begun : JobBegun job c budget attempts old.entries segment

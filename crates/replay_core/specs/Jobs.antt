@@ -1,5 +1,5 @@
 -- What the entries of a job are.
-use Rattle.std.specs.Prelude.{ℕ, ◌≡◌, ◌≤◌, ◌<◌, ◌+◌, ◌==◌, ◌⊎◌, Bool, false, List, [], ◌∷◌, ◌++◌, Option, None, Some, length, count_by, if◌then◌else◌}
+use Rattle.std.specs.Prelude.{ℕ, ◌≡◌, ◌≤◌, ◌<◌, ◌+◌, ◌==◌, ◌⊎◌, Bool, true, false, List, [], ◌∷◌, ◌++◌, Option, None, Some, length, count_by, if◌then◌else◌}
 use Rattle.object_fields.specs.declared.key.Key.{Key}
 use Rattle.alloc_rules.specs.Plans.{PlanBy, VerdictBy}
 use Rattle.cluster.specs.declared.entry.Command.TheVariants.{Create, Invalid}
@@ -9,9 +9,10 @@ use Rattle.cluster.specs.declared.entry.Entry.{Entry}
 use Rattle.cluster.specs.declared.entry.Event.{Event}
 use Rattle.cluster.specs.declared.entry.Event.TheVariants.{Applied, Reserved, Wrote, Bound, Judged, Denied}
 use Rattle.cluster.specs.declared.entry.Stand.TheVariants.{Ended}
-use Rattle.cluster.specs.History.{state_at, stand_of}
+use Rattle.cluster.specs.History.{state_at, state_of, stand_of}
 use Rattle.commands.specs.declared.command.Command.{Command}
 use Rattle.commands.specs.declared.command.Command.TheVariants as command
+use Rattle.replay_core.specs.Built.{is_built}
 
 -- the pod that an entry is of
 abbrev pub pod_of : Event → Option Key
@@ -97,11 +98,12 @@ pub record JobBegun (job : ℕ) (c : Command) (budget attempts : ℕ) (before se
   pub none : HasNone c segment
   pub attempted : failures segment < attempts
 
--- the jobs of the commands, numbered on from n, lead from one history to the next
+-- The jobs of the commands, numbered on from n, lead from one history to the next. Each command is of
+-- a form that is done, in the state before its job.
 unfoldable pub RunFrom : ℕ → ℕ → ℕ → List Entry → List Command → List Entry → Type 0
 RunFrom budget attempts n before [] after = after ≡ before
 RunFrom budget attempts n before (c ∷ cs) after =
-    (segment : List Entry) × JobRun (n + 1) c budget attempts before segment × RunFrom budget attempts (n + 1) (before ++ segment) cs after
+    (segment : List Entry) × (is_built (state_of before) c ≡ true) × JobRun (n + 1) c budget attempts before segment × RunFrom budget attempts (n + 1) (before ++ segment) cs after
 
 -- the history is the run of the commands
 unfoldable pub RunOf : ℕ → ℕ → List Command → List Entry → Type 0

@@ -1,5 +1,5 @@
 -- What doing one command does.
-use Rattle.std.specs.Prelude.{ℕ, ◌≡◌, ◌+◌, ◌⊎◌, List, [], Option, false, drop, length}
+use Rattle.std.specs.Prelude.{ℕ, ◌≡◌, ◌+◌, ◌⊎◌, List, [], Option, true, false, drop, length}
 use Rattle.std.specs.Io.KnownBytes.{Appends}
 use Rattle.dra_ports.specs.Fronts.{AppendsFront}
 use Rattle.dra_ports.specs.declared.error.PortError.{PortError}
@@ -52,6 +52,7 @@ MetNext c old new n = Met (old.commands + 1) c search_budget schedule_attempts o
 
 -- the command was done, and its lines are printed
 pub record Did (c : Command) (old new : Work) (before after : Option (List ℕ)) : Type 0 where
+  pub built : is_built (state_of old.ledger.entries) c ≡ true
   pub ran : RanNext c old new
   pub counted : new.commands ≡ old.commands + 1
   pub printed : Appends before after (new_lines old.ledger new.ledger)
@@ -68,6 +69,7 @@ pub record MetPrinted (c : Command) (old new : Work) (before after : Option (Lis
 
 -- a front of the command's lines is printed
 pub record RanShort (c : Command) (old new : Work) (before after : Option (List ℕ)) : Type 0 where
+  pub built : is_built (state_of old.ledger.entries) c ≡ true
   pub ran : RanNext c old new
   pub printed : AppendsFront before after (new_lines old.ledger new.ledger)
 

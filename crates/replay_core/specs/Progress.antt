@@ -3,6 +3,8 @@ use Rattle.std.specs.Prelude.{ℕ, ◌≡◌, ◌≤◌, ◌<◌, ◌^◌, Bool,
 use Rattle.std.specs.Io.KnownBytes.{Appends, Consumes}
 use Rattle.cluster.specs.declared.entry.Stand.TheVariants.{Fresh}
 use Rattle.cluster.specs.History.{stand_of}
+use Rattle.ledger_core.specs.Legal.{Legal}
+use Rattle.ledger_core.specs.Ledger.{History}
 use Rattle.journal_text.specs.Journal.{lines_from}
 use Rattle.commands.specs.declared.command.Command.{Command}
 use Rattle.replay_core.specs.declared.work.Work.{Work}
@@ -15,9 +17,14 @@ pub record IsReady (work : Work) : Type 0 where
   pub few : work.commands ≤ length work.ledger.entries
   pub small : work.ledger.limit < 2 ^ 48
 
+-- the entries are legal, and no more than there may be
+pub record IsSound (h : History) : Type 0 where
+  pub legal : Legal h.entries
+  pub within : length h.entries ≤ h.limit
+
 -- these commands were done, and their lines are printed
 pub record Standing (limit : ℕ) (before now : Option (List ℕ)) (done : List (ℕ × Command)) (work : Work) : Type 0 where
-  pub run : IsRun done work.ledger.entries
+  pub run : IsRun limit done work.ledger.entries
   pub count_is : work.commands ≡ length done
   pub ready : IsReady work
   pub printed : Appends before now (lines_from 0 work.ledger.entries)

@@ -1,5 +1,5 @@
 -- What a replay promises.
-use Rattle.std.specs.Prelude.{ℕ, ◌≡◌, ◌≤◌, ◌+◌, ◌⊎◌, false, List, [], ◌∷◌, ◌++◌, Option, Some, length}
+use Rattle.std.specs.Prelude.{ℕ, ◌≡◌, ◌≤◌, ◌+◌, ◌⊎◌, true, false, List, [], ◌∷◌, ◌++◌, Option, Some, length}
 use Rattle.std.specs.Io.KnownBytes.{Appends, Consumes}
 use Rattle.dra_ports.specs.Fronts.{AppendsFront}
 use Rattle.cluster.specs.declared.entry.Entry.{Entry}
@@ -14,21 +14,23 @@ use Rattle.replay_core.specs.Jobs.{JobBegun, RunOf}
 use Rattle.replay_core.specs.Built.{is_built}
 use Rattle.replay_core.specs.Lines.{search_budget, schedule_attempts}
 
--- the history is legal, and the run of the commands
-pub record IsRun (done : List (ℕ × Command)) (h : List Entry) : Type 0 where
+-- the history is legal, the run of the commands, and has at most so many entries
+pub record IsRun (limit : ℕ) (done : List (ℕ × Command)) (h : List Entry) : Type 0 where
+  pub within : length h ≤ limit
   pub legal : Legal h
   pub run : RunOf search_budget schedule_attempts (commands_of done) h
 
--- The history is legal, and the run of the commands and then of a part of one more, whose next
--- entry the limit leaves no room for.
+-- The history is legal, and the run of the commands and then of a part of one more, which is of a form
+-- that is done and isn't ended. It has exactly as many entries as it may have.
 pub record IsPart (done : List (ℕ × Command)) (c : Command) (limit : ℕ) (h : List Entry) : Type 0 where
   pub before : List Entry
   pub segment : List Entry
   pub is : h ≡ before ++ segment
   pub legal : Legal h
   pub run : RunOf search_budget schedule_attempts (commands_of done) before
+  pub built : is_built (state_of before) c ≡ true
   pub begun : JobBegun (length done + 1) c search_budget schedule_attempts before segment
-  pub full : limit ≤ length h
+  pub full : limit ≡ length h
 
 -- what the script is, where the input tells its bytes
 abbrev pub Tells : Option (List ℕ) → Script → Type 0
@@ -39,28 +41,28 @@ abbrev pub TellsFirst : Option (List ℕ) → List (ℕ × Command) → Type 0
 TellsFirst left done = (bytes : List ℕ) → left ≡ Some bytes → (rest : Script) × (script_of bytes ≡ prepend done rest)
 
 -- all commands of the script were done, and what was written is the whole text of their history
-pub record EndsDone (left before after : Option (List ℕ)) : Type 0 where
+pub record EndsDone (limit : ℕ) (left before after : Option (List ℕ)) : Type 0 where
   pub done : List (ℕ × Command)
   pub script : Tells left (record { commands = done; ending = Clean })
   pub history : List Entry
-  pub run : IsRun done history
+  pub run : IsRun limit done history
   pub written : Appends before after (text_of history (length done))
 
 -- all commands of the script were done, which ends otherwise, and their lines were written
-pub record EndsAt (ending : Ending) (left before after : Option (List ℕ)) : Type 0 where
+pub record EndsAt (limit : ℕ) (ending : Ending) (left before after : Option (List ℕ)) : Type 0 where
   pub done : List (ℕ × Command)
   pub script : Tells left (record { commands = done; ending = ending })
   pub history : List Entry
-  pub run : IsRun done history
+  pub run : IsRun limit done history
   pub written : Appends before after (lines_from 0 history)
 
 -- the commands before the one at an offset were done, which is of a form that isn't
-pub record EndsNotYet (at : ℕ) (left before after : Option (List ℕ)) : Type 0 where
+pub record EndsNotYet (limit at : ℕ) (left before after : Option (List ℕ)) : Type 0 where
   pub done : List (ℕ × Command)
   pub command : Command
   pub script : TellsFirst left (done ++ (at, command) ∷ [])
   pub history : List Entry
-  pub run : IsRun done history
+  pub run : IsRun limit done history
   pub unbuilt : is_built (state_of history) command ≡ false
   pub written : Appends before after (lines_from 0 history)
 
@@ -76,21 +78,21 @@ pub record EndsFull (limit count : ℕ) (left before after : Option (List ℕ)) 
   pub written : Appends before after (lines_from 0 history)
 
 -- the commands of the documents that stand whole in what was taken were done
-pub record EndsRead (left left_now before after : Option (List ℕ)) : Type 0 where
+pub record EndsRead (limit : ℕ) (left left_now before after : Option (List ℕ)) : Type 0 where
   pub taken : List ℕ
   pub consumed : Consumes left left_now taken
   pub done : List (ℕ × Command)
   pub script : script_within taken ≡ record { commands = done; ending = Cut }
   pub history : List Entry
-  pub run : IsRun done history
+  pub run : IsRun limit done history
   pub written : Appends before after (lines_from 0 history)
 
 -- the lines of the first commands of the script
-pub record IsLines (left : Option (List ℕ)) (text : List ℕ) : Type 0 where
+pub record IsLines (limit : ℕ) (left : Option (List ℕ)) (text : List ℕ) : Type 0 where
   pub done : List (ℕ × Command)
   pub script : TellsFirst left done
   pub history : List Entry
-  pub run : IsRun done history
+  pub run : IsRun limit done history
   pub is : text ≡ lines_from 0 history
 
 -- the same, with those of a part of the next command, which met the limit
@@ -104,26 +106,26 @@ pub record IsPartLines (limit : ℕ) (left : Option (List ℕ)) (text : List ℕ
   pub is : text ≡ lines_from 0 history
 
 -- the whole text
-pub record IsText (left : Option (List ℕ)) (text : List ℕ) : Type 0 where
+pub record IsText (limit : ℕ) (left : Option (List ℕ)) (text : List ℕ) : Type 0 where
   pub done : List (ℕ × Command)
   pub script : Tells left (record { commands = done; ending = Clean })
   pub history : List Entry
-  pub run : IsRun done history
+  pub run : IsRun limit done history
   pub is : text ≡ text_of history (length done)
 
 -- what was written is a front of such lines, or of the whole text
 pub record EndsShort (limit : ℕ) (left before after : Option (List ℕ)) : Type 0 where
   pub text : List ℕ
-  pub due : IsLines left text ⊎ (IsPartLines limit left text ⊎ IsText left text)
+  pub due : IsLines limit left text ⊎ (IsPartLines limit left text ⊎ IsText limit left text)
   pub written : AppendsFront before after text
 
 -- how a replay ends: what the script is, what was done of it, and what was written
 abbrev pub Ends : ℕ → Option (List ℕ) → Option (List ℕ) → Option (List ℕ) → Option (List ℕ) → Status → Type 0
-Ends limit left left_now before after status.Done = EndsDone left before after
+Ends limit left left_now before after status.Done = EndsDone limit left before after
 Ends limit left left_now before after status.Usage = ⊥
-Ends limit left left_now before after (status.Document at) = EndsAt (Bad at) left before after
+Ends limit left left_now before after (status.Document at) = EndsAt limit (Bad at) left before after
 Ends limit left left_now before after status.Memory = EndsShort limit left before after
-Ends limit left left_now before after status.Read = EndsRead left left_now before after
+Ends limit left left_now before after status.Read = EndsRead limit left left_now before after
 Ends limit left left_now before after status.Write = EndsShort limit left before after
-Ends limit left left_now before after (status.Limit count) = EndsFull limit count left before after ⊎ ((count ≡ most_input) × EndsAt Long left before after)
-Ends limit left left_now before after (status.NotYet at) = EndsNotYet at left before after
+Ends limit left left_now before after (status.Limit count) = EndsFull limit count left before after ⊎ ((count ≡ most_input) × EndsAt limit Long left before after)
+Ends limit left left_now before after (status.NotYet at) = EndsNotYet limit at left before after

@@ -36,6 +36,7 @@ pub fn do_command(
     requires { stand_of ledger.old.entries job ≡ Fresh }
     ensures ran { OnOk result ((budget attempts : ℕ) → 2 ≤ budget → 0 < attempts → Ran job command budget attempts ledger.old ledger.new) }
     ensures begun { OnErr result ((budget attempts : ℕ) → 2 ≤ budget → 0 < attempts → Begun job command budget attempts ledger.old ledger.new) }
+    ensures built { OnOk result (is_built (state_of ledger.old.entries) command ≡ true) }
     ensures not_built { IsErrOf result Stop.NotBuilt → (is_built (state_of ledger.old.entries) command ≡ false) × (ledger.new ≡ ledger.old) }
     ensures full { (n : ℕ) → IsErrOf result (Stop.Full n) → (budget attempts : ℕ) → 2 ≤ budget → 0 < attempts → Met job command budget attempts ledger.old ledger.new n }
 {

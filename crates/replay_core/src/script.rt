@@ -72,6 +72,10 @@ fn input_status(error: DocError) -> Status
 /// a legal history, the summary at its end. With `Memory` and `Write` it is a front of the lines of
 /// some first commands or of the whole text, perhaps all of it; with every other status none of the
 /// summary was written. What the entries of a legal history mean is the laws of `ledger_core`.
+///
+/// Each command that was done, or begun, is of a supported form in the state before it. With each
+/// status the history has at most so many entries, and where one more was expected it has exactly so
+/// many.
 pub fn replay<S: Source, K: Sink>(
     alloc: Global,
     entries: u64,

@@ -2,10 +2,9 @@ ghost use Rattle.std.specs.Prelude.{◌≡◌, ◌≤◌, IfErr, OnOk, OnErr, dr
 ghost use Rattle.std.specs.Io.KnownBytes.{Appends};
 ghost use Rattle.dra_ports.specs.Causes.{HasCause, Rose};
 ghost use Rattle.dra_ports.specs.Fronts.{AppendsFront};
-ghost use Rattle.ledger_core.specs.Legal.{Legal};
 ghost use Rattle.journal_text.specs.Journal.{lines_from};
 ghost use Rattle.replay_core.specs.Lines.{output_status, Did, Stops, Summarized};
-ghost use Rattle.replay_core.specs.Progress.{IsReady};
+ghost use Rattle.replay_core.specs.Progress.{IsReady, IsSound};
 ghost use Rattle.replay_core.specs.Script.{at_each};
 ghost use Rattle.replay_core.specs.Turns.{DocumentDid, DocumentStops, StandsOn, StoppedAmong};
 
@@ -65,7 +64,7 @@ pub fn do_next<K: Sink>(
     ensures later { K.faults output.old ≤ K.faults output.new }
     ensures ok_faultless { OnOk result (K.faults output.new ≡ K.faults output.old) }
     ensures err_faultless { IfErr result (λ s. (s ≡ Status.Write → ⊥) → K.faults output.new ≡ K.faults output.old) }
-    ensures legal { Legal work.new.ledger.entries }
+    ensures sound { IsSound work.new.ledger }
 {
     let from = work.ledger.len();
     let job = work.commands + 1;
@@ -103,7 +102,7 @@ fn do_all<K: Sink>(
     ensures later { K.faults output.old ≤ K.faults output.new }
     ensures ok_faultless { OnOk result (K.faults output.new ≡ K.faults output.old) }
     ensures err_faultless { IfErr result (λ s. (s ≡ Status.Write → ⊥) → K.faults output.new ≡ K.faults output.old) }
-    ensures legal { Legal work.new.ledger.entries }
+    ensures sound { IsSound work.new.ledger }
 {
     histories_grow();
     lines_of_more();
@@ -129,7 +128,7 @@ pub fn do_document<K: Sink>(
     ensures later { K.faults output.old ≤ K.faults output.new }
     ensures ok_faultless { OnOk result (K.faults output.new ≡ K.faults output.old) }
     ensures err_faultless { IfErr result (λ s. (s ≡ Status.Write → ⊥) → K.faults output.new ≡ K.faults output.old) }
-    ensures legal { Legal work.new.ledger.entries }
+    ensures sound { IsSound work.new.ledger }
 {
     let _entries = work.ledger.len();
     match read_commands(alloc, document) {

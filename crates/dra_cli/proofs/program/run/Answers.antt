@@ -15,6 +15,7 @@ use Rattle.ledger_core.specs.Headline.{IsGrantOf, IsVerdictOf}
 use Rattle.ledger_core.specs.Limits.{ObjectsKept}
 use Rattle.replay_core.specs.Replay.{EndsDone}
 use Rattle.dra_cli.specs.Headline.{Replayed}
+use Rattle.dra_cli.specs.Program.{most_entries}
 use Rattle.dra_cli.proofs.program.run.Goals as goal
 
 GrantLaw : Type 0
@@ -32,7 +33,7 @@ HolderLaw = (h : List Entry) (place : ℕ) → Legal h → HeldOnce (state_at h 
 LimitLaw : Type 0
 LimitLaw = (h : List Entry) (place : ℕ) → Legal h → ObjectsKept (state_at h place)
 
-replayed : (left before after : Option (List ℕ)) → GrantLaw → VerdictLaw → DenialLaw → HolderLaw → LimitLaw → EndsDone left before after → Replayed left before after
+replayed : (left before after : Option (List ℕ)) → GrantLaw → VerdictLaw → DenialLaw → HolderLaw → LimitLaw → EndsDone most_entries left before after → Replayed left before after
 unfolding GrantLaw VerdictLaw DenialLaw HolderLaw LimitLaw
 replayed left before after grants verdicts denials holders limits d = record {
   ends = d;

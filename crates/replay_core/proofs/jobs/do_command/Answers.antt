@@ -12,4 +12,4 @@ returns-then-not-branch-clause-begun c = λ budget attempts two some. begun_at_f
 pub returns-in_err-do_built-clause-full : goal.returns-in_err-do_built-clause-full
 returns-in_err-do_built-clause-full c = λ n e budget attempts two some.
     let full : IsFull c.do_built.new.ledger n = search (rules, e) in
-    met_from c.args.job c.args.command budget attempts c.args.ledger.now c.do_built.new.ledger n (c.in_err-do_built.ensures.begun budget attempts two some) full
+    met_from c.args.job c.args.command budget attempts c.args.ledger.now c.do_built.new.ledger n (search rules) (c.in_err-do_built.ensures.begun budget attempts two some) full

@@ -1,4 +1,4 @@
-use Rattle.std.proofs.Common.{◌∙◌, List, [], ◌∷◌, ◌++◌, refl, sym, ap, append_assoc}
+use Rattle.std.proofs.Common.{◌∙◌, List, [], ◌∷◌, ◌++◌, arith, refl, sym, ap, append_assoc}
 use Rattle.commands.specs.declared.command.Command.{Command}
 use Rattle.replay_core.proofs.Running.{ready_more, stands_first, stands_more}
 use Rattle.replay_core.proofs.work.do_all.Goals as goal
@@ -9,7 +9,7 @@ loop-command-init g c = record {
   are = sym (c.into_iter-command-iterator.ensures.into_iter_gives.0 ∙ c.into_vec-command-items.ensures);
   done = stands_first c.args.work.now (g.K.Sink.written c.args.output.now);
   ready = c.requires;
-  legal = c.len-entries.ensures.legal;
+  sound = record { legal = c.len-entries.ensures.legal; within = omega (arith, c.len-entries.ensures.length, c.len-entries.ensures.within) };
   faultless = refl;
 }
 
@@ -20,8 +20,8 @@ loop-command-preserved g c = record {
       ∙ ap (λ (l : List Command). c.loop-command.invariant.front ++ l) c.in-Some.ensures.steps.0
       ∙ sym (append_assoc c.loop-command.invariant.front (c.in-Some.command ∷ []) c.next.new.self.rest.items);
   done = stands_more c.histories_grow.ensures.stand c.lines_of_more.ensures c.args.at c.loop-command.invariant.front c.in-Some.command c.args.work.now c.loop-command.work c.do_next.new.work
-      (g.K.Sink.written c.args.output.now) (g.K.Sink.written c.loop-command.output) (g.K.Sink.written c.do_next.new.output) c.loop-command.invariant.done c.in_ok-do_next.ensures.did c.in_ok-do_next.ensures.legal;
+      (g.K.Sink.written c.args.output.now) (g.K.Sink.written c.loop-command.output) (g.K.Sink.written c.do_next.new.output) c.loop-command.invariant.done c.in_ok-do_next.ensures.did c.in_ok-do_next.ensures.sound;
   ready = ready_more c.histories_grow.ensures.stand c.in-Some.command c.loop-command.work c.do_next.new.work (g.K.Sink.written c.loop-command.output) (g.K.Sink.written c.do_next.new.output) c.loop-command.invariant.ready c.in_ok-do_next.ensures.did;
-  legal = c.in_ok-do_next.ensures.legal;
+  sound = c.in_ok-do_next.ensures.sound;
   faultless = c.in_ok-do_next.ensures.ok_faultless ∙ c.loop-command.invariant.faultless;
 }

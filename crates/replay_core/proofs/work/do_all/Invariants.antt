@@ -1,7 +1,6 @@
 use Rattle.std.proofs.Common.{◌≡◌, ◌++◌, List}
-use Rattle.ledger_core.specs.Legal.{Legal}
 use Rattle.commands.specs.declared.command.Command.{Command}
-use Rattle.replay_core.specs.Progress.{IsReady}
+use Rattle.replay_core.specs.Progress.{IsReady, IsSound}
 use Rattle.replay_core.specs.Script.{at_each}
 use Rattle.replay_core.specs.Turns.{StandsOn}
 use Rattle.replay_core.proofs.work.do_all.Given as goal
@@ -13,6 +12,6 @@ invariant-loop-command g l = record {
   are : l.fn.commands ≡ front ++ l.command-iterator.rest.items;
   done : StandsOn (at_each l.at front) l.fn.work l.work (g.K.Sink.written l.fn.output) (g.K.Sink.written l.output);
   ready : IsReady l.work;
-  legal : Legal l.work.ledger.entries;
+  sound : IsSound l.work.ledger;
   faultless : g.K.Sink.faults l.output ≡ g.K.Sink.faults l.fn.output;
 }
