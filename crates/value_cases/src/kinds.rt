@@ -1,6 +1,6 @@
 use crate::input::CaseError;
 use crate::{
-    cel, claims, cluster, fields, lexis, limited, messages, names, nodes, optional, parts,
+    cel, claims, fields, lexis, limited, messages, names, nodes, objects, optional, parts,
     quantities, selectors, slices, trees, values,
 };
 use cel_eval::DeviceEnv;
@@ -42,9 +42,9 @@ fn of_object(alloc: Global, word: &str, input: &Value) -> Result<String, CaseErr
         "slice" => Ok(slices::answer(alloc, input)?),
         "claim" => Ok(claims::claim_answer(alloc, input)?),
         "status" => Ok(claims::status_answer(alloc, input)?),
-        "node" | "class" | "pod" | "ready_class" => Ok(cluster::answer(alloc, word, input)?),
+        "node" | "class" | "pod" | "ready_class" => Ok(objects::answer(alloc, word, input)?),
         "ready_claim" => Ok(claims::ready_answer(alloc, input)?),
-        "reads" => Ok(cluster::reads(alloc, input)?),
+        "reads" => Ok(objects::reads(alloc, input)?),
         _ => Err(CaseError::BadCase),
     }
 }

@@ -9,7 +9,6 @@
 mod case;
 mod cel;
 mod claims;
-mod cluster;
 mod documents;
 mod fields;
 mod input;
@@ -19,6 +18,7 @@ mod limited;
 mod messages;
 mod names;
 mod nodes;
+mod objects;
 mod optional;
 mod parts;
 mod quantities;
