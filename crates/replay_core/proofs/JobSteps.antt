@@ -205,7 +205,7 @@ ran_first law job c budget attempts old new event is of_command searched ends so
     (ap (λ (h : History). h.limit) is) (length old.entries + 1, stand_now law job old new event is ∙ ends) some
 
 -- a job that has reserved by a true plan may write the uses of the pod's claims and bind it
-pub may_finish : (job : ℕ) (pod : Key) (plan : Plan) (old new : History) (t : PlanTrue (state_of old.entries) pod plan) → stand_of new.entries job ≡ stand.Reserved
+pub may_finish : (job : ℕ) (pod : Key) (plan : Plan) (old new : History) (t : PlanTrue (state_of old.entries) pod plan) → stand_of new.entries job ≡ stand.Reserved 0
     → state_of new.entries ≡ with_reserved job pod plan (state_of old.entries) → GoesOn (with_reserved job pod plan (state_of old.entries)) pod job plan.node (claims_of t.state)
     → MayFinish job pod (keys_at (state_of old.entries) pod) new.entries
 may_finish job pod plan old new t stands is goes =
