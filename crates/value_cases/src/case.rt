@@ -1,27 +1,20 @@
 use crate::input::{CaseError, json};
 use crate::kinds::of_group;
-use crate::selectors::read_devices;
-use cel_eval::DeviceEnv;
 use std::alloc::{AllocError, Global};
 
-/// The line that is printed for a line of the input. The devices are those that selectors are
-/// evaluated on; a case of the kind `selector devices` sets them.
-pub fn answer(
-    alloc: Global,
-    devices: &mut Vec<DeviceEnv>,
-    line: &str,
-) -> Result<String, AllocError> {
+/// The line that is printed for a line of the input.
+pub fn answer(alloc: Global, line: &str) -> Result<String, AllocError> {
     if line.is_empty() || line.starts_with('#') {
         return String::from_str(alloc, line);
     }
-    match of_case(alloc, devices, line) {
+    match of_case(alloc, line) {
         Ok(answer) => one_line(alloc, answer.as_str()),
         Err(CaseError::BadCase) => String::from_str(alloc, "no such case"),
         Err(CaseError::Memory) => Err(AllocError),
     }
 }
 
-fn of_case(alloc: Global, devices: &mut Vec<DeviceEnv>, line: &str) -> Result<String, CaseError> {
+fn of_case(alloc: Global, line: &str) -> Result<String, CaseError> {
     let Some((kind, input)) = line.split_once('\t') else {
         return Err(CaseError::BadCase);
     };
@@ -31,27 +24,8 @@ fn of_case(alloc: Global, devices: &mut Vec<DeviceEnv>, line: &str) -> Result<St
     if group == "commands" {
         return crate::documents::answer(alloc, word, input);
     }
-    if kind == "selector devices" {
-        return set_devices(alloc, devices, input);
-    }
     let value = json(alloc, input)?;
-    of_group(alloc, devices.as_slice(), group, word, &value)
-}
-
-/// Sets the devices, and tells how many there are.
-fn set_devices(
-    alloc: Global,
-    devices: &mut Vec<DeviceEnv>,
-    input: &str,
-) -> Result<String, CaseError> {
-    *devices = devices_of(alloc, input)?;
-    let count = devices.len();
-    Ok(format!(in alloc; "{count}")?)
-}
-
-fn devices_of(alloc: Global, input: &str) -> Result<Vec<DeviceEnv>, CaseError> {
-    let value = json(alloc, input)?;
-    read_devices(alloc, &value)
+    of_group(alloc, group, word, &value)
 }
 
 /// The text with `?` for each control character.

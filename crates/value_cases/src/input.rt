@@ -67,9 +67,3 @@ pub fn number_at(value: &Value, place: usize) -> Result<u64, CaseError> {
         None => Err(CaseError::BadCase),
     }
 }
-
-/// Appends the text as JSON writes it, in quotes.
-pub fn push_quoted(alloc: Global, out: &mut String, text: &str) -> Result<(), AllocError> {
-    let value = Value::String(String::from_str(alloc, text)?);
-    out.push_str(value.to_string(alloc)?.as_str())
-}

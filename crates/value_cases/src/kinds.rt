@@ -1,39 +1,23 @@
 use crate::input::CaseError;
-use crate::{
-    cel, claims, fields, lexis, limited, messages, names, nodes, objects, optional, parts,
-    quantities, selectors, slices, trees, values,
-};
-use cel_eval::DeviceEnv;
+use crate::{claims, fields, limited, names, nodes, objects, optional, quantities, slices, values};
 use serde_json::Value;
 use std::alloc::Global;
 
 /// The line of a case of that kind, whose input is this value.
 pub fn of_group(
     alloc: Global,
-    devices: &[DeviceEnv],
     group: &str,
     word: &str,
     input: &Value,
 ) -> Result<String, CaseError> {
     match group {
-        "selector" => selectors::answer(alloc, devices, word, input),
-        "cel" => of_operation(alloc, devices, word, input),
         "object" => of_object(alloc, word, input),
         "required" | "limited" | "optional" | "metadata" => of_field(alloc, group, word, input),
-        _ => of_text(alloc, group, word, input),
-    }
-}
-
-/// An operation of the selector language, on the first of the devices.
-fn of_operation(
-    alloc: Global,
-    devices: &[DeviceEnv],
-    word: &str,
-    input: &Value,
-) -> Result<String, CaseError> {
-    match devices.first() {
-        Some(device) => cel::answer(alloc, device, word, input),
-        None => Err(CaseError::BadCase),
+        "quantity" => quantities::answer(alloc, word, input),
+        "value" => values::answer(alloc, word, input),
+        "name" => names::answer(alloc, word, input),
+        "node" => nodes::answer(alloc, word, input),
+        _ => Err(CaseError::BadCase),
     }
 }
 
@@ -56,19 +40,5 @@ fn of_field(alloc: Global, group: &str, word: &str, input: &Value) -> Result<Str
         "limited" => limited::limited(alloc, word, input),
         "optional" => optional::optional(alloc, word, input),
         _ => fields::metadata(alloc, word, input),
-    }
-}
-
-fn of_text(alloc: Global, group: &str, word: &str, input: &Value) -> Result<String, CaseError> {
-    match group {
-        "quantity" => quantities::answer(alloc, word, input),
-        "value" => values::answer(alloc, word, input),
-        "name" => names::answer(alloc, word, input),
-        "token" => lexis::answer(alloc, word, input),
-        "tree" => trees::answer(alloc, word, input),
-        "node" => nodes::answer(alloc, word, input),
-        "part" => parts::answer(alloc, word, input),
-        "message" => messages::answer(alloc, word),
-        _ => Err(CaseError::BadCase),
     }
 }
