@@ -1,7 +1,7 @@
 -- What each change leaves of the devices that claims hold.
 use Rattle.std.proofs.Common.{ℕ, zero, suc, ◌<◌, ◌≡◌, ◌≢◌, ◌∙◌, ◌⊎◌, inl, inr, ⊎_elim, get_or, List, [], ◌∷◌, ◌++◌, Bool, true, false, true≢false, cond, ◌||◌, Option, None, Some, map, length, refl, sym, ap, subst, arith, drop}
 use Rattle.std.specs.List.{Contains, flat_map, slice_get}
-use Rattle.std.specs.Map.{lookup, set_value}
+use Rattle.std.specs.Map.{lookup, remove_entry, set_value}
 use Rattle.std.specs.Option.{option_map, option_map_or}
 use Rattle.std.specs.Ordering.{is_eq, match_ordering, ordering_then}
 use Rattle.std.specs.BTreeMap.{insert_entry, is_at}
@@ -15,6 +15,8 @@ use Rattle.api_claim.specs.declared.types.DeviceRequest.{DeviceRequest}
 use Rattle.api_claim.specs.declared.types.ResourceClaim.{ResourceClaim}
 use Rattle.cluster.specs.declared.object.Object.{Object}
 use Rattle.cluster.specs.declared.object.Object.TheVariants as object
+use Rattle.cluster.specs.declared.object.Target.{Target}
+use Rattle.cluster.specs.declared.object.Target.TheVariants as target
 use Rattle.cluster.specs.declared.plan.Grant.{Grant}
 use Rattle.cluster.specs.declared.plan.DeviceResult.{DeviceResult}
 use Rattle.cluster.specs.declared.plan.Plan.{Plan}
@@ -28,11 +30,12 @@ use Rattle.std.proofs.lemmas.Bool.{and_from}
 use Rattle.std.specs.List.{list_any}
 use Rattle.std.specs.Cmp.Lexicographic.{texts_ties}
 use Rattle.cluster.specs.Wrote.{as_published, with_written, written_by}
-use Rattle.pool_view.specs.Inventory.{created}
-use Rattle.cluster.specs.State.{empty_state, IsAbsent}
+use Rattle.cluster.specs.State.{empty_state}
 use Rattle.cluster.specs.Bound.{with_bound}
-use Rattle.cluster.specs.Reserved.{with_grant, with_grants, with_reserved}
-use Rattle.cluster.specs.Applied.{with_object}
+use Rattle.cluster.specs.Reserved.{joined_by, with_grant, with_grants, with_joins, with_reserved}
+use Rattle.cluster.specs.Applied.{new_claim, updated_claim, with_object}
+use Rattle.cluster.specs.Tables.{changed_at, put_at}
+use Rattle.cluster.specs.Deleted.{without_object}
 use Rattle.cluster.specs.Held.{devices_held, held, held_by}
 use Rattle.pool_view.specs.Pools.{id_in}
 use Rattle.alloc_rules.specs.Claims.{add_ungranted, add_wanted, wanted, wanted_of}
@@ -385,13 +388,51 @@ once_same s t h e = once_from t (subst (λ (ds : List DeviceId). Apart ds) (sym 
 pub once_empty : HeldOnce empty_state
 once_empty = once_from empty_state tt
 
-pub once_created : (place : ℕ) (object : Object) (s : State) → IsAbsent s object → HeldOnce s → HeldOnce (with_object place object s)
-once_created place (object.Node x) s absent h = once_same s (with_object place (object.Node x) s) h refl
-once_created place (object.Slice x) s absent h = once_same s (with_object place (object.Slice x) s) h refl
-once_created place (object.Class x) s absent h = once_same s (with_object place (object.Class x) s) h refl
-once_created place (object.Claim x) s absent h =
-    once_same s (with_object place (object.Claim x) s) h (inserted_held s.claims x.key (record { claim = created place x; grant = None; users = [] }) absent refl)
-once_created place (object.Pod x) s absent h = once_same s (with_object place (object.Pod x) s) h refl
+-- a claim that is created or updated
+put_same : (place : ℕ) (x : ResourceClaim) (es : Claims) (o : Option ClaimState) → at_key es x.key ≡ o → held_in (put_at x.key (new_claim place x) (updated_claim place x) es o) ≡ held_in es
+put_same place x es None e = inserted_held es x.key (new_claim place x) e refl
+put_same place x es (Some c) e = same_held (is_at (key_cmp x.key)) es c (updated_claim place x c) e refl
+
+pub once_applied : (place : ℕ) (object : Object) (s : State) → HeldOnce s → HeldOnce (with_object place object s)
+once_applied place (object.Node x) s h = once_same s (with_object place (object.Node x) s) h refl
+once_applied place (object.Slice x) s h = once_same s (with_object place (object.Slice x) s) h refl
+once_applied place (object.Class x) s h = once_same s (with_object place (object.Class x) s) h refl
+once_applied place (object.Claim x) s h = once_same s (with_object place (object.Claim x) s) h (put_same place x s.claims (at_key s.claims x.key) refl)
+once_applied place (object.Pod x) s h = once_same s (with_object place (object.Pod x) s) h refl
+
+-- what stands where a claim was taken away: the devices differ, and each was held before
+record Left (olds all : List DeviceId) : Type 0 where
+  apart : Apart all
+  among : (d : DeviceId) → Contains all d → Contains olds d
+
+left_by : (b : Bool) (test : Key → Bool) (e : Key × ClaimState) (es : Claims) → test e.0 ≡ b → Apart (held_in (e ∷ es)) → (Apart (held_in es) → Left (held_in es) (held_in (remove_entry test es)))
+    → Left (held_in (e ∷ es)) (held_in (remove_entry test (e ∷ es)))
+left_by true test e es is olds later =
+    let first = held_by e.1.grant in
+    let gone : held_in es ≡ held_in (remove_entry test (e ∷ es)) = sym (ap (λ b. held_in (cond b es (e ∷ remove_entry test es))) is) in
+    let left : Left (held_in (e ∷ es)) (held_in es) = record { apart = apart_back first (held_in es) olds; among = λ d h. Contains-append_right first (held_in es) d h } in
+    subst (λ (ds : List DeviceId). Left (held_in (e ∷ es)) ds) gone left
+left_by false test e es is olds later =
+    let first = held_by e.1.grant in
+    let rest = held_in (remove_entry test es) in
+    let r : Left (held_in es) rest = later (apart_back first (held_in es) olds) in
+    let same : first ++ rest ≡ held_in (remove_entry test (e ∷ es)) = sym (ap (λ b. held_in (cond b es (e ∷ remove_entry test es))) is) in
+    let left : Left (held_in (e ∷ es)) (first ++ rest) = record {
+      apart = apart_join first rest (apart_front first (held_in es) olds) r.apart (λ d h g. apart_disjoint first (held_in es) olds d h (r.among d g));
+      among = λ d c. ⊎_elim (λ h. Contains-append_left first (held_in es) d h) (λ h. Contains-append_right first (held_in es) d (r.among d h)) (Contains-append_cases first rest d c);
+    } in
+    subst (λ (ds : List DeviceId). Left (held_in (e ∷ es)) ds) same left
+
+left_held : (test : Key → Bool) (es : Claims) → Apart (held_in es) → Left (held_in es) (held_in (remove_entry test es))
+left_held test [] olds = record { apart = tt; among = λ d h. h }
+left_held test (e ∷ es) olds = left_by (test e.0) test e es refl olds (λ a. left_held test es a)
+
+pub once_deleted : (t : Target) (s : State) → HeldOnce s → HeldOnce (without_object t s)
+once_deleted (target.Node name) s h = once_same s (without_object (target.Node name) s) h refl
+once_deleted (target.Slice name) s h = once_same s (without_object (target.Slice name) s) h refl
+once_deleted (target.Class name) s h = once_same s (without_object (target.Class name) s) h refl
+once_deleted (target.Claim key) s h = once_from (without_object (target.Claim key) s) (left_held (is_at (key_cmp key)) s.claims (apart_of s h)).apart
+once_deleted (target.Pod key) s h = once_same s (without_object (target.Pod key) s) h refl
 
 published_same : (g : Option Granted) → held_by (option_map as_published g) ≡ held_by g
 published_same None = refl
@@ -407,6 +448,14 @@ once_written place pod claim s h = once_same s (with_written place pod claim s) 
 
 pub once_bound : (pod : Key) (node : List ℕ) (s : State) → HeldOnce s → HeldOnce (with_bound pod node s)
 once_bound pod node s h = once_same s (with_bound pod node s) h refl
+
+joined_same : (pod claim : Key) (es : Claims) (o : Option ClaimState) → at_key es claim ≡ o → held_in (option_map_or (λ c. set_value (is_at (key_cmp claim)) es (joined_by pod c)) o es) ≡ held_in es
+joined_same pod claim es None e = refl
+joined_same pod claim es (Some c) e = same_held (is_at (key_cmp claim)) es c (joined_by pod c) e refl
+
+joins_same : (pod : Key) (ks : List Key) (es : Claims) → held_in (with_joins pod ks es) ≡ held_in es
+joins_same pod [] es = refl
+joins_same pod (k ∷ ks) es = joins_same pod ks (changed_at k (joined_by pod) es) ∙ joined_same pod k es (at_key es k) refl
 
 pub once_reserved : (s : State) (job : ℕ) (pod : Key) (plan : Plan) → Holds s pod plan → HeldOnce s → HeldOnce (with_reserved job pod plan s)
 unfolding wanted
@@ -425,7 +474,8 @@ once_reserved s job pod plan holds h =
     a.exclusive c.0 x.0 k.0 x.1 k.1 in
     let after : Apart (held_in (with_grants plan.node pod (grants_for cs ids) s.claims)) =
     grants_apart plan.node pod cs ids s.claims (each_wanted s ks) (apart_wanted s (claim_keys holds.state.pod.object) []) (apart_of s h) (apart_from ids differ) free in
-    once_from (with_reserved job pod plan s) (subst (λ (gs : List Grant). Apart (held_in (with_grants plan.node pod gs s.claims))) (sym a.in_order) after)
+    let granted_apart : Apart (held_in (with_grants plan.node pod plan.grants s.claims)) = subst (λ (gs : List Grant). Apart (held_in (with_grants plan.node pod gs s.claims))) (sym a.in_order) after in
+    once_from (with_reserved job pod plan s) (subst (λ (ds : List DeviceId). Apart ds) (sym (joins_same pod plan.joins (with_grants plan.node pod plan.grants s.claims))) granted_apart)
 
 -- ---- what it says of two claims
 

@@ -1,4 +1,3 @@
-pub mod OneGrant
 pub mod Lists
 pub mod Names
 pub mod Picked

@@ -9,7 +9,7 @@ use api_slice::{Device, ResourceSlice, SliceNodes};
 use cel_value::DeviceEnv;
 use cluster::{SelectorFault, State};
 use device_match::{DeviceSelector, Match, device_env, match_both};
-use dra_values::Text;
+use dra_values::{Shared, Text};
 use object_fields::{DeviceId, Key};
 use pool_view::{SlicePlace, Stored, named_node};
 use ready_objects::ReadyClass;
@@ -26,7 +26,7 @@ pub struct Candidate {
 /// What the class's selectors and then the request's say of a device; No where the class isn't there.
 fn matched(
     alloc: Global,
-    class: Option<&Stored<ReadyClass>>,
+    class: Option<&Stored<Shared<ReadyClass>>>,
     own: &[DeviceSelector],
     device: &DeviceEnv,
 ) -> Result<Match, AllocError>
@@ -40,7 +40,7 @@ fn matched(
 
 fn candidate_of(
     alloc: Global,
-    class: Option<&Stored<ReadyClass>>,
+    class: Option<&Stored<Shared<ReadyClass>>>,
     own: &[DeviceSelector],
     slice: &ResourceSlice,
     device: &Device,
@@ -79,7 +79,7 @@ fn is_on(nodes: &SliceNodes, node: &Text) -> bool
 fn push_of_slice(
     out: &mut Vec<Candidate>,
     alloc: Global,
-    class: Option<&Stored<ReadyClass>>,
+    class: Option<&Stored<Shared<ReadyClass>>>,
     own: &[DeviceSelector],
     slice: &ResourceSlice,
 ) -> Result<(), AllocError>
@@ -95,7 +95,7 @@ fn push_of_slice(
 fn push_where(
     out: &mut Vec<Candidate>,
     alloc: Global,
-    class: Option<&Stored<ReadyClass>>,
+    class: Option<&Stored<Shared<ReadyClass>>>,
     own: &[DeviceSelector],
     node: &Text,
     slice: &ResourceSlice,
@@ -114,7 +114,7 @@ fn push_at(
     out: &mut Vec<Candidate>,
     alloc: Global,
     state: &State,
-    class: Option<&Stored<ReadyClass>>,
+    class: Option<&Stored<Shared<ReadyClass>>>,
     own: &[DeviceSelector],
     node: &Text,
     place: &SlicePlace,
@@ -134,7 +134,7 @@ pub fn candidates_on(
     alloc: Global,
     state: &State,
     places: &BTreeSet<SlicePlace>,
-    class: Option<&Stored<ReadyClass>>,
+    class: Option<&Stored<Shared<ReadyClass>>>,
     own: &[DeviceSelector],
     node: &Text,
 ) -> Result<Vec<Candidate>, AllocError>

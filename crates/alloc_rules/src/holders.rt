@@ -2,14 +2,16 @@ ghost use Rattle.std.specs.Prelude.{◌≡◌, ℕ, List, Some, Contains};
 ghost use Rattle.object_fields.specs.declared.key.Key.{Key};
 ghost use Rattle.object_fields.specs.declared.key.DeviceId.{DeviceId};
 ghost use Rattle.cluster.specs.declared.object.Object.{Object};
+ghost use Rattle.cluster.specs.declared.object.Target.{Target};
 ghost use Rattle.cluster.specs.declared.state.State.{State};
 ghost use Rattle.cluster.specs.declared.state.ClaimState.{ClaimState};
 ghost use Rattle.cluster.specs.declared.plan.Plan.{Plan};
 ghost use Rattle.pool_view.specs.Names.{at_key};
 ghost use Rattle.cluster.specs.Held.{held_by};
-ghost use Rattle.cluster.specs.State.{empty_state, IsAbsent};
+ghost use Rattle.cluster.specs.State.{empty_state};
 ghost use Rattle.cluster.specs.Bound.{with_bound};
 ghost use Rattle.cluster.specs.Applied.{with_object};
+ghost use Rattle.cluster.specs.Deleted.{without_object};
 ghost use Rattle.cluster.specs.Reserved.{with_reserved};
 ghost use Rattle.cluster.specs.Wrote.{with_written};
 ghost use Rattle.alloc_rules.specs.Plans.{Holds};
@@ -20,7 +22,8 @@ ghost use Rattle.cluster.specs.Held.{HeldOnce};
 /// grants.
 pub fn one_holder_is_kept()
     ensures empty { HeldOnce empty_state }
-    ensures created { (place : ℕ) (object : Object) (s : State) → IsAbsent s object → HeldOnce s → HeldOnce (with_object place object s) }
+    ensures applied { (place : ℕ) (object : Object) (s : State) → HeldOnce s → HeldOnce (with_object place object s) }
+    ensures deleted { (target : Target) (s : State) → HeldOnce s → HeldOnce (without_object target s) }
     ensures reserved { (s : State) (job : ℕ) (pod : Key) (plan : Plan) → Holds s pod plan → HeldOnce s → HeldOnce (with_reserved job pod plan s) }
     ensures written { (place : ℕ) (pod claim : Key) (s : State) → HeldOnce s → HeldOnce (with_written place pod claim s) }
     ensures bound { (pod : Key) (node : List ℕ) (s : State) → HeldOnce s → HeldOnce (with_bound pod node s) }

@@ -7,7 +7,6 @@ mod fit;
 mod free;
 mod holders;
 mod laws;
-mod one_grant;
 mod plain;
 mod schedule;
 
@@ -15,6 +14,5 @@ pub use decision::{Decision, decide};
 pub use fit::{Fit, NodeFit, first_fit};
 pub use holders::{holders_are_one_claim, one_holder_is_kept};
 pub use laws::{faults_are_first, plan_holds, unsat_is_true, walk_is_allocations};
-pub use one_grant::grants_at_most_one;
 pub use plain::{is_plain_claim, plain_ask};
 pub use schedule::may_schedule;

@@ -1,13 +1,14 @@
 -- What each event does to the state, and what it leaves of its job.
 use Rattle.std.specs.Prelude.{ℕ, Bool}
 use Rattle.cluster.specs.declared.entry.Event.{Event}
-use Rattle.cluster.specs.declared.entry.Event.TheVariants.{Applied, Reserved, Wrote, Bound, Judged, Denied}
+use Rattle.cluster.specs.declared.entry.Event.TheVariants.{Applied, Deleted, Reserved, Wrote, Bound, Judged, Denied}
 use Rattle.cluster.specs.declared.entry.Outcome.{Outcome}
 use Rattle.cluster.specs.declared.entry.Outcome.TheVariants as outcome
 use Rattle.cluster.specs.declared.entry.Stand.{Stand}
 use Rattle.cluster.specs.declared.state.State.{State}
 use Rattle.cluster.specs.Stand.{has_reserved, is_fresh, may_try}
 use Rattle.cluster.specs.Applied.{with_object, applied_leaves}
+use Rattle.cluster.specs.Deleted.{without_object, deleted_leaves}
 use Rattle.cluster.specs.Reserved.{with_reserved, reserved_leaves}
 use Rattle.cluster.specs.Wrote.{with_written, wrote_leaves}
 use Rattle.cluster.specs.Bound.{with_bound, bound_leaves}
@@ -16,7 +17,8 @@ use Rattle.cluster.specs.Denied.{with_denial, denied_leaves}
 
 -- the state after an entry of a job at a place
 abbrev pub after : ℕ → ℕ → Event → State → State
-after place job (Applied object) s = with_object place object s
+after place job (Applied object mode) s = with_object place object s
+after place job (Deleted target) s = without_object target s
 after place job (Reserved pod plan) s = with_reserved job pod plan s
 after place job (Wrote pod claim seen) s = with_written place pod claim s
 after place job (Bound pod node) s = with_bound pod node s
@@ -25,7 +27,8 @@ after place job (Denied command refusal) s = with_denial s
 
 -- the stand after an entry of the job at a place
 abbrev pub stand_after : Stand → ℕ → Event → Stand
-stand_after st place (Applied object) = applied_leaves place
+stand_after st place (Applied object mode) = applied_leaves place
+stand_after st place (Deleted target) = deleted_leaves place
 stand_after st place (Reserved pod plan) = reserved_leaves st
 stand_after st place (Wrote pod claim seen) = wrote_leaves st
 stand_after st place (Bound pod node) = bound_leaves place
@@ -34,7 +37,8 @@ stand_after st place (Denied command refusal) = denied_leaves place
 
 -- a job that stands so may make the entry
 abbrev pub allows : Stand → Event → Bool
-allows st (Applied object) = is_fresh st
+allows st (Applied object mode) = is_fresh st
+allows st (Deleted target) = is_fresh st
 allows st (Reserved pod plan) = may_try st
 allows st (Wrote pod claim seen) = has_reserved st
 allows st (Bound pod node) = has_reserved st
@@ -43,7 +47,8 @@ allows st (Denied command refusal) = may_try st
 
 -- what became of a command, by the kind of its entry
 abbrev pub outcome_of : Event → Outcome
-outcome_of (Applied object) = outcome.Made
+outcome_of (Applied object mode) = outcome.Made
+outcome_of (Deleted target) = outcome.Made
 outcome_of (Reserved pod plan) = outcome.Made
 outcome_of (Wrote pod claim seen) = outcome.Made
 outcome_of (Bound pod node) = outcome.Made

@@ -6,7 +6,10 @@ pub mod State
 pub mod Held
 pub mod Stand
 pub mod Applied
+pub mod Deleted
+pub mod Same
 pub mod Reserved
+pub mod Prepared
 pub mod Wrote
 pub mod Bound
 pub mod Judged

@@ -25,9 +25,18 @@ abbrev pub with_grants : List ℕ → Key → List Grant → List (Key × ClaimS
 with_grants node pod [] claims = claims
 with_grants node pod (g ∷ gs) claims = with_grants node pod gs (with_grant node pod g.claim g.results claims)
 
--- the pod taken by a job, with its plan's grants
+-- a claim with a user more, whose use is assumed at the claim's version
+abbrev pub joined_by : Key → ClaimState → ClaimState
+joined_by pod c = record c { users = insert_entry key_cmp c.users pod (Assumed c.claim.version) }
+
+-- each of the claims joined by the pod
+abbrev pub with_joins : Key → List Key → List (Key × ClaimState) → List (Key × ClaimState)
+with_joins pod [] claims = claims
+with_joins pod (k ∷ ks) claims = with_joins pod ks (changed_at k (joined_by pod) claims)
+
+-- the pod taken by a job, with its plan's grants, and a user of each claim that is granted or joined
 abbrev pub with_reserved : ℕ → Key → Plan → State → State
-with_reserved job pod plan s = record s { claims = with_grants plan.node pod plan.grants s.claims; pods = with_phase pod (Taken job plan.node) s.pods }
+with_reserved job pod plan s = record s { claims = with_joins pod plan.joins (with_grants plan.node pod plan.grants s.claims); pods = with_phase pod (Taken job plan.node) s.pods }
 
 -- its job has reserved, after as many failed attempts
 abbrev pub reserved_leaves : Stand → Stand

@@ -1,7 +1,7 @@
 -- What a state has at its keys.
-use Rattle.std.specs.Prelude.{ℕ, ◌≡◌, ◌+◌, List, [], Bool, true, false, Option, None, Some, length, nat_le, nat_lt, is_some, ◌||◌}
+use Rattle.std.specs.Prelude.{ℕ, ◌≡◌, List, [], Bool, true, false, Option, None, Some, length, nat_lt, is_some, ◌||◌}
 use Rattle.object_fields.specs.declared.key.Key.{Key}
-use Rattle.pool_view.specs.Inventory.{device_count, devices_most, empty_inventory}
+use Rattle.pool_view.specs.Inventory.{empty_inventory, has_room_for}
 use Rattle.pool_view.specs.Names.{at_key, at_name}
 use Rattle.cluster.specs.declared.object.Object.{Object}
 use Rattle.cluster.specs.declared.object.Object.TheVariants as object
@@ -34,10 +34,11 @@ is_there s (object.Class x) = is_some (at_name s.classes x.name)
 is_there s (object.Claim x) = is_some (at_key s.claims x.key)
 is_there s (object.Pod x) = is_some (at_key s.pods x.key)
 
--- all slices with the object have at most the devices that they may have
+-- all slices with the object have at most the devices that they may have, where a slice stands in the stead of
+-- the one of its name
 abbrev pub has_room : State → Object → Bool
 has_room s (object.Node x) = true
-has_room s (object.Slice x) = nat_le (device_count s.inventory.slices + length x.devices) devices_most
+has_room s (object.Slice x) = has_room_for s.inventory.slices x
 has_room s (object.Class x) = true
 has_room s (object.Claim x) = true
 has_room s (object.Pod x) = true

@@ -1,4 +1,4 @@
-use crate::{Object, Plan, Verdict};
+use crate::{Object, Plan, Target, Verdict};
 use dra_values::Text;
 use object_fields::{FieldError, Key};
 
@@ -13,8 +13,11 @@ pub struct Entry {
 /// What an entry does.
 #[derive(Drop)]
 pub enum Event {
-    /// Creates an object, whose uid and version are the entry's place.
-    Applied(Object),
+    /// Creates an object, whose uid and version are the entry's place, or updates one that is there,
+    /// which keeps its uid and gets the entry's place as its version.
+    Applied { object: Object, mode: Mode },
+    /// Takes an object away.
+    Deleted(Target),
     /// Makes the plan's grants, and takes the pod for the job.
     Reserved { pod: Key, plan: Plan },
     /// Writes the pod's use of a claim, whose version was `seen`.
@@ -33,8 +36,21 @@ pub enum Command {
     /// To apply the document of an object whose fields, or else whose selectors, have this first error,
     /// which isn't that memory ran out. It names nothing.
     Invalid(FieldError),
-    /// To create an object.
-    Create(Object),
+    /// To create or update an object, by the mode.
+    Apply { object: Object, mode: Mode },
+    /// To take an object away.
+    Delete(Target),
+}
+
+/// Whether a command that applies an object asks for a new one.
+#[derive(Clone, Copy, Debug, PartialEq, Eq, Drop)]
+pub enum Mode {
+    /// A new object. The version that the object carries isn't looked at.
+    Create,
+    /// An object that is there.
+    Update,
+    /// An update where an object of its kind and name is there, and else a new one.
+    Apply,
 }
 
 /// Why a command is refused.
@@ -42,8 +58,16 @@ pub enum Command {
 pub enum Refusal {
     /// The document has an error.
     Invalid,
+    /// No object of this kind and name is there.
+    NotFound,
     /// An object of this kind and name is there.
     Exists,
+    /// The object carries the version `had`, and the one that is there has the version `now`.
+    Conflict { had: u64, now: u64 },
+    /// The spec of a claim, or the list of claims of a pod, isn't that of the one that is there.
+    Immutable,
+    /// The claim has a user, or the pod is taken, bound or a user of a claim.
+    InUse,
     /// All slices would have more than 65,536 devices.
     Devices,
 }

@@ -6,13 +6,17 @@ mod kept;
 mod object;
 mod plan;
 mod ready;
+mod refusals;
+mod reserved;
+mod same;
 mod state;
 
-pub use entry::{Command, Entry, Event, Outcome, Refusal, Stand};
+pub use entry::{Command, Entry, Event, Mode, Outcome, Refusal, Stand};
 pub use kept::Kept;
-pub use object::Object;
+pub use object::{Object, Target};
 pub use plan::{
     Cause, DeviceResult, Grant, Known, KnownClaim, Passed, Plan, SelectorFault, Verdict,
 };
 pub use ready::{Ready, ReadyParts};
+pub use same::same_is_equal;
 pub use state::{ClaimState, Granted, MOST_USERS, Phase, PodState, State, Use};

@@ -7,6 +7,7 @@ use crate::{Kept, Object};
 use api_claim::ResourceClaim;
 use api_cluster::{DeviceClass, Node, Pod};
 use api_slice::ResourceSlice;
+use dra_values::Shared;
 use object_fields::{FieldError, or_memory};
 use ready_objects::{ReadyClaim, ReadyClass};
 use std::alloc::Global;
@@ -81,39 +82,41 @@ fn keep(alloc: Global, object: &Object) -> Result<Kept, FieldError>
     }
 }
 
-fn keep_node(alloc: Global, node: &Node) -> Result<Kept, FieldError>
+fn keep_node(alloc: Global, node: &Shared<Node>) -> Result<Kept, FieldError>
     ensures { Keeps (object.Node node.now) result }
 {
     node.keeps_limits();
-    Ok(Kept::Node(or_memory(alloc, node.copy(alloc))?))
+    Ok(Kept::Node(or_memory(alloc, node.share())?))
 }
 
-fn keep_slice(alloc: Global, slice: &ResourceSlice) -> Result<Kept, FieldError>
+fn keep_slice(alloc: Global, slice: &Shared<ResourceSlice>) -> Result<Kept, FieldError>
     ensures { Keeps (object.Slice slice.now) result }
 {
     slice.keeps_limits();
-    Ok(Kept::Slice(or_memory(alloc, slice.copy(alloc))?))
+    Ok(Kept::Slice(or_memory(alloc, slice.share())?))
 }
 
-fn keep_pod(alloc: Global, pod: &Pod) -> Result<Kept, FieldError>
+fn keep_pod(alloc: Global, pod: &Shared<Pod>) -> Result<Kept, FieldError>
     ensures { Keeps (object.Pod pod.now) result }
 {
     pod.keeps_limits();
-    Ok(Kept::Pod(or_memory(alloc, pod.copy(alloc))?))
+    Ok(Kept::Pod(or_memory(alloc, pod.share())?))
 }
 
-fn keep_class(alloc: Global, class: &DeviceClass) -> Result<Kept, FieldError>
+fn keep_class(alloc: Global, class: &Shared<DeviceClass>) -> Result<Kept, FieldError>
     ensures { Keeps (object.Class class.now) result }
 {
     class.keeps_limits();
     let class = or_memory(alloc, class.copy(alloc))?;
-    Ok(Kept::Class(ReadyClass::of(alloc, class)?))
+    let class = ReadyClass::of(alloc, class)?;
+    Ok(Kept::Class(or_memory(alloc, Shared::new(alloc, class))?))
 }
 
-fn keep_claim(alloc: Global, claim: &ResourceClaim) -> Result<Kept, FieldError>
+fn keep_claim(alloc: Global, claim: &Shared<ResourceClaim>) -> Result<Kept, FieldError>
     ensures { Keeps (object.Claim claim.now) result }
 {
     claim.keeps_limits();
     let claim = or_memory(alloc, claim.copy(alloc))?;
-    Ok(Kept::Claim(ReadyClaim::of(alloc, claim)?))
+    let claim = ReadyClaim::of(alloc, claim)?;
+    Ok(Kept::Claim(or_memory(alloc, Shared::new(alloc, claim))?))
 }

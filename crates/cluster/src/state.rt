@@ -1,13 +1,14 @@
-ghost use Rattle.std.specs.Prelude.{◌≡◌, ◌≤◌, OnOk, OnErr, length};
-ghost use Rattle.cluster.specs.Tables.{changed_at, with_phase};
-ghost use Rattle.cluster.specs.Reserved.{with_grant, with_grants};
+ghost use Rattle.std.specs.Prelude.{◌≡◌, OnOk, OnErr};
+ghost use Rattle.cluster.specs.Applied.{new_claim, new_pod, updated_claim, updated_pod};
+ghost use Rattle.cluster.specs.Tables.{changed_at, changed_or_new, with_phase};
 ghost use Rattle.cluster.specs.Wrote.{written_by};
 
-use crate::{Command, DeviceResult, Grant, Kept, Object, Plan, Refusal};
+use crate::reserved::{place, prepare};
+use crate::{DeviceResult, Kept, Plan, Target};
 use api_cluster::Pod;
-use dra_values::{Seq, Table, Text};
+use dra_values::{Duplicate, Seq, Shared, Table, Text};
 use object_fields::Key;
-use pool_view::{Inventory, Stored};
+use pool_view::{Inventory, Stored, put_named};
 use ready_objects::{ReadyClaim, ReadyClass};
 use std::alloc::{AllocError, Global};
 
@@ -31,10 +32,19 @@ pub enum Use {
     Written,
 }
 
+impl Duplicate for Use {
+    fn duplicate(&self, _alloc: Global) -> Result<Use, AllocError> {
+        match self {
+            Use::Assumed(version) => Ok(Use::Assumed(*version)),
+            Use::Written => Ok(Use::Written),
+        }
+    }
+}
+
 /// A claim with its grant and its users.
 #[derive(Drop)]
 pub struct ClaimState {
-    pub claim: Stored<ReadyClaim>,
+    pub claim: Stored<Shared<ReadyClaim>>,
     pub grant: Option<Granted>,
     pub users: Table<Key, Use>,
 }
@@ -51,7 +61,7 @@ pub enum Phase {
 
 #[derive(Drop)]
 pub struct PodState {
-    pub pod: Stored<Pod>,
+    pub pod: Stored<Shared<Pod>>,
     pub phase: Phase,
 }
 
@@ -59,122 +69,92 @@ pub struct PodState {
 #[derive(Drop)]
 pub struct State {
     /// The nodes and the slices.
-    pub inventory: Inventory,
-    pub classes: Table<Text, Stored<ReadyClass>>,
+    pub inventory: Shared<Inventory>,
+    pub classes: Shared<Table<Text, Stored<Shared<ReadyClass>>>>,
     pub claims: Table<Key, ClaimState>,
     pub pods: Table<Key, PodState>,
 }
 
 impl State {
-    ghost use Rattle.std.specs.Prelude.{◌≡◌, true, OnOk, OnErr};
+    ghost use Rattle.std.specs.Prelude.{◌≡◌, true, IfOk, OnOk, OnErr};
     ghost use Rattle.cluster.specs.Ready.{object_of};
-    ghost use Rattle.cluster.specs.State.{empty_state, has_room, is_there};
-    ghost use Rattle.cluster.specs.Denied.{first_refusal};
-    ghost use Rattle.cluster.specs.declared.entry.Command.TheVariants.{Create};
+    ghost use Rattle.cluster.specs.State.{empty_state, has_room};
+    ghost use Rattle.cluster.specs.Deleted.{without_object};
     ghost use Rattle.cluster.specs.Applied.{with_object};
 
-    /// The state in which nothing is there.
-    pub fn new(alloc: Global) -> State
-        ensures { result ≡ empty_state }
+    /// The state in which nothing is there. `AllocError` comes only if memory runs out.
+    pub fn new(alloc: Global) -> Result<State, AllocError>
+        ensures { IfOk result (λ state. state ≡ empty_state) }
     {
-        State {
-            inventory: Inventory::new(alloc),
-            classes: Table::new(alloc),
+        let inventory = Shared::new(alloc, Inventory::new(alloc))?;
+        let classes = Shared::new(alloc, Table::new(alloc))?;
+        Ok(State {
+            inventory,
+            classes,
             claims: Table::new(alloc),
             pods: Table::new(alloc),
-        }
+        })
     }
 
-    /// Whether an object of this kind and name is there.
-    fn is_there(&self, object: &Object) -> bool
-        ensures { result ≡ is_there self.now object.now }
-    {
-        match object {
-            Object::Node(node) => self.inventory.nodes().contains_key(&node.name),
-            Object::Slice(slice) => self.inventory.slices().contains_key(&slice.name),
-            Object::Class(class) => self.classes.contains_key(&class.name),
-            Object::Claim(claim) => self.claims.contains_key(&claim.key),
-            Object::Pod(pod) => self.pods.contains_key(&pod.key),
-        }
-    }
-
-    /// The first refusal of a command that holds: of a document with an error that it has one, and of
-    /// an object to be created that one of its kind and name is there, and then that all slices would
-    /// have more than 65,536 devices. Takes no memory.
-    pub fn first_refusal(&self, command: &Command) -> Option<Refusal>
-        ensures { result ≡ first_refusal self.now command.now }
-    {
-        match command {
-            Command::Invalid(_) => Some(Refusal::Invalid),
-            Command::Create(object) => self.creation_refusal(object),
-        }
-    }
-
-    /// The first refusal that holds of an object to be created. Takes no memory.
-    pub fn creation_refusal(&self, object: &Object) -> Option<Refusal>
-        ensures { result ≡ first_refusal self.now (Create object.now) }
-    {
-        if self.is_there(object) {
-            Some(Refusal::Exists)
-        } else if self.has_room(object) {
-            None
-        } else {
-            Some(Refusal::Devices)
-        }
-    }
-
-    /// Whether all slices with the object have at most 65,536 devices.
-    fn has_room(&self, object: &Object) -> bool
-        ensures { result ≡ has_room self.now object.now }
-    {
-        match object {
-            Object::Slice(slice) => self.inventory.has_room(slice.devices.as_slice().len()),
-            Object::Node(_) | Object::Class(_) | Object::Claim(_) | Object::Pod(_) => true,
-        }
-    }
-
-    /// Puts an object that there is room for at its name, which the entry at this place creates.
-    /// `AllocError` comes only where memory runs out, and then nothing changed.
+    /// Puts an object that there is room for at its name, by the entry at this place: it is updated and
+    /// keeps its uid where one of its kind and name is there, and else it is created. A claim that is
+    /// updated keeps its grant and its users, and a pod how far it has come. `AllocError` comes only
+    /// if memory runs out, and then nothing changed.
     pub fn put(&mut self, alloc: Global, place: u64, kept: Kept) -> Result<(), AllocError>
         requires { has_room self.old (object_of kept) ≡ true }
         ensures ok { OnOk result (self.new ≡ with_object place (object_of kept) self.old) }
         ensures err { OnErr result (self.new ≡ self.old) }
     {
         match kept {
-            Kept::Node(node) => self.inventory.put_node(alloc, place, node),
-            Kept::Slice(slice) => self.inventory.put_slice(alloc, place, slice),
+            Kept::Node(node) => self.inventory.change(alloc)?.put_node(alloc, place, node),
+            Kept::Slice(slice) => self.inventory.change(alloc)?.put_slice(alloc, place, slice),
             Kept::Class(class) => {
                 let name = class.class().name.copy(alloc)?;
-                self.classes.insert(name, Stored::created(place, class))
+                put_named(self.classes.change(alloc)?, place, name, class)
             }
             Kept::Claim(claim) => {
                 let key = claim.claim().key.copy(alloc)?;
-                let claim = ClaimState {
-                    claim: Stored::created(place, claim),
-                    grant: None,
-                    users: Table::new(alloc),
-                };
-                self.claims.insert(key, claim)
+                put_claim(alloc, &mut self.claims, place, key, claim)
             }
             Kept::Pod(pod) => {
                 let key = pod.key.copy(alloc)?;
-                let pod = PodState {
-                    pod: Stored::created(place, pod),
-                    phase: Phase::Idle,
-                };
-                self.pods.insert(key, pod)
+                put_pod(&mut self.pods, place, key, pod)
             }
         }
+    }
+
+    /// Takes the object of a kind and name away, if it is there. `AllocError` comes only if memory runs
+    /// out, which the change of a shared table may need, and then nothing changed.
+    pub fn remove(&mut self, alloc: Global, target: &Target) -> Result<(), AllocError>
+        ensures ok { OnOk result (self.new ≡ without_object target.now self.old) }
+        ensures err { OnErr result (self.new ≡ self.old) }
+    {
+        match target {
+            Target::Node(name) => self.inventory.change(alloc)?.remove_node(name),
+            Target::Slice(name) => self.inventory.change(alloc)?.remove_slice(name),
+            Target::Class(name) => {
+                self.classes.change(alloc)?.remove(name);
+            }
+            Target::Claim(key) => {
+                self.claims.remove(key);
+            }
+            Target::Pod(key) => {
+                self.pods.remove(key);
+            }
+        }
+        Ok(())
     }
 }
 
 impl State {
-    ghost use Rattle.std.specs.Prelude.{◌≡◌, ◌≤◌, OnOk, OnErr, length};
+    ghost use Rattle.std.specs.Prelude.{◌≡◌, OnOk, OnErr};
     ghost use Rattle.cluster.specs.Reserved.{with_reserved};
     ghost use Rattle.cluster.specs.Wrote.{with_written};
     ghost use Rattle.cluster.specs.Bound.{with_bound};
 
-    /// Makes the plan's grants, and takes the pod for a job.
+    /// Makes the plan's grants, makes the pod an assumed user of each claim that is granted or joined,
+    /// and takes the pod for a job. All memory is taken before the first change: `AllocError` comes only
+    /// if memory runs out, and then nothing changed.
     pub fn reserve(
         &mut self,
         alloc: Global,
@@ -182,18 +162,12 @@ impl State {
         pod: &Key,
         plan: &Plan,
     ) -> Result<(), AllocError>
-        requires { length plan.now.grants ≤ 1 }
         ensures ok { OnOk result (self.new ≡ with_reserved job pod.now plan.now self.old) }
         ensures err { OnErr result (self.new ≡ self.old) }
     {
         let node = plan.node.copy(alloc)?;
-        grant_all(
-            alloc,
-            &mut self.claims,
-            &plan.node,
-            pod,
-            plan.grants.as_slice(),
-        )?;
+        let uses = prepare(alloc, &self.claims, pod, plan)?;
+        place(&mut self.claims, uses);
         set_phase(&mut self.pods, pod, Phase::Taken { job, node });
         Ok(())
     }
@@ -243,48 +217,71 @@ fn set_phase(pods: &mut Table<Key, PodState>, pod: &Key, phase: Phase)
     }
 }
 
-/// Makes the grants to a pod, of which there is at most one.
-fn grant_all(
+/// Puts a claim at its key.
+fn put_claim(
     alloc: Global,
     claims: &mut Table<Key, ClaimState>,
-    node: &Text,
-    pod: &Key,
-    grants: &[Grant],
+    place: u64,
+    key: Key,
+    claim: Shared<ReadyClaim>,
 ) -> Result<(), AllocError>
-    requires { length grants.now ≤ 1 }
-    ensures ok { OnOk result (claims.new ≡ with_grants node.now pod.now grants.now claims.old) }
+    ensures ok { OnOk result (claims.new ≡ changed_or_new key (new_claim place claim) (updated_claim place claim) claims.old) }
     ensures err { OnErr result (claims.new ≡ claims.old) }
 {
-    match grants {
-        [] => Ok(()),
-        [grant, ..] => {
-            let node = node.copy(alloc)?;
-            let results = grant.results.copy(alloc)?;
-            let pod = pod.copy(alloc)?;
-            add_grant(claims, &grant.claim, node, results, pod)
-        }
+    if claims.contains_key(&key) {
+        update_claim(claims, place, &key, claim);
+        Ok(())
+    } else {
+        let claim = ClaimState {
+            claim: Stored::created(place, claim),
+            grant: None,
+            users: Table::new(alloc),
+        };
+        claims.insert(key, claim)
     }
 }
 
-/// Grants a claim to a pod, where it is there.
-#[tactic(auto, using(std::proofs::lemmas::Map::Steps::set_value_same))]
-fn add_grant(
+/// Updates a claim, where it is there.
+fn update_claim(
     claims: &mut Table<Key, ClaimState>,
-    claim: &Key,
-    node: Text,
-    results: Seq<DeviceResult>,
-    pod: Key,
-) -> Result<(), AllocError>
-    ensures ok { OnOk result (claims.new ≡ with_grant node pod claim.now results claims.old) }
-    ensures err { OnErr result (claims.new ≡ claims.old) }
+    place: u64,
+    key: &Key,
+    claim: Shared<ReadyClaim>,
+)
+    ensures { claims.new ≡ changed_at key.now (updated_claim place claim) claims.old }
 {
-    if let Some(state) = claims.get_mut(claim) {
-        state.users.insert(pod, Use::Assumed(state.claim.version))?;
-        state.grant = Some(Granted {
-            node,
-            results,
-            published: false,
-        });
+    if let Some(state) = claims.get_mut(key) {
+        state.claim.update(place, claim);
     }
-    Ok(())
+}
+
+/// Puts a pod at its key.
+fn put_pod(
+    pods: &mut Table<Key, PodState>,
+    place: u64,
+    key: Key,
+    pod: Shared<Pod>,
+) -> Result<(), AllocError>
+    ensures ok { OnOk result (pods.new ≡ changed_or_new key (new_pod place pod) (updated_pod place pod) pods.old) }
+    ensures err { OnErr result (pods.new ≡ pods.old) }
+{
+    if pods.contains_key(&key) {
+        update_pod(pods, place, &key, pod);
+        Ok(())
+    } else {
+        let pod = PodState {
+            pod: Stored::created(place, pod),
+            phase: Phase::Idle,
+        };
+        pods.insert(key, pod)
+    }
+}
+
+/// Updates a pod, where it is there.
+fn update_pod(pods: &mut Table<Key, PodState>, place: u64, key: &Key, pod: Shared<Pod>)
+    ensures { pods.new ≡ changed_at key.now (updated_pod place pod) pods.old }
+{
+    if let Some(state) = pods.get_mut(key) {
+        state.pod.update(place, pod);
+    }
 }

@@ -12,11 +12,14 @@ use Rattle.object_fields.specs.declared.key.Key.{Key}
 use Rattle.cluster.specs.declared.object.Object.{Object}
 use Rattle.commands.specs.Documents.{document_of, object_kinds, row_of, text_at}
 use Rattle.commands.specs.Objects.{ready_object}
+use Rattle.cluster.specs.declared.object.Target.{Target}
+use Rattle.cluster.specs.declared.object.Target.TheVariants as target
 use Rattle.commands.specs.declared.document.ObjectKind.{ObjectKind}
+use Rattle.commands.specs.declared.document.ObjectKind.TheVariants as kind
 use Rattle.commands.specs.declared.document.Document.{Document}
 use Rattle.commands.specs.declared.document.Document.TheVariants as is
 use Rattle.commands.specs.declared.command.Command.{Command}
-use Rattle.commands.specs.declared.command.Command.TheVariants.{Apply, Invalid, Schedule, NotBuilt}
+use Rattle.commands.specs.declared.command.Command.TheVariants.{Apply, Invalid, Delete, Schedule, NotBuilt}
 
 -- ---- namespace and name
 
@@ -36,11 +39,23 @@ key_of d =
 -- ---- whose fields read
 
 -- the kind of object that a Delete names
-abbrev pub target_of : Data → Option ObjectKind
-target_of d = option_and_then (λ name. row_of name object_kinds) (text_at (codes "target") d)
+abbrev pub kind_at : Data → Option ObjectKind
+kind_at d = option_and_then (λ name. row_of name object_kinds) (text_at (codes "target") d)
+
+-- the object of that kind and key; where objects of the kind have no namespace it isn't looked at
+abbrev pub target_by : ObjectKind → Key → Target
+target_by kind.ResourceSlice key = target.Slice key.name
+target_by kind.DeviceClass key = target.Class key.name
+target_by kind.ResourceClaim key = target.Claim key
+target_by kind.Node key = target.Node key.name
+target_by kind.Pod key = target.Pod key
+
+-- the object that a Delete names
+abbrev pub target_of : Data → Option Target
+target_of d = option_and_then (λ k. option_map (target_by k) (key_of d)) (kind_at d)
 
 abbrev pub is_delete : Data → Bool
-is_delete d = is_some (target_of d) && is_some (key_of d)
+is_delete d = is_some (kind_at d) && is_some (key_of d)
 
 -- each of the items passes the test
 abbrev pub each : (Data → Bool) → Items → Bool
@@ -118,6 +133,9 @@ apply_each (item d ds) = before (apply_in d (document_of d)) (apply_each ds)
 abbrev pub listed : Data → Option (List Command)
 listed d = option_and_then apply_each (list_at (codes "items") d)
 
+abbrev pub delete_of : Data → Option Command
+delete_of d = option_map Delete (target_of d)
+
 abbrev pub schedule_of : Data → Option Command
 schedule_of d = option_map Schedule (key_of d)
 
@@ -132,7 +150,7 @@ alone c = option_map (λ only. only ∷ []) c
 abbrev pub commands_in : Data → Document → Option (List Command)
 commands_in d (is.Object kind) = alone (Some (apply_of kind d))
 commands_in d is.List = listed d
-commands_in d is.Delete = alone (not_built (is_delete d))
+commands_in d is.Delete = alone (delete_of d)
 commands_in d is.Schedule = alone (schedule_of d)
 commands_in d is.Release = alone (not_built (is_some (key_of d)))
 commands_in d is.Prepare = alone (not_built (is_some (key_of d)))

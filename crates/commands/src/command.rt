@@ -4,9 +4,9 @@ ghost use Rattle.commands.specs.Commands as spec;
 ghost use Rattle.commands.specs.Documents as documents;
 
 use crate::document::{Document, ObjectKind, document_of};
-use crate::fields::{has_key, is_delete, is_together, read_key};
+use crate::fields::{has_key, is_together, read_key, read_target};
 use crate::objects::read_ready;
-use cluster::Ready;
+use cluster::{Ready, Target};
 use dra_values::Seq;
 use object_fields::{FieldError, Key, Kind};
 use serde_json::Value;
@@ -16,10 +16,12 @@ use std::str;
 /// What a document asks for.
 #[derive(Drop)]
 pub enum Command {
-    /// Creates the object. The change of one that is there already is not built yet.
+    /// Updates an object where one of its kind and name is there, and else creates it.
     Apply(Ready),
     /// Applies an object whose fields, or else whose selectors, have this first error.
     Invalid(FieldError),
+    /// Takes an object away.
+    Delete(Target),
     /// Schedules the pod of that key.
     Schedule(Key),
     /// A command of a form that this program doesn't do yet.
@@ -87,7 +89,7 @@ fn commands_by(
         Document::Object(kind) => alone(alloc, Some(apply(alloc, kind, value)?)),
         Document::List => list(alloc, value),
         Document::Schedule => alone(alloc, schedule(alloc, value)?),
-        Document::Delete => alone(alloc, not_built(is_delete(value))),
+        Document::Delete => alone(alloc, delete(alloc, value)?),
         Document::Release | Document::Prepare | Document::Unprepare => {
             alone(alloc, not_built(has_key(value)))
         }
@@ -153,6 +155,15 @@ fn apply(alloc: Global, kind: ObjectKind, value: &Value) -> Result<Command, Allo
                 Ok(Command::Invalid(error))
             }
         }
+    }
+}
+
+fn delete(alloc: Global, value: &Value) -> Result<Option<Command>, AllocError>
+    ensures { IfOk result (λ c. c ≡ spec.delete_of (view value.now)) }
+{
+    match read_target(alloc, value)? {
+        Some(target) => Ok(Some(Command::Delete(target))),
+        None => Ok(None),
     }
 }
 

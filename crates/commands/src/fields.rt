@@ -2,7 +2,8 @@ ghost use Rattle.std.specs.Prelude.{◌≡◌, IfOk, is_some, option_map};
 ghost use Rattle.serde_json.specs.View.{items_view, view};
 ghost use Rattle.commands.specs.Commands as spec;
 
-use crate::document::{Document, document_of, object_kind, text_at};
+use crate::document::{Document, ObjectKind, document_of, object_kind, text_at};
+use cluster::Target;
 use dra_values::Text;
 use object_fields::{Key, member};
 use serde_json::Value;
@@ -42,19 +43,46 @@ pub fn has_key(value: &Value) -> bool
     namespace(value).is_some() && text_at(value, "name").is_some()
 }
 
-/// Whether the fields of a Delete read: a `target` that names a kind, and the key.
-pub fn is_delete(value: &Value) -> bool
-    ensures { result ≡ spec.is_delete (view value.now) }
+/// The object that a Delete's `target`, `namespace` and `name` give, None where one of them doesn't
+/// read.
+pub fn read_target(alloc: Global, value: &Value) -> Result<Option<Target>, AllocError>
+    ensures { IfOk result (λ target. target ≡ spec.target_of (view value.now)) }
 {
-    has_target(value) && has_key(value)
+    let Some(kind) = target_kind(value) else {
+        return Ok(None);
+    };
+    match read_key(alloc, value)? {
+        Some(key) => Ok(Some(target_of(kind, key))),
+        None => Ok(None),
+    }
 }
 
-fn has_target(value: &Value) -> bool
-    ensures { result ≡ is_some (spec.target_of (view value.now)) }
+fn target_of(kind: ObjectKind, key: Key) -> Target
+    ensures { result ≡ spec.target_by kind key }
+{
+    match kind {
+        ObjectKind::ResourceSlice => Target::Slice(key.name),
+        ObjectKind::DeviceClass => Target::Class(key.name),
+        ObjectKind::ResourceClaim => Target::Claim(key),
+        ObjectKind::Node => Target::Node(key.name),
+        ObjectKind::Pod => Target::Pod(key),
+    }
+}
+
+/// Whether the fields of a Delete read: a `target` that names a kind, and the key.
+fn is_delete(value: &Value) -> bool
+    ensures { result ≡ spec.is_delete (view value.now) }
+{
+    target_kind(value).is_some() && has_key(value)
+}
+
+/// The kind of object that a Delete names.
+fn target_kind(value: &Value) -> Option<ObjectKind>
+    ensures { result ≡ spec.kind_at (view value.now) }
 {
     match text_at(value, "target") {
-        Some(name) => object_kind(name).is_some(),
-        None => false,
+        Some(name) => object_kind(name),
+        None => None,
     }
 }
 

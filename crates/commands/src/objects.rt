@@ -1,3 +1,4 @@
+ghost use Rattle.std.specs.Prelude.{Ok};
 ghost use Rattle.serde_json.specs.View.{view};
 ghost use Rattle.object_fields.specs.Fields.{Reads};
 ghost use Rattle.commands.specs.Objects as spec;
@@ -7,7 +8,8 @@ use api_claim::ResourceClaim;
 use api_cluster::{DeviceClass, Node, Pod};
 use api_slice::ResourceSlice;
 use cluster::{Object, Ready};
-use object_fields::FieldError;
+use dra_values::Shared;
+use object_fields::{FieldError, or_memory};
 use serde_json::Value;
 use std::alloc::Global;
 
@@ -24,10 +26,23 @@ fn read_object(alloc: Global, kind: ObjectKind, value: &Value) -> Result<Object,
     ensures { Reads result (spec.object_of kind (view value.now)) }
 {
     match kind {
-        ObjectKind::ResourceSlice => Ok(Object::Slice(ResourceSlice::read(alloc, value)?)),
-        ObjectKind::DeviceClass => Ok(Object::Class(DeviceClass::read(alloc, value)?)),
-        ObjectKind::ResourceClaim => Ok(Object::Claim(ResourceClaim::read(alloc, value)?)),
-        ObjectKind::Node => Ok(Object::Node(Node::read(alloc, value)?)),
-        ObjectKind::Pod => Ok(Object::Pod(Pod::read(alloc, value)?)),
+        ObjectKind::ResourceSlice => {
+            Ok(Object::Slice(shared(alloc, ResourceSlice::read(alloc, value)?)?))
+        }
+        ObjectKind::DeviceClass => {
+            Ok(Object::Class(shared(alloc, DeviceClass::read(alloc, value)?)?))
+        }
+        ObjectKind::ResourceClaim => {
+            Ok(Object::Claim(shared(alloc, ResourceClaim::read(alloc, value)?)?))
+        }
+        ObjectKind::Node => Ok(Object::Node(shared(alloc, Node::read(alloc, value)?)?)),
+        ObjectKind::Pod => Ok(Object::Pod(shared(alloc, Pod::read(alloc, value)?)?)),
     }
+}
+
+/// The value with one owner, or Memory.
+fn shared<T: Drop>(alloc: Global, value: T) -> Result<Shared<T>, FieldError>
+    ensures { Reads result (Ok value) }
+{
+    or_memory(alloc, Shared::new(alloc, value))
 }

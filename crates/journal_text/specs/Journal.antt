@@ -6,6 +6,8 @@ use Rattle.object_fields.specs.Keys.{key_text, device_text}
 use Rattle.object_fields.specs.Words.{kind_word, path_text}
 use Rattle.cluster.specs.declared.object.Object.{Object}
 use Rattle.cluster.specs.declared.object.Object.TheVariants as object
+use Rattle.cluster.specs.declared.object.Target.{Target}
+use Rattle.cluster.specs.declared.object.Target.TheVariants as target
 use Rattle.cluster.specs.declared.plan.Cause.{Cause}
 use Rattle.cluster.specs.declared.plan.Cause.TheVariants.{Unsat, Fault}
 use Rattle.cluster.specs.declared.plan.SelectorFault.{SelectorFault}
@@ -24,12 +26,12 @@ use Rattle.cluster.specs.declared.state.State.{State}
 use Rattle.cluster.specs.declared.state.Phase.{Phase}
 use Rattle.cluster.specs.declared.state.Phase.TheVariants as phase
 use Rattle.cluster.specs.declared.entry.Command.{Command}
-use Rattle.cluster.specs.declared.entry.Command.TheVariants.{Create, Invalid}
+use Rattle.cluster.specs.declared.entry.Command.TheVariants.{Apply, Delete, Invalid}
 use Rattle.cluster.specs.declared.entry.Refusal.{Refusal}
 use Rattle.cluster.specs.declared.entry.Refusal.TheVariants as refusal
 use Rattle.cluster.specs.declared.entry.Entry.{Entry}
 use Rattle.cluster.specs.declared.entry.Event.{Event}
-use Rattle.cluster.specs.declared.entry.Event.TheVariants.{Applied, Reserved, Wrote, Bound, Judged, Denied}
+use Rattle.cluster.specs.declared.entry.Event.TheVariants.{Applied, Deleted, Reserved, Wrote, Bound, Judged, Denied}
 use Rattle.cluster.specs.History.{state_of}
 
 -- an object's kind and name
@@ -39,6 +41,14 @@ object_text (object.Slice x) = codes "ResourceSlice " ++ x.name
 object_text (object.Class x) = codes "DeviceClass " ++ x.name
 object_text (object.Claim x) = codes "ResourceClaim " ++ key_text x.key
 object_text (object.Pod x) = codes "Pod " ++ key_text x.key
+
+-- the kind and the name of an object
+abbrev pub target_text : Target → List ℕ
+target_text (target.Node name) = codes "Node " ++ name
+target_text (target.Slice name) = codes "ResourceSlice " ++ name
+target_text (target.Class name) = codes "DeviceClass " ++ name
+target_text (target.Claim key) = codes "ResourceClaim " ++ key_text key
+target_text (target.Pod key) = codes "Pod " ++ key_text key
 
 -- a list: what its items say, joined by `,`, and `-` where there are none
 abbrev pub listed : {T : Type 0} → (T → List ℕ) → List T → List ℕ
@@ -103,21 +113,27 @@ verdict_text pod verdict =
     codes "verdict " ++ key_text pod ++ codes " " ++ verdict_word verdict ++ codes " at=" ++ decimal verdict.at
     ++ codes " nodes=" ++ listed passed_text verdict.nodes
 
--- a refusal to create an object: its word and the object, or of too many devices how many all slices
--- may have
-abbrev pub creation_text : Object → Refusal → List ℕ
-creation_text object refusal.Invalid = codes "denied Invalid " ++ object_text object
-creation_text object refusal.Exists = codes "denied Exists " ++ object_text object
-creation_text object refusal.Devices = codes "denied Devices " ++ decimal devices_most
+-- a refusal of a command on the object of this kind and name: its word and the object, of a conflict both versions,
+-- and of too many devices how many all slices may have
+abbrev pub refusal_text : List ℕ → Refusal → List ℕ
+refusal_text name refusal.Invalid = codes "denied Invalid " ++ name
+refusal_text name refusal.NotFound = codes "denied NotFound " ++ name
+refusal_text name refusal.Exists = codes "denied Exists " ++ name
+refusal_text name (refusal.Conflict had now) = codes "denied Conflict had=" ++ decimal had ++ codes " now=" ++ decimal now
+refusal_text name refusal.Immutable = codes "denied Immutable " ++ name
+refusal_text name refusal.InUse = codes "denied InUse " ++ name
+refusal_text name refusal.Devices = codes "denied Devices " ++ decimal devices_most
 
 -- a refusal; of a document with an error the word of the error and its path
 abbrev pub denial_text : Command → Refusal → List ℕ
 denial_text (Invalid error) refused = codes "denied Invalid " ++ kind_word error.kind ++ codes " " ++ path_text error.path
-denial_text (Create object) refused = creation_text object refused
+denial_text (Apply object mode) refused = refusal_text (object_text object) refused
+denial_text (Delete target) refused = refusal_text (target_text target) refused
 
 -- what a line says after its place and job
 abbrev pub event_text : Event → List ℕ
-event_text (Applied object) = codes "applied " ++ object_text object
+event_text (Applied object mode) = codes "applied " ++ object_text object
+event_text (Deleted target) = codes "deleted " ++ target_text target
 event_text (Reserved pod plan) = reserved_text pod plan
 event_text (Wrote pod claim seen) = codes "wrote " ++ key_text pod ++ codes " " ++ key_text claim ++ codes " seen=" ++ decimal seen
 event_text (Bound pod node) = codes "bound " ++ key_text pod ++ codes " " ++ node

@@ -1,9 +1,9 @@
 ghost use Rattle.std.specs.Prelude.{◌≡◌, IfOk, string_bytes};
-ghost use Rattle.journal_text.specs.Journal.{creation_text, denial_text, event_text, object_text, reserved_text, verdict_text, verdict_word};
+ghost use Rattle.journal_text.specs.Journal.{denial_text, event_text, object_text, refusal_text, reserved_text, target_text, verdict_text, verdict_word};
 ghost use Rattle.cluster.specs.Judged.{has_fault, is_fault};
 
 use crate::worded::listed;
-use cluster::{Cause, Command, Event, Object, Plan, Refusal, Verdict};
+use cluster::{Cause, Command, Event, Object, Plan, Refusal, Target, Verdict};
 use object_fields::Key;
 use pool_view::MOST_DEVICES;
 use std::alloc::{AllocError, Global};
@@ -18,6 +18,19 @@ fn object_text(alloc: Global, object: &Object) -> Result<String, AllocError>
         Object::Class(class) => format!(in alloc; "DeviceClass {}", class.name),
         Object::Claim(claim) => format!(in alloc; "ResourceClaim {}", claim.key),
         Object::Pod(pod) => format!(in alloc; "Pod {}", pod.key),
+    }
+}
+
+/// The kind and the name of an object.
+fn target_text(alloc: Global, target: &Target) -> Result<String, AllocError>
+    ensures { IfOk result (λ s. string_bytes s ≡ target_text target.now) }
+{
+    match target {
+        Target::Node(name) => format!(in alloc; "Node {name}"),
+        Target::Slice(name) => format!(in alloc; "ResourceSlice {name}"),
+        Target::Class(name) => format!(in alloc; "DeviceClass {name}"),
+        Target::Claim(key) => format!(in alloc; "ResourceClaim {key}"),
+        Target::Pod(key) => format!(in alloc; "Pod {key}"),
     }
 }
 
@@ -68,14 +81,17 @@ fn is_fault(cause: &Cause) -> bool
     }
 }
 
-/// A refusal to create an object.
-fn creation_text(alloc: Global, object: &Object, refusal: Refusal) -> Result<String, AllocError>
-    ensures { IfOk result (λ s. string_bytes s ≡ creation_text object.now refusal) }
+/// A refusal of a command on the object of this kind and name.
+fn refusal_text(alloc: Global, name: &String, refusal: Refusal) -> Result<String, AllocError>
+    ensures { IfOk result (λ s. string_bytes s ≡ refusal_text (string_bytes name.now) refusal) }
 {
-    let name = object_text(alloc, object)?;
     match refusal {
         Refusal::Invalid => format!(in alloc; "denied Invalid {name}"),
+        Refusal::NotFound => format!(in alloc; "denied NotFound {name}"),
         Refusal::Exists => format!(in alloc; "denied Exists {name}"),
+        Refusal::Conflict { had, now } => format!(in alloc; "denied Conflict had={had} now={now}"),
+        Refusal::Immutable => format!(in alloc; "denied Immutable {name}"),
+        Refusal::InUse => format!(in alloc; "denied InUse {name}"),
         Refusal::Devices => format!(in alloc; "denied Devices {MOST_DEVICES}"),
     }
 }
@@ -87,7 +103,14 @@ fn denial_text(alloc: Global, command: &Command, refusal: Refusal) -> Result<Str
         Command::Invalid(error) => {
             format!(in alloc; "denied Invalid {} {}", error.kind, error.path)
         }
-        Command::Create(object) => creation_text(alloc, object, refusal),
+        Command::Apply { object, .. } => {
+            let name = object_text(alloc, object)?;
+            refusal_text(alloc, &name, refusal)
+        }
+        Command::Delete(target) => {
+            let name = target_text(alloc, target)?;
+            refusal_text(alloc, &name, refusal)
+        }
     }
 }
 
@@ -96,9 +119,13 @@ pub fn event_text(alloc: Global, event: &Event) -> Result<String, AllocError>
     ensures { IfOk result (λ s. string_bytes s ≡ event_text event.now) }
 {
     match event {
-        Event::Applied(object) => {
+        Event::Applied { object, .. } => {
             let object = object_text(alloc, object)?;
             format!(in alloc; "applied {object}")
+        }
+        Event::Deleted(target) => {
+            let target = target_text(alloc, target)?;
+            format!(in alloc; "deleted {target}")
         }
         Event::Reserved { pod, plan } => reserved_text(alloc, pod, plan),
         Event::Wrote { pod, claim, seen } => {

@@ -25,7 +25,7 @@ use Rattle.cluster.specs.declared.plan.Grant.{Grant}
 use Rattle.cluster.specs.declared.plan.Plan.{Plan}
 use Rattle.pool_view.specs.Names.{text_cmp, key_cmp, at_key}
 use Rattle.cluster.specs.Tables.{changed_at, with_phase}
-use Rattle.cluster.specs.Reserved.{with_grants, with_reserved}
+use Rattle.cluster.specs.Reserved.{with_grants, with_joins, with_reserved}
 use Rattle.cluster.specs.Wrote.{with_written, written_by}
 use Rattle.pool_view.specs.Pools.{devices_on}
 use Rattle.cluster.specs.Claims.{claim_keys, first_places}
@@ -101,14 +101,15 @@ taken_after s pod plan job p there = record { there = changed_there pod (λ q. r
 
 -- a pod with one claim
 one_goes_on : (s : State) (pod : Key) (plan : Plan) (job : ℕ) (p : PodState) (k : Key) (c : ClaimState) (results : List DeviceResult) → at_key s.pods pod ≡ Some p
-    → claim_keys p.pod.object ≡ k ∷ [] → at_key s.claims k ≡ Some c → plan.grants ≡ record { claim = k; results = results } ∷ []
+    → claim_keys p.pod.object ≡ k ∷ [] → at_key s.claims k ≡ Some c → plan.grants ≡ record { claim = k; results = results } ∷ [] → plan.joins ≡ []
     → GoesOn (with_reserved job pod plan s) pod job plan.node (k ∷ [])
-one_goes_on s pod plan job p k c results there keys claim grants =
+one_goes_on s pod plan job p k c results there keys claim grants joins =
     let s1 : State = with_reserved job pod plan s in
     let p1 : PodState = record p { phase = Taken job plan.node } in
     let c1 : ClaimState = granted plan.node pod results c in
     let taken : IsTaken s1 pod job plan.node p1 = taken_after s pod plan job p there in
-    let at1 : at_key s1.claims k ≡ Some c1 = ap (λ gs. at_key (with_grants plan.node pod gs s.claims) k) grants ∙ changed_there k (granted plan.node pod results) s.claims c claim in
+    let at1 : at_key s1.claims k ≡ Some c1 =
+    ap (λ ks. at_key (with_joins pod ks (with_grants plan.node pod plan.grants s.claims)) k) joins ∙ ap (λ gs. at_key (with_grants plan.node pod gs s.claims) k) grants ∙ changed_there k (granted plan.node pod results) s.claims c claim in
     let user : at_key c1.users pod ≡ Some (Assumed c.claim.version) = insert_there key_cmp c.users pod (Assumed c.claim.version) (key_same pod) in
     let used : use_in pod (at_key s1.claims k) ≡ Some (Assumed c.claim.version) = ap (use_in pod) at1 ∙ user in
     let unwritten : has_written s1 pod k ≡ false = ap is_written used in
@@ -133,13 +134,13 @@ built_claim None e = absurd (cc)
 built_claim (Some c) e = (c, refl, none_by c.grant (and_parts (is_none c.grant) _ e).0)
 
 goes_on_by : (s : State) (pod : Key) (plan : Plan) (job : ℕ) (p : PodState) (ds : List DeviceId) (keys : List Key) → at_key s.pods pod ≡ Some p → claim_keys p.pod.object ≡ keys
-    → claims_built s keys ≡ true → plan.grants ≡ grants_for (wanted_of s (first_places [] keys)) ds → GoesOn (with_reserved job pod plan s) pod job plan.node (first_places [] keys)
-goes_on_by s pod plan job p ds [] there keys built grants =
+    → claims_built s keys ≡ true → plan.grants ≡ grants_for (wanted_of s (first_places [] keys)) ds → plan.joins ≡ [] → GoesOn (with_reserved job pod plan s) pod job plan.node (first_places [] keys)
+goes_on_by s pod plan job p ds [] there keys built grants joins =
     bind_next (with_reserved job pod plan s) pod job plan.node (record p { phase = Taken job plan.node }) [] (taken_after s pod plan job p there) keys refl
-goes_on_by s pod plan job p ds (k ∷ []) there keys built grants =
+goes_on_by s pod plan job p ds (k ∷ []) there keys built grants joins =
     let b = built_claim (at_key s.claims k) built in
-    one_goes_on s pod plan job p k b.0 (results_for b.0.claim.object.requests ds) there keys b.1 (grants ∙ ap (λ cs. grants_for cs ds) (one_wanted s k b.0 b.1 b.2))
-goes_on_by s pod plan job p ds (k ∷ l ∷ ks) there keys built grants = absurd (cc)
+    one_goes_on s pod plan job p k b.0 (results_for b.0.claim.object.requests ds) there keys b.1 (grants ∙ ap (λ cs. grants_for cs ds) (one_wanted s k b.0 b.1 b.2)) joins
+goes_on_by s pod plan job p ds (k ∷ l ∷ ks) there keys built grants joins = absurd (cc)
 
 pub goes_on : (s : State) (pod : Key) (plan : Plan) (job : ℕ) (t : PlanTrue s pod plan) → GoesOn (with_reserved job pod plan s) pod job plan.node (claims_of t.state)
 unfolding schedule_built wanted
@@ -147,4 +148,4 @@ goes_on s pod plan job t =
     let p = t.state in
     let built : pod_built s (Some p) ≡ true = sym (ap (pod_built s) t.idle.there) ∙ t.built in
     goes_on_by s pod plan job p (ids_of (devices_picked (devices_on s.inventory plan.node) t.item.positions)) (claim_keys p.pod.object) t.idle.there refl
-    (and_parts (is_idle p.phase) (claims_built s (claim_keys p.pod.object)) built).1 t.grants
+    (and_parts (is_idle p.phase) (claims_built s (claim_keys p.pod.object)) built).1 t.grants t.joins

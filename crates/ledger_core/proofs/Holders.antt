@@ -3,33 +3,36 @@ use Rattle.std.proofs.Common.{ℕ, ◌+◌, List, [], ◌∷◌, ◌++◌, lengt
 use Rattle.std.proofs.lemmas.List.{take-append-drop}
 use Rattle.object_fields.specs.declared.key.Key.{Key}
 use Rattle.cluster.specs.declared.object.Object.{Object}
+use Rattle.cluster.specs.declared.object.Target.{Target}
 use Rattle.cluster.specs.declared.plan.Plan.{Plan}
 use Rattle.cluster.specs.declared.state.State.{State}
-use Rattle.cluster.specs.State.{empty_state, IsAbsent}
+use Rattle.cluster.specs.State.{empty_state}
 use Rattle.cluster.specs.Bound.{with_bound}
 use Rattle.cluster.specs.Applied.{with_object}
+use Rattle.cluster.specs.Deleted.{without_object}
 use Rattle.cluster.specs.Reserved.{with_reserved}
 use Rattle.cluster.specs.Wrote.{with_written}
 use Rattle.alloc_rules.specs.Plans.{Holds}
 use Rattle.cluster.specs.Held.{HeldOnce}
 use Rattle.cluster.specs.declared.entry.Entry.{Entry}
 use Rattle.cluster.specs.declared.entry.Event.{Event}
-use Rattle.cluster.specs.declared.entry.Event.TheVariants.{Applied, Reserved, Wrote, Bound, Judged, Denied}
+use Rattle.cluster.specs.declared.entry.Event.TheVariants.{Applied, Deleted, Reserved, Wrote, Bound, Judged, Denied}
 use Rattle.cluster.specs.Events.{after}
 use Rattle.cluster.specs.History.{state_of, state_at}
 use Rattle.ledger_core.specs.Legal.{LegalAfter, Legal, MayStand}
 use Rattle.ledger_core.proofs.Histories.{state_of-empty, state_of-more}
-use Rattle.ledger_core.proofs.Creating.{absent_of}
 use Rattle.ledger_core.proofs.Headlines.{front_legal}
 
 module _ (empty : HeldOnce empty_state)
-    (created : (place : ℕ) (object : Object) (s : State) → IsAbsent s object → HeldOnce s → HeldOnce (with_object place object s))
+    (created : (place : ℕ) (object : Object) (s : State) → HeldOnce s → HeldOnce (with_object place object s))
+    (deleted : (target : Target) (s : State) → HeldOnce s → HeldOnce (without_object target s))
     (reserved : (s : State) (job : ℕ) (pod : Key) (plan : Plan) → Holds s pod plan → HeldOnce s → HeldOnce (with_reserved job pod plan s))
     (written : (place : ℕ) (pod claim : Key) (s : State) → HeldOnce s → HeldOnce (with_written place pod claim s))
     (bound : (pod : Key) (node : List ℕ) (s : State) → HeldOnce s → HeldOnce (with_bound pod node s)) where
   -- an entry that may stand keeps it
   once_after : (before : List Entry) (place job : ℕ) (event : Event) → MayStand before job event → HeldOnce (state_of before) → HeldOnce (after place job event (state_of before))
-  once_after before place job (Applied object) may h = created place object (state_of before) (absent_of (state_of before) object may.unrefused) h
+  once_after before place job (Applied object mode) may h = created place object (state_of before) h
+  once_after before place job (Deleted target) may h = deleted target (state_of before) h
   once_after before place job (Reserved pod plan) may h = reserved (state_of before) job pod plan may.holds_now h
   once_after before place job (Wrote pod claim seen) may h = written place pod claim (state_of before) h
   once_after before place job (Bound pod node) may h = bound pod node (state_of before) h

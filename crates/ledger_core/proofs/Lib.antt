@@ -3,7 +3,7 @@ pub mod Rows
 pub mod Standing
 pub mod Keeping
 pub mod GoingOn
-pub mod Creating
+pub mod Applying
 pub mod Headlines
 pub mod Holders
 pub mod Limits

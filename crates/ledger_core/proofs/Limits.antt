@@ -1,6 +1,6 @@
 -- Each object keeps its limits in each state of a legal history.
 use Rattle.std.proofs.Common.{ℕ, ◌+◌, ◌≡◌, ◌∙◌, List, [], ◌∷◌, ◌++◌, Bool, true, false, cond, Option, None, Some, length, refl, sym, ap, subst, append_assoc, append-nil, take, drop}
-use Rattle.std.specs.Map.{lookup, set_value}
+use Rattle.std.specs.Map.{lookup, remove_entry, set_value}
 use Rattle.std.specs.Option.{option_map_or}
 use Rattle.std.specs.Ordering.{match_ordering}
 use Rattle.std.specs.BTreeMap.{insert_entry, is_at}
@@ -13,19 +13,24 @@ use Rattle.api_cluster.specs.Limits.{NodeKept, ClassKept, PodKept}
 use Rattle.api_slice.specs.Limits.{IsWithinLimits}
 use Rattle.cluster.specs.declared.object.Object.{Object}
 use Rattle.cluster.specs.declared.object.Object.TheVariants as object
+use Rattle.cluster.specs.declared.object.Target.{Target}
+use Rattle.cluster.specs.declared.object.Target.TheVariants as target
 use Rattle.cluster.specs.declared.plan.Grant.{Grant}
 use Rattle.cluster.specs.declared.state.ClaimState.{ClaimState}
 use Rattle.cluster.specs.declared.state.PodState.{PodState}
 use Rattle.cluster.specs.declared.state.State.{State}
 use Rattle.cluster.specs.Limits.{ObjectKept}
-use Rattle.pool_view.specs.Names.{at_key, key_cmp, text_cmp}
-use Rattle.cluster.specs.Tables.{changed_at}
+use Rattle.pool_view.specs.Inventory.{Named, put_by}
+use Rattle.pool_view.specs.Names.{at_key, at_name, key_cmp, text_cmp}
+use Rattle.pool_view.specs.declared.stored.Stored.{Stored}
+use Rattle.cluster.specs.Tables.{changed_at, put_at}
 use Rattle.cluster.specs.State.{empty_state}
-use Rattle.cluster.specs.Reserved.{with_grant, with_grants}
+use Rattle.cluster.specs.Reserved.{joined_by, with_grant, with_grants, with_joins}
 use Rattle.cluster.specs.Applied.{with_object}
+use Rattle.cluster.specs.Deleted.{without_object}
 use Rattle.cluster.specs.declared.entry.Entry.{Entry}
 use Rattle.cluster.specs.declared.entry.Event.{Event}
-use Rattle.cluster.specs.declared.entry.Event.TheVariants.{Applied, Reserved, Wrote, Bound, Judged, Denied}
+use Rattle.cluster.specs.declared.entry.Event.TheVariants.{Applied, Deleted, Reserved, Wrote, Bound, Judged, Denied}
 use Rattle.cluster.specs.Events.{after}
 use Rattle.cluster.specs.History.{state_of, state_at}
 use Rattle.ledger_core.specs.Legal.{LegalAfter, Legal, MayStand}
@@ -57,6 +62,10 @@ set_kept P test [] v h p = h
 set_kept P test (e ∷ es) v h p =
     by_test (Each P) (test e.0) ((e.0, v) ∷ es) (e ∷ set_value test es v) (p, h.1) (h.0, set_kept P test es v h.1 p)
 
+removed : {K V : Type 0} (P : V → Type 0) (test : K → Bool) (es : List (K × V)) → Each P es → Each P (remove_entry test es)
+removed P test [] h = h
+removed P test (e ∷ es) h = by_test (Each P) (test e.0) es (e ∷ remove_entry test es) h.1 (h.0, removed P test es h.1)
+
 some_same : {V : Type 0} (v w : V) → Some v ≡ Some w → v ≡ w
 some_same v w h = cc
 
@@ -76,6 +85,14 @@ changed_by P key f table (Some v) is h step =
 changed : {V : Type 0} (P : V → Type 0) (key : Key) (f : V → V) (table : List (Key × V)) → Each P table → ((v : V) → P v → P (f v)) → Each P (changed_at key f table)
 changed P key f table h step = changed_by P key f table (at_key table key) refl h step
 
+named_by : {T : Type 0} (P : T → Type 0) (place : ℕ) (name : List ℕ) (x : T) (table : Named T) (o : Option (Stored T)) → EachOf (λ e. P e.1.object) table → P x → EachOf (λ e. P e.1.object) (put_by place name x table o)
+named_by P place name x table None h k = inserted (λ n. P n.object) text_cmp table name _ h k
+named_by P place name x table (Some old) h k = set_kept (λ n. P n.object) (is_at (text_cmp name)) table _ h k
+
+put_kept : {V : Type 0} (P : V → Type 0) (key : Key) (new : V) (f : V → V) (table : List (Key × V)) (o : Option V) → at_key table key ≡ o → Each P table → P new → ((v : V) → P v → P (f v)) → Each P (put_at key new f table o)
+put_kept P key new f table None is h p step = inserted P key_cmp table key new h p
+put_kept P key new f table (Some v) is h p step = set_kept P (is_at (key_cmp key)) table (f v) h (step v (found P (is_at (key_cmp key)) table v h is))
+
 -- ---- each change of a state
 
 abbrev ClaimFits : ClaimState → Type 0
@@ -89,23 +106,40 @@ granted node pod [] claims h = h
 granted node pod (g ∷ gs) claims h =
     granted node pod gs (with_grant node pod g.claim g.results claims) (changed ClaimFits g.claim _ claims h (λ c k. k))
 
+joined : (pod : Key) (ks : List Key) (claims : List (Key × ClaimState)) → Each ClaimFits claims → Each ClaimFits (with_joins pod ks claims)
+joined pod [] claims h = h
+joined pod (k ∷ ks) claims h = joined pod ks (changed_at k (joined_by pod) claims) (changed ClaimFits k _ claims h (λ c l. l))
+
 created : (place : ℕ) (x : Object) (s : State) → ObjectKept x → ObjectsKept s → ObjectsKept (with_object place x s)
 created place (object.Node x) s k h =
-    record { nodes = inserted (λ n. NodeKept n.object) text_cmp s.inventory.nodes x.name _ h.nodes k; slices = h.slices; classes = h.classes; claims = h.claims; pods = h.pods }
+    record { nodes = named_by NodeKept place x.name x s.inventory.nodes (at_name s.inventory.nodes x.name) h.nodes k; slices = h.slices; classes = h.classes; claims = h.claims; pods = h.pods }
 created place (object.Slice x) s k h =
-    record { nodes = h.nodes; slices = inserted (λ n. IsWithinLimits n.object) text_cmp s.inventory.slices x.name _ h.slices k; classes = h.classes; claims = h.claims; pods = h.pods }
+    record { nodes = h.nodes; slices = named_by IsWithinLimits place x.name x s.inventory.slices (at_name s.inventory.slices x.name) h.slices k; classes = h.classes; claims = h.claims; pods = h.pods }
 created place (object.Class x) s k h =
-    record { nodes = h.nodes; slices = h.slices; classes = inserted (λ n. ClassKept n.object) text_cmp s.classes x.name _ h.classes k; claims = h.claims; pods = h.pods }
+    record { nodes = h.nodes; slices = h.slices; classes = named_by ClassKept place x.name x s.classes (at_name s.classes x.name) h.classes k; claims = h.claims; pods = h.pods }
 created place (object.Claim x) s k h =
-    record { nodes = h.nodes; slices = h.slices; classes = h.classes; claims = inserted ClaimFits key_cmp s.claims x.key _ h.claims k; pods = h.pods }
+    record { nodes = h.nodes; slices = h.slices; classes = h.classes; claims = put_kept ClaimFits x.key _ _ s.claims (at_key s.claims x.key) refl h.claims k (λ c l. k); pods = h.pods }
 created place (object.Pod x) s k h =
-    record { nodes = h.nodes; slices = h.slices; classes = h.classes; claims = h.claims; pods = inserted PodFits key_cmp s.pods x.key _ h.pods k }
+    record { nodes = h.nodes; slices = h.slices; classes = h.classes; claims = h.claims; pods = put_kept PodFits x.key _ _ s.pods (at_key s.pods x.key) refl h.pods k (λ p l. k) }
+
+deleted : (t : Target) (s : State) → ObjectsKept s → ObjectsKept (without_object t s)
+deleted (target.Node name) s h =
+    record { nodes = removed (λ n. NodeKept n.object) (is_at (text_cmp name)) s.inventory.nodes h.nodes; slices = h.slices; classes = h.classes; claims = h.claims; pods = h.pods }
+deleted (target.Slice name) s h =
+    record { nodes = h.nodes; slices = removed (λ n. IsWithinLimits n.object) (is_at (text_cmp name)) s.inventory.slices h.slices; classes = h.classes; claims = h.claims; pods = h.pods }
+deleted (target.Class name) s h =
+    record { nodes = h.nodes; slices = h.slices; classes = removed (λ n. ClassKept n.object) (is_at (text_cmp name)) s.classes h.classes; claims = h.claims; pods = h.pods }
+deleted (target.Claim key) s h =
+    record { nodes = h.nodes; slices = h.slices; classes = h.classes; claims = removed ClaimFits (is_at (key_cmp key)) s.claims h.claims; pods = h.pods }
+deleted (target.Pod key) s h =
+    record { nodes = h.nodes; slices = h.slices; classes = h.classes; claims = h.claims; pods = removed PodFits (is_at (key_cmp key)) s.pods h.pods }
 
 -- an entry that may stand keeps them
 kept_after : (before : List Entry) (place job : ℕ) (event : Event) → MayStand before job event → ObjectsKept (state_of before) → ObjectsKept (after place job event (state_of before))
-kept_after before place job (Applied x) may h = created place x (state_of before) may.valid.limits h
+kept_after before place job (Applied x mode) may h = created place x (state_of before) may.valid.limits h
+kept_after before place job (Deleted t) may h = deleted t (state_of before) h
 kept_after before place job (Reserved pod plan) may h =
-    record { nodes = h.nodes; slices = h.slices; classes = h.classes; claims = granted plan.node pod plan.grants (state_of before).claims h.claims; pods = changed PodFits pod _ (state_of before).pods h.pods (λ p k. k) }
+    record { nodes = h.nodes; slices = h.slices; classes = h.classes; claims = joined pod plan.joins (with_grants plan.node pod plan.grants (state_of before).claims) (granted plan.node pod plan.grants (state_of before).claims h.claims); pods = changed PodFits pod _ (state_of before).pods h.pods (λ p k. k) }
 kept_after before place job (Wrote pod claim seen) may h =
     record { nodes = h.nodes; slices = h.slices; classes = h.classes; claims = changed ClaimFits claim _ (state_of before).claims h.claims (λ c k. k); pods = h.pods }
 kept_after before place job (Bound pod node) may h =

@@ -9,10 +9,11 @@ use Rattle.cluster.specs.Denied.{first_refusal}
 use Rattle.cluster.specs.Ready.{IsReady}
 
 -- Which document has an error is for the reading to say, and not for the state; that memory ran out
--- is no error of a document. An object that is to be created has none.
+-- is no error of a document. An object that is to be applied has none.
 abbrev pub IsAsked : Command → Type 0
 IsAsked (command.Invalid error) = error.kind ≡ Memory → ⊥
-IsAsked (command.Create object) = IsReady object
+IsAsked (command.Apply object mode) = IsReady object
+IsAsked (command.Delete target) = Unit {0}
 
 -- the refusal is the first that holds
 pub record MayDeny (s : State) (command : Command) (refusal : Refusal) : Type 0 where

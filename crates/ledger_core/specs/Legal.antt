@@ -2,10 +2,11 @@
 use Rattle.std.specs.Prelude.{ℕ, ◌≡◌, List, [], ◌∷◌, ◌++◌, true}
 use Rattle.cluster.specs.declared.entry.Entry.{Entry}
 use Rattle.cluster.specs.declared.entry.Event.{Event}
-use Rattle.cluster.specs.declared.entry.Event.TheVariants.{Applied, Reserved, Wrote, Bound, Judged, Denied}
+use Rattle.cluster.specs.declared.entry.Event.TheVariants.{Applied, Deleted, Reserved, Wrote, Bound, Judged, Denied}
 use Rattle.cluster.specs.Events.{allows}
 use Rattle.cluster.specs.History.{stand_of, state_of}
-use Rattle.ledger_core.specs.Applied.{MayCreate}
+use Rattle.ledger_core.specs.Applied.{MayApply}
+use Rattle.ledger_core.specs.Deleted.{MayDelete}
 use Rattle.ledger_core.specs.Reserved.{MayReserve}
 use Rattle.ledger_core.specs.Wrote.{MayWrite}
 use Rattle.ledger_core.specs.Bound.{MayBind}
@@ -14,7 +15,8 @@ use Rattle.ledger_core.specs.Denied.{MayDeny}
 
 -- where an event of a job may stand
 abbrev pub MayStand : List Entry → ℕ → Event → Type 0
-MayStand before job (Applied object) = MayCreate (state_of before) object
+MayStand before job (Applied object mode) = MayApply (state_of before) object mode
+MayStand before job (Deleted target) = MayDelete (state_of before) target
 MayStand before job (Reserved pod plan) = MayReserve before pod plan
 MayStand before job (Wrote pod claim seen) = MayWrite (state_of before) pod job claim seen
 MayStand before job (Bound pod node) = MayBind (state_of before) pod job node

@@ -37,8 +37,7 @@ pub fn verdicts_are_true()
 {}
 
 /// If a legal history denies a command, its refusal is the first that holds of the command in the
-/// state before the denial: an object of its kind and name is there, or there is no room for its
-/// devices. If it denies a document for an error, the error isn't out of memory; that the document
+/// state before the denial, in the order of `State::first_refusal`. If it denies a document for an error, the error isn't out of memory; that the document
 /// has this error isn't said here, since a history holds no documents. The state after a denial is the
 /// one before it.
 pub fn denials_change_nothing()

@@ -4,28 +4,29 @@ ghost use Rattle.cluster.specs.Ready.{object_of};
 ghost use Rattle.cluster.specs.Applied.{with_object};
 ghost use Rattle.cluster.specs.Reserved.{with_reserved};
 ghost use Rattle.alloc_rules.specs.Plans.{PlanTrue, VerdictTrue};
-ghost use Rattle.cluster.specs.declared.entry.Command.TheVariants.{Create, Invalid};
+ghost use Rattle.cluster.specs.declared.entry.Command.TheVariants.{Invalid};
 ghost use Rattle.cluster.specs.declared.entry.Refusal.TheVariants as refusal;
-ghost use Rattle.cluster.specs.Denied.{first_refusal};
-ghost use Rattle.cluster.specs.declared.entry.Event.TheVariants.{Applied, Reserved, Wrote, Bound, Judged, Denied};
+ghost use Rattle.cluster.specs.declared.entry.Event.TheVariants.{Applied, Deleted, Reserved, Wrote, Bound, Judged, Denied};
 ghost use Rattle.cluster.specs.Stand.{has_reserved};
 ghost use Rattle.cluster.specs.Events.{allows, outcome_of, stand_after};
-ghost use Rattle.ledger_core.specs.Applied.{creation};
+ghost use Rattle.cluster.specs.Deleted.{without_object};
+ghost use Rattle.ledger_core.specs.Applied.{application};
+ghost use Rattle.ledger_core.specs.Deleted.{deletion, MayDelete};
 ghost use Rattle.ledger_core.specs.Wrote.{MayWrite};
 ghost use Rattle.ledger_core.specs.Bound.{MayBind};
 ghost use Rattle.cluster.specs.State.{has_room, taken_node, version_of};
 ghost use Rattle.ledger_core.specs.Ledger.{appended, at, stand_in};
 ghost use Rattle.cluster.specs.History.{entry_at, state_of, stand_of};
 ghost use Rattle.ledger_core.specs.Legal.{Legal};
-ghost use Rattle.ledger_core.specs.Applied.{MayCreate};
+ghost use Rattle.ledger_core.specs.Applied.{MayApply};
 ghost use Rattle.ledger_core.specs.Denied.{MayDeny};
 
 use crate::LedgerError;
 use crate::room::{Stands, append, make_room, stand_in};
-use alloc_rules::{grants_at_most_one, plan_holds};
+use alloc_rules::plan_holds;
 use cluster::{
-    Command, Entry, Event, Kept, Outcome, Phase, Plan, Ready, ReadyParts, Refusal, Stand, State,
-    Verdict,
+    Command, Entry, Event, Kept, Mode, Outcome, Phase, Plan, Ready, ReadyParts, Refusal, Stand,
+    State, Target, Verdict,
 };
 use dra_values::{Table, Text};
 use object_fields::{FieldError, Key, Kind};
@@ -68,7 +69,7 @@ impl Ledger {
     {
         Ok(Ledger {
             entries: Vec::new(alloc),
-            state: State::new(alloc),
+            state: State::new(alloc)?,
             stands: Table::new(alloc),
             limit,
         })
@@ -114,24 +115,54 @@ impl Ledger {
         stand_in(&self.stands, job)
     }
 
-    /// Creates an object whose selectors are compiled. Where one of its kind and name is there, or all
-    /// slices with it would have more than 65,536 devices, the command is refused: the entry is a denial
-    /// that carries the object and the first of these refusals, and the state stays as it was. `Full` comes where the history has its limit of entries, and `Memory` only
-    /// where memory runs out; then nothing changed.
-    pub fn apply(&mut self, alloc: Global, job: u64, ready: Ready) -> Result<Done, LedgerError>
-        requires stand { allows (stand_of self.old.entries job) (Applied ready) ≡ true }
-        ensures ok { OnOk result (self.new ≡ appended self.old job (creation (state_of self.old.entries) ready)) }
+    /// Applies an object whose selectors are compiled, by the mode: it is created, with the entry's place
+    /// as its uid and its version, or updated, and then it keeps its uid and what was granted, and its
+    /// version becomes the place. If a refusal of the command holds (`State::first_refusal`), the
+    /// entry is a denial that carries the object, the mode and the first such, and the state stays
+    /// as it was. `Full` comes if the history has its limit of entries, and `Memory` only if memory
+    /// runs out; then nothing changed.
+    pub fn apply(
+        &mut self,
+        alloc: Global,
+        job: u64,
+        ready: Ready,
+        mode: Mode,
+    ) -> Result<Done, LedgerError>
+        requires stand { allows (stand_of self.old.entries job) (Applied ready mode) ≡ true }
+        ensures ok { OnOk result (self.new ≡ appended self.old job (application (state_of self.old.entries) ready mode)) }
         ensures place { IfOk result (λ done. done.place ≡ length self.new.entries) }
-        ensures outcome { IfOk result (λ done. done.outcome ≡ outcome_of (creation (state_of self.old.entries) ready)) }
+        ensures outcome { IfOk result (λ done. done.outcome ≡ outcome_of (application (state_of self.old.entries) ready mode)) }
         ensures legal { Legal self.new.entries }
         ensures full { (n : ℕ) → IsErrOf result (LedgerError.Full n) → (length self.old.entries ≡ n) × (self.old.limit ≤ n) }
         ensures err { OnErr result (self.new ≡ self.old) }
     {
-        match self.state.creation_refusal(ready.object()) {
-            None => self.create(alloc, job, ready),
+        match self.state.apply_refusal(ready.object(), mode) {
+            None => self.put(alloc, job, ready, mode),
             Some(refusal) => {
                 let object = ready.into_parts().object;
-                self.refuse(job, Command::Create(object), refusal)
+                self.refuse(job, Command::Apply { object, mode }, refusal)
+            }
+        }
+    }
+
+    /// Takes the object of a kind and name away. If a refusal of the command holds
+    /// (`State::first_refusal`), the entry is a denial that carries the target and the first such, and
+    /// the state stays as it was. `Full` comes if the history has its limit of entries, and `Memory`
+    /// only if memory runs out; then nothing changed.
+    pub fn delete(&mut self, alloc: Global, job: u64, target: &Target) -> Result<Done, LedgerError>
+        requires stand { allows (stand_of self.old.entries job) (Deleted target.now) ≡ true }
+        ensures ok { OnOk result (self.new ≡ appended self.old job (deletion (state_of self.old.entries) target.now)) }
+        ensures place { IfOk result (λ done. done.place ≡ length self.new.entries) }
+        ensures outcome { IfOk result (λ done. done.outcome ≡ outcome_of (deletion (state_of self.old.entries) target.now)) }
+        ensures legal { Legal self.new.entries }
+        ensures full { (n : ℕ) → IsErrOf result (LedgerError.Full n) → (length self.old.entries ≡ n) × (self.old.limit ≤ n) }
+        ensures err { OnErr result (self.new ≡ self.old) }
+    {
+        match self.state.delete_refusal(target) {
+            None => self.take_away(alloc, job, target),
+            Some(refusal) => {
+                let target = target.copy(alloc)?;
+                self.refuse(job, Command::Delete(target), refusal)
             }
         }
     }
@@ -174,7 +205,6 @@ impl Ledger {
         ensures err { OnErr result (self.new ≡ self.old) }
     {
         plan_holds();
-        grants_at_most_one();
         let place = make_room(&mut self.entries, &mut self.stands, self.limit, job)?;
         let (pod, plan) = grant(alloc, &mut self.state, job, pod, plan)?;
         let event = Event::Reserved { pod, plan };
@@ -276,11 +306,17 @@ impl Ledger {
 }
 
 impl Ledger {
-    /// Creates an object that there is room for.
-    fn create(&mut self, alloc: Global, job: u64, ready: Ready) -> Result<Done, LedgerError>
-        requires stand { allows (stand_of self.old.entries job) (Applied ready) ≡ true }
-        requires created { MayCreate (state_of self.old.entries) ready }
-        ensures ok { OnOk result (self.new ≡ appended self.old job (Applied ready)) }
+    /// Applies an object that nothing refuses.
+    fn put(
+        &mut self,
+        alloc: Global,
+        job: u64,
+        ready: Ready,
+        mode: Mode,
+    ) -> Result<Done, LedgerError>
+        requires stand { allows (stand_of self.old.entries job) (Applied ready mode) ≡ true }
+        requires applied { MayApply (state_of self.old.entries) ready mode }
+        ensures ok { OnOk result (self.new ≡ appended self.old job (Applied ready mode)) }
         ensures place { IfOk result (λ done. done.place ≡ length self.new.entries) }
         ensures outcome { IfOk result (λ done. done.outcome ≡ Outcome.Made) }
         ensures legal { Legal self.new.entries }
@@ -297,8 +333,33 @@ impl Ledger {
             job,
             kept,
         )?;
-        let event = Event::Applied(object);
+        let event = Event::Applied { object, mode };
         append(&mut self.entries, &mut self.stands, job, event);
+        Ok(Done {
+            place,
+            outcome: Outcome::Made,
+        })
+    }
+
+    /// Takes an object away of which nothing refuses it.
+    fn take_away(&mut self, alloc: Global, job: u64, target: &Target) -> Result<Done, LedgerError>
+        requires stand { allows (stand_of self.old.entries job) (Deleted target.now) ≡ true }
+        requires deleted { MayDelete (state_of self.old.entries) target.now }
+        ensures ok { OnOk result (self.new ≡ appended self.old job (Deleted target.now)) }
+        ensures place { IfOk result (λ done. done.place ≡ length self.new.entries) }
+        ensures outcome { IfOk result (λ done. done.outcome ≡ Outcome.Made) }
+        ensures legal { Legal self.new.entries }
+        ensures full { (n : ℕ) → IsErrOf result (LedgerError.Full n) → (length self.old.entries ≡ n) × (self.old.limit ≤ n) }
+        ensures err { OnErr result (self.new ≡ self.old) }
+    {
+        let place = make_room(&mut self.entries, &mut self.stands, self.limit, job)?;
+        let target = remove(alloc, &mut self.state, target)?;
+        append(
+            &mut self.entries,
+            &mut self.stands,
+            job,
+            Event::Deleted(target),
+        );
         Ok(Done {
             place,
             outcome: Outcome::Made,
@@ -326,7 +387,7 @@ impl Ledger {
     }
 }
 
-/// Takes all memory for an entry, and creates its object.
+/// Takes all memory for an entry, and puts its object.
 fn put_object(
     alloc: Global,
     entries: &mut Vec<Entry>,
@@ -353,6 +414,17 @@ fn put_object(
     Ok(place)
 }
 
+/// Takes an object away, and answers its kind and name again.
+fn remove(alloc: Global, state: &mut State, target: &Target) -> Result<Target, AllocError>
+    ensures kept { IfOk result (λ kept. kept ≡ target.now) }
+    ensures ok { OnOk result (state.new ≡ without_object target.now state.old) }
+    ensures err { OnErr result (state.new ≡ state.old) }
+{
+    let kept = target.copy(alloc)?;
+    state.remove(alloc, target)?;
+    Ok(kept)
+}
+
 /// Makes the plan's grants, and answers the pod's key and the plan again.
 fn grant(
     alloc: Global,
@@ -361,7 +433,6 @@ fn grant(
     pod: &Key,
     plan: &Plan,
 ) -> Result<(Key, Plan), AllocError>
-    requires { length plan.now.grants ≤ 1 }
     ensures kept { IfOk result (λ kept. (kept.0 ≡ pod.now) × (kept.1 ≡ plan.now)) }
     ensures ok { OnOk result (state.new ≡ with_reserved job pod.now plan.now state.old) }
     ensures err { OnErr result (state.new ≡ state.old) }

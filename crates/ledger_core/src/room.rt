@@ -97,8 +97,11 @@ fn stand_after(stand: Stand, place: u64, event: &Event) -> Stand
     ensures { result ≡ stand_after stand place event.now }
 {
     match event {
-        Event::Applied(_) | Event::Bound { .. } | Event::Judged { .. } | Event::Denied { .. } =>
-            Stand::Ended(place),
+        Event::Applied { .. }
+        | Event::Deleted(_)
+        | Event::Bound { .. }
+        | Event::Judged { .. }
+        | Event::Denied { .. } => Stand::Ended(place),
         Event::Reserved { .. } | Event::Wrote { .. } => Stand::Reserved(failures(stand)),
     }
 }

@@ -1,3 +1,9 @@
-pub mod Usable
+pub mod Complete
 pub mod Counts
 pub mod Places
+pub mod Named
+pub mod Twice
+pub mod Found
+pub mod Grouped
+pub mod PoolGroups
+pub mod Indexed

@@ -3,3 +3,7 @@ pub mod Nodes
 pub mod Inventory
 pub mod Pools
 pub mod Used
+pub mod Visibility
+pub mod Usable
+pub mod Groups
+pub mod Views

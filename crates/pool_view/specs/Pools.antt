@@ -29,9 +29,13 @@ highest (x ∷ xs) = max x.pool.generation (highest xs)
 abbrev pub of_generation : ℕ → List ResourceSlice → List ResourceSlice
 of_generation n xs = filter (λ x. x.pool.generation == n) xs
 
+-- those of the highest generation
+abbrev pub newest : List ResourceSlice → List ResourceSlice
+newest xs = of_generation (highest xs) xs
+
 -- the slices of a pool that have its highest generation
 unfoldable pub pool_of : Named ResourceSlice → List ℕ → List ℕ → List ResourceSlice
-pool_of all driver pool = let xs = slices_of driver pool all in of_generation (highest xs) xs
+pool_of all driver pool = newest (slices_of driver pool all)
 
 -- how many slices each says that the pool has
 abbrev pub counts_of : List ResourceSlice → List ℕ

@@ -1,10 +1,12 @@
-ghost use Rattle.std.specs.Prelude.{◌≡◌, ◌+◌, ◌↔◌, ◌≤◌, IsTrue, OnOk, OnErr, length};
-ghost use Rattle.pool_view.specs.Inventory.{device_count, devices_most, empty_inventory, with_node, with_slice};
+ghost use Rattle.std.specs.Prelude.{◌≡◌, ◌≤◌, true, OnOk, OnErr};
+ghost use Rattle.pool_view.specs.Inventory.{AtOwnNames, device_count, devices_by, devices_most, empty_inventory, has_room_for, with_node, with_slice, without_node, without_slice};
+ghost use Rattle.pool_view.specs.Names.{at_name};
 
 use crate::Stored;
+use crate::stored::put_named;
 use api_cluster::Node;
 use api_slice::ResourceSlice;
-use dra_values::{Table, Text};
+use dra_values::{Duplicate, Shared, Table, Text};
 use std::alloc::{AllocError, Global};
 use std::marker::Model;
 
@@ -12,25 +14,26 @@ use std::marker::Model;
 pub const MOST_DEVICES: usize = 65_536;
 
 /// Slices by their names.
-pub type Slices = Table<Text, Stored<ResourceSlice>>;
+pub type Slices = Table<Text, Stored<Shared<ResourceSlice>>>;
 
 /// The nodes and the slices of a cluster, by their names. All slices together have at most 65,536
 /// devices.
 #[derive(Drop)]
 pub struct Inventory {
-    nodes: Table<Text, Stored<Node>>,
+    nodes: Table<Text, Stored<Shared<Node>>>,
     slices: Slices,
+    /// How many devices all slices have.
+    devices: usize,
 }
 
 impl Model for Inventory {
-    ghost use Rattle.std.specs.Prelude.{◌≤◌};
-    ghost use Rattle.pool_view.specs.Inventory.{InventoryFields, device_count, devices_most};
+    ghost use Rattle.pool_view.specs.Inventory.{InventoryFields, IsKept};
 
     ghost Value = { InventoryFields };
 
     ghost view = { λ i. record { nodes = i.nodes; slices = i.slices } };
 
-    ghost invariant = { λ i. device_count i.slices ≤ devices_most };
+    ghost invariant = { λ i. IsKept i.slices i.devices };
 }
 
 impl Inventory {
@@ -41,11 +44,12 @@ impl Inventory {
         Inventory {
             nodes: Table::new(alloc),
             slices: Table::new(alloc),
+            devices: 0,
         }
     }
 
     /// The nodes.
-    pub fn nodes(&self) -> &Table<Text, Stored<Node>>
+    pub fn nodes(&self) -> &Table<Text, Stored<Shared<Node>>>
         ensures { result.now ≡ self.now.nodes }
     {
         &self.nodes
@@ -62,57 +66,98 @@ impl Inventory {
     pub fn keeps_limit(&self)
         ensures { device_count self.now.slices ≤ devices_most }
     {
-        let _slices = &self.slices;
+        let _devices = self.devices;
     }
 
-    /// Whether all slices have at most 65,536 devices with so many more. Takes no memory.
-    pub fn has_room(&self, more: usize) -> bool
-        ensures { IsTrue result ↔ (device_count self.now.slices + more ≤ devices_most) }
+    /// States that each slice stands at its own name. Takes no memory.
+    pub fn keeps_names(&self)
+        ensures { AtOwnNames self.now.slices }
     {
-        has_room(&self.slices, more)
+        let _devices = self.devices;
     }
 
-    /// Puts a node at its name, which the entry at this place creates. `AllocError` comes only where
-    /// memory runs out, and then nothing changed.
-    pub fn put_node(&mut self, alloc: Global, place: u64, node: Node) -> Result<(), AllocError>
+    /// Whether all slices have at most 65,536 devices with this slice in the stead of the one of its
+    /// name. Takes no memory, and doesn't count.
+    #[tactic(auto, using(crate::proofs::Counts::count_without))]
+    pub fn has_room_for(&self, slice: &ResourceSlice) -> bool
+        ensures { result ≡ has_room_for self.now.slices slice.now }
+    {
+        let replaced = devices_of(&self.slices, &slice.name);
+        self.devices - replaced + slice.devices.as_slice().len() <= MOST_DEVICES
+    }
+
+    /// Puts a node at its name, by the entry at this place: it is updated and keeps its uid where it is
+    /// there, and else it is created. `AllocError` comes only if memory runs out, and then nothing
+    /// changed.
+    pub fn put_node(
+        &mut self,
+        alloc: Global,
+        place: u64,
+        node: Shared<Node>,
+    ) -> Result<(), AllocError>
         ensures ok { OnOk result (self.new ≡ with_node place node self.old) }
         ensures err { OnErr result (self.new ≡ self.old) }
     {
         let name = node.name.copy(alloc)?;
-        self.nodes.insert(name, Stored::created(place, node))?;
+        put_named(&mut self.nodes, place, name, node)?;
         Ok(())
     }
 
-    /// Puts a slice that there is room for at its name, which the entry at this place creates.
-    /// `AllocError` comes only where memory runs out, and then nothing changed.
-    #[tactic(auto, using(crate::proofs::Counts::count_more))]
+    /// Puts a slice that there is room for at its name, by the entry at this place: it is updated and
+    /// keeps its uid where it is there, and else it is created. `AllocError` comes only if memory
+    /// runs out, and then nothing changed.
+    #[tactic(auto, using(crate::proofs::Named::named_with))]
     pub fn put_slice(
         &mut self,
         alloc: Global,
         place: u64,
-        slice: ResourceSlice,
+        slice: Shared<ResourceSlice>,
     ) -> Result<(), AllocError>
-        requires { device_count self.old.slices + length slice.devices ≤ devices_most }
+        requires { has_room_for self.old.slices slice ≡ true }
         ensures ok { OnOk result (self.new ≡ with_slice place slice self.old) }
         ensures err { OnErr result (self.new ≡ self.old) }
     {
         let name = slice.name.copy(alloc)?;
-        self.slices.insert(name, Stored::created(place, slice))?;
+        let devices = self.devices - devices_of(&self.slices, &name)
+            + slice.devices.as_slice().len();
+        put_named(&mut self.slices, place, name, slice)?;
+        self.devices = devices;
         Ok(())
+    }
+
+    /// Takes the node of a name away, if there is one. Takes no memory.
+    pub fn remove_node(&mut self, name: &Text)
+        ensures { self.new ≡ without_node name.now self.old }
+    {
+        self.nodes.remove(name);
+    }
+
+    /// Takes the slice of a name away, if there is one. Takes no memory.
+    #[tactic(auto, using(crate::proofs::Named::named_without))]
+    pub fn remove_slice(&mut self, name: &Text)
+        ensures { self.new ≡ without_slice name.now self.old }
+    {
+        self.devices -= devices_of(&self.slices, name);
+        self.slices.remove(name);
     }
 }
 
-/// Whether so many devices more are at most as many as all slices may have.
-fn has_room(slices: &Slices, more: usize) -> bool
-    ensures { IsTrue result ↔ (device_count slices.now + more ≤ devices_most) }
-{
-    let mut left = MOST_DEVICES;
-    for (_, stored) in slices.as_map() {
-        let count = stored.object.devices.as_slice().len();
-        if count > left {
-            return false;
-        }
-        left -= count;
+impl Duplicate for Inventory {
+    fn duplicate(&self, alloc: Global) -> Result<Inventory, AllocError> {
+        Ok(Inventory {
+            nodes: self.nodes.copy(alloc)?,
+            slices: self.slices.copy(alloc)?,
+            devices: self.devices,
+        })
     }
-    more <= left
+}
+
+/// How many devices the slice of a name has, and 0 where there is none.
+fn devices_of(slices: &Slices, name: &Text) -> usize
+    ensures { result ≡ devices_by (at_name slices.now name.now) }
+{
+    match slices.get(name) {
+        None => 0,
+        Some(stored) => stored.object.devices.as_slice().len(),
+    }
 }

@@ -1,16 +1,28 @@
 //! The nodes and slices of a cluster, and which slices may be used.
 #![tactic(auto)]
 
+mod device;
+mod groups;
 mod inventory;
 mod laws;
+mod names;
 mod nodes;
 mod order;
 mod pool;
+mod slice_ref;
+mod sorting;
 mod stored;
+mod view;
+mod visible;
 
+pub use device::DeviceRef;
 pub use inventory::{Inventory, MOST_DEVICES, Slices};
 pub use laws::places_are_used;
+pub use names::PoolName;
 pub use nodes::named_node;
 pub use order::SlicePlace;
 pub use pool::places_in_use;
-pub use stored::Stored;
+pub use sorting::usable;
+pub use stored::{Stored, put_named};
+pub use view::{PoolView, Pools};
+pub use visible::{sees_device, sees_slice};

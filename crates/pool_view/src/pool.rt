@@ -3,13 +3,12 @@ ghost use Rattle.std.specs.List.{flat_map};
 ghost use Rattle.pool_view.specs.Names.{text_eq};
 ghost use Rattle.pool_view.specs.Pools.{counts_of, device_names, has_twice, highest, is_complete, is_usable, is_used, of_generation, place_of, slices_of, used_places};
 
-use crate::{Inventory, SlicePlace, Stored};
+use crate::inventory::Slices;
+use crate::{Inventory, SlicePlace};
 use api_slice::ResourceSlice;
-use dra_values::{Table, Text};
+use dra_values::Text;
 use std::alloc::{AllocError, Global};
 use std::collections::BTreeSet;
-
-type Slices = Table<Text, Stored<ResourceSlice>>;
 
 fn is_of_pool(slice: &ResourceSlice, driver: &Text, pool: &Text) -> bool
     ensures { result ≡ (text_eq slice.now.driver driver.now && text_eq slice.now.pool.name pool.now) }
@@ -103,7 +102,7 @@ fn may_be_used(counts: &[u64], names: &[Text]) -> bool
 }
 
 /// Whether a pool, whose highest generation is this one, is usable.
-#[tactic(auto, using(crate::proofs::Usable::is_usable_by))]
+#[tactic(auto, using(crate::proofs::Complete::is_usable_by))]
 fn is_pool_usable(
     alloc: Global,
     slices: &Slices,
@@ -119,7 +118,7 @@ fn is_pool_usable(
 }
 
 /// Whether the slice has its pool's highest generation, and the pool is usable.
-#[tactic(auto, using(crate::proofs::Usable::is_used_by, crate::proofs::Usable::is_unused_by))]
+#[tactic(auto, using(crate::proofs::Complete::is_used_by, crate::proofs::Complete::is_unused_by))]
 fn is_in_use(alloc: Global, slices: &Slices, slice: &ResourceSlice) -> Result<bool, AllocError>
     ensures { IfOk result (λ used. used ≡ is_used slices.now slice.now) }
 {

@@ -1,5 +1,12 @@
-ghost use Rattle.std.specs.Prelude.{◌≡◌};
-ghost use Rattle.pool_view.specs.Inventory.{created};
+ghost use Rattle.std.specs.Prelude.{◌≡◌, OnOk, OnErr};
+ghost use Rattle.std.specs.BTreeMap.{is_at};
+ghost use Rattle.std.specs.Map.{set_value};
+ghost use Rattle.std.specs.Option.{option_map_or};
+ghost use Rattle.pool_view.specs.Inventory.{created, updated, with_named};
+ghost use Rattle.pool_view.specs.Names.{at_name, text_cmp};
+
+use dra_values::{Duplicate, Table, Text};
+use std::alloc::{AllocError, Global};
 
 /// An object that was applied.
 #[derive(Drop)]
@@ -21,5 +28,51 @@ impl<T: Drop> Stored<T> {
             uid: place,
             version: place,
         }
+    }
+
+    /// Puts an object in the stead of this one, by the entry at this place. The uid stays.
+    pub fn update(&mut self, place: u64, object: T)
+        ensures { self.new ≡ updated place object self.old }
+    {
+        self.object = object;
+        self.version = place;
+    }
+}
+
+impl<T: Duplicate> Duplicate for Stored<T> {
+    fn duplicate(&self, alloc: Global) -> Result<Stored<T>, AllocError> {
+        Ok(Stored {
+            object: self.object.duplicate(alloc)?,
+            uid: self.uid,
+            version: self.version,
+        })
+    }
+}
+
+/// Puts an object at its name, by the entry at this place: it is updated and keeps its uid where it is
+/// there, and else it is created. `AllocError` comes only if memory runs out, and then nothing changed.
+pub fn put_named<T: Drop>(
+    table: &mut Table<Text, Stored<T>>,
+    place: u64,
+    name: Text,
+    object: T,
+) -> Result<(), AllocError>
+    ensures ok { OnOk result (table.new ≡ with_named place name object table.old) }
+    ensures err { OnErr result (table.new ≡ table.old) }
+{
+    if table.contains_key(&name) {
+        update_named(table, place, &name, object);
+        Ok(())
+    } else {
+        table.insert(name, Stored::created(place, object))
+    }
+}
+
+/// Updates the object of a name, where it is there.
+fn update_named<T: Drop>(table: &mut Table<Text, Stored<T>>, place: u64, name: &Text, object: T)
+    ensures { table.new ≡ option_map_or (λ old. set_value (is_at (text_cmp name.now)) table.old (updated place object old)) (at_name table.old name.now) table.old }
+{
+    if let Some(stored) = table.get_mut(name) {
+        stored.update(place, object);
     }
 }

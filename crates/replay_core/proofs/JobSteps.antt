@@ -14,7 +14,7 @@ use Rattle.ledger_core.specs.GoesOn.{GoesOn}
 use Rattle.cluster.specs.declared.state.State.{State}
 use Rattle.cluster.specs.declared.entry.Entry.{Entry}
 use Rattle.cluster.specs.declared.entry.Event.{Event}
-use Rattle.cluster.specs.declared.entry.Event.TheVariants.{Applied, Reserved, Wrote, Bound, Judged, Denied}
+use Rattle.cluster.specs.declared.entry.Event.TheVariants.{Applied, Deleted, Reserved, Wrote, Bound, Judged, Denied}
 use Rattle.cluster.specs.declared.entry.Stand.TheVariants as stand
 use Rattle.cluster.specs.History.{state_at, state_of, stand_of}
 use Rattle.ledger_core.specs.Ledger.{History, appended}
@@ -26,7 +26,8 @@ use Rattle.replay_core.specs.Doing.{Begun, Doing, Ran, Met, StepsOn, MayFinish, 
 use Rattle.replay_core.specs.Claims.{keys_by, keys_at}
 
 never_fails : (event : Event) → is_failure event ≡ false
-never_fails (Applied object) = refl
+never_fails (Applied object how) = refl
+never_fails (Deleted target) = refl
 never_fails (Reserved pod plan) = refl
 never_fails (Wrote pod claim seen) = refl
 never_fails (Bound pod node) = refl
@@ -120,6 +121,7 @@ fresh_goes job h fresh place ended = let e : stand.Fresh ≡ stand.Ended place =
 
 none_before : (c : Command) → HasNone c []
 none_before (command.Apply object) = refl
+none_before (command.Delete target) = refl
 none_before (command.Invalid error) = refl
 none_before (command.Schedule pod) = tt
 none_before command.NotBuilt = refl

@@ -2,12 +2,13 @@
 use Rattle.std.specs.Prelude.{ℕ, ◌≡◌, ◌≤◌, ◌<◌, ◌+◌, ◌==◌, ◌⊎◌, Bool, true, false, List, [], ◌∷◌, ◌++◌, Option, None, Some, length, count_by, if◌then◌else◌}
 use Rattle.object_fields.specs.declared.key.Key.{Key}
 use Rattle.alloc_rules.specs.Plans.{PlanBy, VerdictBy}
-use Rattle.cluster.specs.declared.entry.Command.TheVariants.{Create, Invalid}
+use Rattle.cluster.specs.declared.entry.Command.TheVariants.{Apply, Delete, Invalid}
+use Rattle.cluster.specs.declared.entry.Mode.TheVariants as mode
 use Rattle.cluster.specs.declared.entry.Refusal.{Refusal}
 use Rattle.cluster.specs.declared.entry.Refusal.TheVariants as refusal
 use Rattle.cluster.specs.declared.entry.Entry.{Entry}
 use Rattle.cluster.specs.declared.entry.Event.{Event}
-use Rattle.cluster.specs.declared.entry.Event.TheVariants.{Applied, Reserved, Wrote, Bound, Judged, Denied}
+use Rattle.cluster.specs.declared.entry.Event.TheVariants.{Applied, Deleted, Reserved, Wrote, Bound, Judged, Denied}
 use Rattle.cluster.specs.declared.entry.Stand.TheVariants.{Ended}
 use Rattle.cluster.specs.History.{state_at, state_of, stand_of}
 use Rattle.commands.specs.declared.command.Command.{Command}
@@ -16,17 +17,19 @@ use Rattle.replay_core.specs.Built.{is_built}
 
 -- the pod that an entry is of
 abbrev pub pod_of : Event → Option Key
-pod_of (Applied object) = None
+pod_of (Applied object how) = None
+pod_of (Deleted target) = None
 pod_of (Reserved pod plan) = Some pod
 pod_of (Wrote pod claim seen) = Some pod
 pod_of (Bound pod node) = Some pod
 pod_of (Judged pod verdict) = Some pod
 pod_of (Denied asked refused) = None
 
--- the entry is of the command: it names the command's object or pod, and a denial of a document that
+-- the entry is of the command: it names the command's object, target or pod, and a denial of a document that
 -- doesn't read carries the first error of the reading
 abbrev pub IsOf : Command → Event → Type 0
-IsOf (command.Apply object) event = (event ≡ Applied object) ⊎ ((r : Refusal) × (event ≡ Denied (Create object) r))
+IsOf (command.Apply object) event = (event ≡ Applied object mode.Apply) ⊎ ((r : Refusal) × (event ≡ Denied (Apply object mode.Apply) r))
+IsOf (command.Delete target) event = (event ≡ Deleted target) ⊎ ((r : Refusal) × (event ≡ Denied (Delete target) r))
 IsOf (command.Invalid error) event = event ≡ Denied (Invalid error) refusal.Invalid
 IsOf (command.Schedule pod) event = pod_of event ≡ Some pod
 IsOf command.NotBuilt event = ⊥
@@ -48,7 +51,8 @@ pub record IsTimely (before : List Entry) (job begun at : ℕ) : Type 0 where
 
 -- what an entry tells of a search is what searches within the budget answer at its place
 abbrev pub IsSearched : List Entry → ℕ → ℕ → ℕ → Event → Type 0
-IsSearched before job begun budget (Applied object) = Unit {0}
+IsSearched before job begun budget (Applied object how) = Unit {0}
+IsSearched before job begun budget (Deleted target) = Unit {0}
 IsSearched before job begun budget (Reserved pod plan) = IsTimely before job begun plan.at × PlanBy (state_at before plan.at) pod budget plan
 IsSearched before job begun budget (Wrote pod claim seen) = Unit {0}
 IsSearched before job begun budget (Bound pod node) = Unit {0}
@@ -67,7 +71,8 @@ AllMade job c begun budget before (e ∷ es) = IsMade job c begun budget before 
 
 -- whether an entry fails an attempt to schedule; no entry that is made yet does
 abbrev pub is_failure : Event → Bool
-is_failure (Applied object) = false
+is_failure (Applied object how) = false
+is_failure (Deleted target) = false
 is_failure (Reserved pod plan) = false
 is_failure (Wrote pod claim seen) = false
 is_failure (Bound pod node) = false
@@ -87,6 +92,7 @@ pub record JobRun (job : ℕ) (c : Command) (budget attempts : ℕ) (before segm
 -- a job that isn't a Schedule has no entry before its last
 abbrev pub HasNone : Command → List Entry → Type 0
 HasNone (command.Apply object) segment = segment ≡ []
+HasNone (command.Delete target) segment = segment ≡ []
 HasNone (command.Invalid error) segment = segment ≡ []
 HasNone (command.Schedule pod) segment = Unit {0}
 HasNone command.NotBuilt segment = segment ≡ []

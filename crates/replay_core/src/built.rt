@@ -1,12 +1,13 @@
-ghost use Rattle.std.specs.Prelude.{◌≡◌, ◌==◌, IfOk, length};
+ghost use Rattle.std.specs.Prelude.{◌≡◌, ◌&&◌, ◌||◌, IfOk, not};
 ghost use Rattle.std.specs.List.{list_all};
-ghost use Rattle.pool_view.specs.Pools.{slices_of};
-ghost use Rattle.replay_core.specs.Built.{draws_nothing, is_built, is_new, is_plain_slice, object_built, slice_built};
+ghost use Rattle.pool_view.specs.Names.{text_eq};
+ghost use Rattle.replay_core.specs.Built.{draws_nothing, is_apart, is_built, is_plain_slice, object_built, slice_built};
 
 use alloc_rules::{is_plain_claim, may_schedule};
 use api_slice::{Device, ResourceSlice};
 use cluster::{Object, State};
 use commands::Command;
+use dra_values::Text;
 use pool_view::named_node;
 use std::alloc::{AllocError, Global};
 
@@ -16,24 +17,10 @@ pub fn is_built(alloc: Global, state: &State, command: &Command) -> Result<bool,
     ensures { IfOk result (λ built. built ≡ is_built state.now command.now) }
 {
     match command {
-        Command::Apply(ready) => {
-            Ok(is_new(state, ready.object()) && object_built(state, ready.object()))
-        }
-        Command::Invalid(_) => Ok(true),
+        Command::Apply(ready) => Ok(object_built(state, ready.object())),
+        Command::Invalid(_) | Command::Delete(_) => Ok(true),
         Command::Schedule(pod) => may_schedule(alloc, state, pod),
         Command::NotBuilt => Ok(false),
-    }
-}
-
-fn is_new(state: &State, object: &Object) -> bool
-    ensures { result ≡ is_new state.now object.now }
-{
-    match object {
-        Object::Node(node) => state.inventory.nodes().get(&node.name).is_none(),
-        Object::Slice(slice) => state.inventory.slices().get(&slice.name).is_none(),
-        Object::Class(class) => state.classes.get(&class.name).is_none(),
-        Object::Claim(claim) => state.claims.get(&claim.key).is_none(),
-        Object::Pod(pod) => state.pods.get(&pod.key).is_none(),
     }
 }
 
@@ -65,22 +52,28 @@ fn is_plain_slice(slice: &ResourceSlice) -> bool
         && draw_nothing(slice.devices.as_slice())
 }
 
-/// Whether the slice is plain and the only one of its pool.
+/// Whether the slice is plain and the only one of its pool, the one that it replaces left out.
 fn slice_built(state: &State, slice: &ResourceSlice) -> bool
     ensures { result ≡ slice_built state.now slice.now }
 {
-    is_plain_slice(slice) && slice.pool.slices == 1 && is_first(state, slice)
+    is_plain_slice(slice) && slice.pool.slices == 1 && is_alone(state, slice)
 }
 
-/// Whether no slice is of the same pool.
-fn is_first(state: &State, slice: &ResourceSlice) -> bool
-    ensures { result ≡ (length (slices_of slice.now.driver slice.now.pool.name state.now.inventory.slices) == 0) }
+/// Whether each slice of the same pool has the slice's name.
+fn is_alone(state: &State, slice: &ResourceSlice) -> bool
+    ensures { result ≡ list_all (is_apart slice.now) state.now.inventory.slices }
 {
-    for (_, stored) in state.inventory.slices().as_map() {
-        let other = &stored.object;
-        if other.driver.as_text() == slice.driver.as_text() && other.pool.name == slice.pool.name {
+    for (name, stored) in state.inventory.slices().as_map() {
+        if !is_apart(slice, name, &stored.object) {
             return false;
         }
     }
     true
+}
+
+fn is_apart(slice: &ResourceSlice, name: &Text, other: &ResourceSlice) -> bool
+    ensures { result ≡ (text_eq name.now slice.now.name || not (text_eq other.now.driver slice.now.driver && text_eq other.now.pool.name slice.now.pool.name)) }
+{
+    *name == slice.name
+        || !(other.driver.as_text() == slice.driver.as_text() && other.pool.name == slice.pool.name)
 }

@@ -5,7 +5,7 @@ ghost use Rattle.alloc_rules.specs.Decisions.{IsReserve, IsJudge};
 ghost use Rattle.object_fields.specs.declared.key.Key.{Key};
 ghost use Rattle.cluster.specs.declared.entry.Stand.TheVariants.{Fresh, Reserved, Ended};
 ghost use Rattle.cluster.specs.History.{state_of, stand_of};
-ghost use Rattle.commands.specs.declared.command.Command.TheVariants.{Apply, Invalid, Schedule};
+ghost use Rattle.commands.specs.declared.command.Command.TheVariants.{Apply, Delete, Invalid, Schedule};
 ghost use Rattle.replay_core.specs.Built.{is_built};
 ghost use Rattle.replay_core.specs.Doing.{Begun, Doing, IsFull, MayFinish, Met, Ran, StepsOn};
 ghost use Rattle.replay_core.specs.Claims.{keys_at};
@@ -14,19 +14,20 @@ use crate::Stop;
 use crate::built::is_built;
 use alloc_rules::{Decision, decide};
 use api_cluster::{Pod, PodResourceClaim};
-use cluster::{Plan, Ready, State, Verdict};
+use cluster::{Mode, Plan, Ready, State, Target, Verdict};
 use commands::Command;
 use dra_values::Seq;
 use ledger_core::{Ledger, LedgerError, histories_grow, reserved_goes_on};
 use object_fields::{FieldError, Key};
 use std::alloc::{AllocError, Global};
 
-/// Does a command as a job that has no entry yet: an Apply has one entry, which creates the object or
-/// refuses it for want of room, an Invalid one, which refuses it with its error, and a Schedule one for the reservation, one for each claim of the pod and one for the binding, or
-/// one for the verdict. `Stop::NotBuilt` comes where the command is of a form that isn't done yet,
-/// and the ledger stays as it was. `Stop::Full` comes where the history has as many entries as it may
-/// have and one more is due, and `Stop::Memory` only where memory runs out: the entries that were
-/// made before stay.
+/// Does a command as a job that has no entry yet. An Apply has one entry, which creates or updates the
+/// object, a Delete one, which takes the object away, and either may be a denial; an Invalid has one,
+/// which refuses it with its error; a Schedule has one for the reservation, one for each claim of the
+/// pod and one for the binding, or one for the verdict. `Stop::NotBuilt` comes if the command is of a
+/// form that isn't supported yet, and the ledger stays as it was. `Stop::Full` comes if the history has as
+/// many entries as it may have and one more is due, and `Stop::Memory` only if memory runs out: the
+/// entries that were made before stay.
 pub fn do_command(
     alloc: Global,
     ledger: &mut Ledger,
@@ -64,6 +65,7 @@ fn do_built(
     match command {
         Command::Apply(ready) => apply(alloc, ledger, job, ready),
         Command::Invalid(error) => deny(ledger, job, error),
+        Command::Delete(target) => delete(alloc, ledger, job, &target),
         Command::Schedule(pod) => schedule(alloc, ledger, job, &pod),
         Command::NotBuilt => unreachable!(),
     }
@@ -78,7 +80,7 @@ fn apply(alloc: Global, ledger: &mut Ledger, job: u64, ready: Ready) -> Result<(
     ensures full { (n : ℕ) → IsErrOf result (LedgerError.Full n) → IsFull ledger.new n }
 {
     histories_grow();
-    ledger.apply(alloc, job, ready)?;
+    ledger.apply(alloc, job, ready, Mode::Apply)?;
     Ok(())
 }
 
@@ -91,6 +93,18 @@ fn deny(ledger: &mut Ledger, job: u64, error: FieldError) -> Result<(), LedgerEr
 {
     histories_grow();
     ledger.deny(job, error)?;
+    Ok(())
+}
+
+/// Takes an object away.
+fn delete(alloc: Global, ledger: &mut Ledger, job: u64, target: &Target) -> Result<(), LedgerError>
+    requires { stand_of ledger.old.entries job ≡ Fresh }
+    ensures ran { OnOk result ((budget attempts : ℕ) → 2 ≤ budget → 0 < attempts → Ran job (Delete target.now) budget attempts ledger.old ledger.new) }
+    ensures begun { OnErr result ((budget attempts : ℕ) → 2 ≤ budget → 0 < attempts → Begun job (Delete target.now) budget attempts ledger.old ledger.new) }
+    ensures full { (n : ℕ) → IsErrOf result (LedgerError.Full n) → IsFull ledger.new n }
+{
+    histories_grow();
+    ledger.delete(alloc, job, target)?;
     Ok(())
 }
 

@@ -1,6 +1,6 @@
 use crate::fields::error_text;
 use crate::input::{CaseError, json, text};
-use cluster::Object;
+use cluster::{Object, Target};
 use commands::{Command, read_commands};
 use std::alloc::{AllocError, Global};
 
@@ -60,7 +60,19 @@ fn push_command(alloc: Global, command: &Command, text: &mut String) -> Result<(
         Command::Invalid(error) => write!(text, "invalid {}", error_text(alloc, error)?),
         Command::NotBuilt => text.push_str("not built"),
         Command::Schedule(key) => write!(text, "schedule {key}"),
+        Command::Delete(target) => push_target(target, text),
         Command::Apply(ready) => push_object(ready.object(), text),
+    }
+}
+
+/// The name of an object that is taken away, behind its kind and its namespace where it has one.
+fn push_target(target: &Target, text: &mut String) -> Result<(), AllocError> {
+    match target {
+        Target::Slice(name) => write!(text, "delete ResourceSlice {name}"),
+        Target::Class(name) => write!(text, "delete DeviceClass {name}"),
+        Target::Claim(key) => write!(text, "delete ResourceClaim {key}"),
+        Target::Node(name) => write!(text, "delete Node {name}"),
+        Target::Pod(key) => write!(text, "delete Pod {key}"),
     }
 }
 

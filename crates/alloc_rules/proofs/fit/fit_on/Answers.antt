@@ -12,7 +12,7 @@ returns c =
     let s = c.args.state.now in
     let slot : Slot = record { claim = c.args.key.now; request = c.args.request.now } in
     let ds = devices_on s.inventory c.args.node.now in
-    let cs = c.deref.result.now in
+    let cs = c.deref-2.result.now in
     let same : fit_from s c.args.key.now c.args.request.now.name cs ≡ fit_among s slot ds =
-    fit_of s slot c.args.ask.now (option_copied c.get-class.result) c.args.own.now ds cs c.requires.ask c.get-class.ensures c.requires.own (c.deref.ensures.value ∙ c.in_ok-candidates.ensures) in
+    fit_of s slot c.args.ask.now (option_copied c.get-class.result) c.args.own.now ds cs c.requires.ask (rw c.deref.ensures at c.get-class.ensures) c.requires.own (c.deref-2.ensures.value ∙ c.in_ok-candidates.ensures) in
     ok_as c.fit_among.result (fit_from s c.args.key.now c.args.request.now.name cs) (fit_among s slot ds) c.fit_among.ensures same

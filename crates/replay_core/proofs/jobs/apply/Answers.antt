@@ -1,8 +1,9 @@
 use Rattle.std.proofs.Common.{◌+◌, length}
 use Rattle.commands.specs.declared.command.Command.TheVariants.{Apply}
-use Rattle.ledger_core.specs.Applied.{creation}
+use Rattle.cluster.specs.declared.entry.Mode.TheVariants as mode
+use Rattle.ledger_core.specs.Applied.{application}
 use Rattle.cluster.specs.History.{stand_of, state_of}
-use Rattle.replay_core.proofs.Created.{creation_ends, creation_of, creation_searched}
+use Rattle.replay_core.proofs.Created.{application_ends, application_of, application_searched}
 use Rattle.replay_core.proofs.JobSteps.{begun_on_err, ran_first}
 use Rattle.replay_core.proofs.jobs.apply.Goals as goal
 
@@ -14,5 +15,5 @@ returns-clause-ran c = λ budget attempts two some.
     let h = c.args.ledger.now.entries in
     let s = state_of h in
     let x = c.args.ready in
-    ran_first c.histories_grow.ensures.stand c.args.job (Apply x) budget attempts c.args.ledger.now c.apply.new.self (creation s x) c.in_ok-apply.ensures.ok (creation_of s x)
-    (creation_searched s h c.args.job (length h) budget x) (creation_ends s (stand_of h c.args.job) (length h + 1) x) some
+    ran_first c.histories_grow.ensures.stand c.args.job (Apply x) budget attempts c.args.ledger.now c.apply.new.self (application s x mode.Apply) c.in_ok-apply.ensures.ok (application_of s x)
+    (application_searched s h c.args.job (length h) budget x) (application_ends s (stand_of h c.args.job) (length h + 1) x) some

@@ -9,9 +9,6 @@ use Rattle.ledger_core.proofs.Histories.{reserved_now}
 use Rattle.ledger_core.proofs.Keeping.{kept_more}
 use Rattle.ledger_core.proofs.ledger.Ledger.reserve.Goals as goal
 
-pub grant-requires : goal.grant-requires
-grant-requires c = c.grants_at_most_one.ensures _ _ _ c.requires.plan
-
 pub invariant_of-self-2 : goal.invariant_of-self-2
 invariant_of-self-2 c =
     let e : Entry = record { job = c.args.job; event = Reserved c.args.pod.now c.args.plan.now } in

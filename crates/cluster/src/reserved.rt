@@ -1,0 +1,158 @@
+ghost use Rattle.std.specs.Prelude.{◌≡◌, ◌++◌, IfOk, false, map};
+ghost use Rattle.pool_view.specs.Names.{at_key};
+ghost use Rattle.cluster.specs.Tables.{changed_at};
+ghost use Rattle.cluster.specs.Prepared.{given, given_by, joined_use, granted_use, placed, uses_of, users_with};
+
+use crate::{ClaimState, Grant, Granted, Plan, Use};
+use dra_values::{Table, Text};
+use object_fields::Key;
+use std::alloc::{AllocError, Global};
+
+/// What a claim gets for a pod.
+#[derive(Drop)]
+pub struct Prepared {
+    claim: Key,
+    /// The grant, if the plan makes one.
+    grant: Option<Granted>,
+    /// All users of the claim, the pod among them.
+    users: Table<Key, Use>,
+}
+
+/// What the claims of a plan get for the pod. `AllocError` comes only if memory runs out.
+pub fn prepare(
+    alloc: Global,
+    claims: &Table<Key, ClaimState>,
+    pod: &Key,
+    plan: &Plan,
+) -> Result<Vec<Prepared>, AllocError>
+    ensures { IfOk result (λ uses. uses.items ≡ uses_of pod.now plan.now claims.now) }
+{
+    let mut uses = Vec::new(alloc);
+    prepare_grants(alloc, claims, pod, plan, &mut uses)?;
+    prepare_joins(alloc, claims, pod, plan, &mut uses)?;
+    Ok(uses)
+}
+
+fn prepare_grants(
+    alloc: Global,
+    claims: &Table<Key, ClaimState>,
+    pod: &Key,
+    plan: &Plan,
+    uses: &mut Vec<Prepared>,
+) -> Result<(), AllocError>
+    ensures { IfOk result (λ _. uses.new.items ≡ uses.old.items ++ map (granted_use plan.now.node pod.now claims.now) plan.now.grants) }
+{
+    for grant in plan.grants.as_slice() {
+        uses.push(prepare_grant(alloc, claims, pod, &plan.node, grant)?)?;
+    }
+    Ok(())
+}
+
+fn prepare_joins(
+    alloc: Global,
+    claims: &Table<Key, ClaimState>,
+    pod: &Key,
+    plan: &Plan,
+    uses: &mut Vec<Prepared>,
+) -> Result<(), AllocError>
+    ensures { IfOk result (λ _. uses.new.items ≡ uses.old.items ++ map (joined_use pod.now claims.now) plan.now.joins) }
+{
+    for claim in plan.joins.as_slice() {
+        uses.push(prepare_join(alloc, claims, pod, claim)?)?;
+    }
+    Ok(())
+}
+
+fn prepare_grant(
+    alloc: Global,
+    claims: &Table<Key, ClaimState>,
+    pod: &Key,
+    node: &Text,
+    grant: &Grant,
+) -> Result<Prepared, AllocError>
+    ensures { IfOk result (λ made. made ≡ granted_use node.now pod.now claims.now grant.now) }
+{
+    let mut prepared = prepare_join(alloc, claims, pod, &grant.claim)?;
+    prepared.grant = Some(granted(alloc, node, grant)?);
+    Ok(prepared)
+}
+
+/// The grant that a plan makes on its node, not yet published.
+fn granted(alloc: Global, node: &Text, grant: &Grant) -> Result<Granted, AllocError>
+    ensures { IfOk result (λ g. g ≡ record { node = node.now; results = grant.now.results; published = false }) }
+{
+    let node = node.copy(alloc)?;
+    let results = grant.results.copy(alloc)?;
+    Ok(Granted {
+        node,
+        results,
+        published: false,
+    })
+}
+
+fn prepare_join(
+    alloc: Global,
+    claims: &Table<Key, ClaimState>,
+    pod: &Key,
+    claim: &Key,
+) -> Result<Prepared, AllocError>
+    ensures { IfOk result (λ made. made ≡ joined_use pod.now claims.now claim.now) }
+{
+    let users = users_with(alloc, claims, pod, claim)?;
+    Ok(Prepared {
+        claim: claim.copy(alloc)?,
+        grant: None,
+        users,
+    })
+}
+
+/// The users of a claim with the pod as an assumed one; none of a claim that isn't there.
+fn users_with(
+    alloc: Global,
+    claims: &Table<Key, ClaimState>,
+    pod: &Key,
+    claim: &Key,
+) -> Result<Table<Key, Use>, AllocError>
+    ensures { IfOk result (λ users. users ≡ users_with pod.now (at_key claims.now claim.now)) }
+{
+    match claims.get(claim) {
+        None => Ok(Table::new(alloc)),
+        Some(state) => {
+            let pod = pod.copy(alloc)?;
+            let mut users = state.users.copy(alloc)?;
+            users.insert(pod, Use::Assumed(state.claim.version))?;
+            Ok(users)
+        }
+    }
+}
+
+/// Puts what was prepared into the claims. Takes no memory.
+pub fn place(claims: &mut Table<Key, ClaimState>, uses: Vec<Prepared>)
+    ensures { claims.new ≡ placed uses.items claims.old }
+{
+    for prepared in uses {
+        put(claims, prepared);
+    }
+}
+
+fn put(claims: &mut Table<Key, ClaimState>, prepared: Prepared)
+    ensures { claims.new ≡ changed_at prepared.claim (given prepared) claims.old }
+{
+    let Prepared {
+        claim,
+        grant,
+        users,
+    } = prepared;
+    if let Some(state) = claims.get_mut(&claim) {
+        give(state, grant, users);
+    }
+}
+
+fn give(state: &mut ClaimState, grant: Option<Granted>, users: Table<Key, Use>)
+    ensures { state.new ≡ given_by grant users state.old }
+{
+    state.users = users;
+    if grant.is_some() {
+        state.grant = grant;
+    }
+}

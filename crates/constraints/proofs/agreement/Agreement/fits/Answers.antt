@@ -1,0 +1,7 @@
+use Rattle.std.proofs.Common.{◌≡◌, List, [], ◌∷◌, ◌++◌, sym, subst, ◌∙◌}
+use Rattle.constraints.specs.Keeping.{AgreementFields, IsOf}
+use Rattle.constraints.proofs.Taken.{fits_taken}
+use Rattle.constraints.proofs.agreement.Agreement.fits.Goals as goal
+
+pub returns : goal.returns
+returns c k taken of = c.admits.ensures ∙ fits_taken k taken c.args.self.now c.args.picked.now of

@@ -1,0 +1,6 @@
+use Rattle.std.proofs.Common.{◌≡◌, drop}
+use Rattle.constraints.specs.Agreeing as spec
+use Rattle.constraints.proofs.names.names_any.Given as goal
+
+abbrev pub invariant-loop-name : goal.invariant-loop-name
+invariant-loop-name l = spec.names_any (drop l.name-index l.fn.requests) l.fn.result_name ≡ spec.names_any l.fn.requests l.fn.result_name

@@ -1,0 +1,41 @@
+ghost use Rattle.std.specs.Prelude.{◌≡◌};
+
+use api_slice::ResourceSlice;
+use std::marker::Model;
+
+/// A slice of an inventory, borrowed, which contracts see as the slice.
+#[derive(Drop)]
+pub struct SliceRef<'a> {
+    slice: &'a ResourceSlice,
+}
+
+impl<'a> Model for SliceRef<'a> {
+    ghost use Rattle.api_slice.specs.declared.types.ResourceSlice.{ResourceSlice};
+
+    ghost Value = { ResourceSlice };
+
+    ghost view = { λ s. s.slice.now };
+}
+
+impl<'a> SliceRef<'a> {
+    /// A slice, borrowed.
+    pub fn of(slice: &'a ResourceSlice) -> SliceRef<'a>
+        ensures { result ≡ slice.now }
+    {
+        SliceRef { slice }
+    }
+
+    /// The slice itself.
+    pub fn get(&self) -> &'a ResourceSlice
+        ensures { result.now ≡ self.now }
+    {
+        self.slice
+    }
+
+    /// The same slice, borrowed again.
+    pub fn again(&self) -> SliceRef<'a>
+        ensures { result ≡ self.now }
+    {
+        SliceRef { slice: self.slice }
+    }
+}

@@ -1,0 +1,215 @@
+ghost use Rattle.std.specs.Prelude.{◌≡◌, ◌++◌, [], IfOk, IsSome, length};
+ghost use Rattle.std.specs.List.{flat_map, list_any};
+ghost use Rattle.pool_view.specs.Names.{at_name};
+ghost use Rattle.pool_view.specs.Pools.{id_in};
+ghost use Rattle.pool_view.specs.Usable.{broken_slices, has_broken, node_devices, usable_slices};
+ghost use Rattle.pool_view.specs.Views.{places_from, position_of, with_place};
+ghost use Rattle.pool_view.specs.Visibility.{offered_to, sees_slice};
+
+use crate::Inventory;
+use crate::device::DeviceRef;
+use crate::slice_ref::SliceRef;
+use crate::sorting::{Sorted, sort_out};
+use crate::visible::{sees_device, sees_slice};
+use api_cluster::Node;
+use api_slice::ResourceSlice;
+use dra_values::{Seq, Table, Text};
+use object_fields::DeviceId;
+use std::alloc::{AllocError, Global};
+use std::marker::Model;
+
+/// The slices of an inventory that have the highest generation of their pool, usable ones apart from
+/// broken ones. Contracts see the inventory.
+#[derive(Drop)]
+pub struct Pools<'a> {
+    inventory: &'a Inventory,
+    usable: Seq<SliceRef<'a>>,
+    broken: Seq<SliceRef<'a>>,
+}
+
+impl<'a> Model for Pools<'a> {
+    ghost use Rattle.std.specs.Prelude.{◌≡◌};
+    ghost use Rattle.pool_view.specs.declared.inventory.Inventory.{Inventory};
+    ghost use Rattle.pool_view.specs.Usable.{broken_slices, usable_slices};
+
+    ghost Value = { Inventory };
+
+    ghost view = { λ p. p.inventory.now };
+
+    ghost invariant = { λ p. (p.usable ≡ usable_slices p.inventory.now) × (p.broken ≡ broken_slices p.inventory.now) };
+}
+
+/// What a node sees of the pools of an inventory: the devices that may be given to a pod there, with
+/// an index by their ids. The devices are borrowed from the inventory.
+#[derive(Drop)]
+pub struct PoolView<'a> {
+    inventory: &'a Inventory,
+    devices: Seq<DeviceRef<'a>>,
+    places: Table<DeviceId, usize>,
+    broken: bool,
+}
+
+impl<'a> Model for PoolView<'a> {
+    ghost use Rattle.std.specs.Prelude.{◌≡◌, []};
+    ghost use Rattle.pool_view.specs.Views.{ViewFields, places_from};
+
+    ghost Value = { ViewFields };
+
+    ghost view = { λ v. record { inventory = v.inventory.now; devices = v.devices; has_broken = v.broken } };
+
+    ghost invariant = { λ v. v.places ≡ places_from 0 v.devices [] };
+}
+
+impl<'a> Pools<'a> {
+    /// Sorts the slices of an inventory by their pools: one pass over all of them. `AllocError` comes
+    /// only where memory runs out.
+    pub fn of(alloc: Global, inventory: &'a Inventory) -> Result<Pools<'a>, AllocError>
+        ensures { IfOk result (λ pools. pools ≡ inventory.now) }
+    {
+        let Sorted { usable, broken } = sort_out(alloc, inventory)?;
+        Ok(Pools {
+            inventory,
+            usable,
+            broken,
+        })
+    }
+
+    /// What a node of the inventory sees. `AllocError` comes only where memory runs out.
+    #[tactic(auto, unfolding(crate::specs::Usable::node_devices, crate::specs::Usable::has_broken))]
+    pub fn view(&self, alloc: Global, node: &Text) -> Result<PoolView<'a>, AllocError>
+        requires { IsSome (at_name self.now.nodes node.now) }
+        ensures inventory { IfOk result (λ view. view.inventory ≡ self.now) }
+        ensures devices { IfOk result (λ view. view.devices ≡ node_devices self.now node.now) }
+        ensures broken { IfOk result (λ view. view.has_broken ≡ has_broken self.now node.now) }
+    {
+        let (devices, broken) = match self.inventory.nodes().get(node) {
+            Some(stored) => (
+                devices_of(alloc, &stored.object, self.usable.as_slice())?,
+                sees_any(&stored.object, self.broken.as_slice()),
+            ),
+            None => (Seq::empty(alloc), false),
+        };
+        let places = places_of(alloc, devices.as_slice())?;
+        Ok(PoolView {
+            inventory: self.inventory,
+            devices,
+            places,
+            broken,
+        })
+    }
+}
+
+impl<'a> PoolView<'a> {
+    /// What a node of the inventory sees. `AllocError` comes only where memory runs out.
+    pub fn of(
+        alloc: Global,
+        inventory: &'a Inventory,
+        node: &Text,
+    ) -> Result<PoolView<'a>, AllocError>
+        requires { IsSome (at_name inventory.now.nodes node.now) }
+        ensures inventory { IfOk result (λ view. view.inventory ≡ inventory.now) }
+        ensures devices { IfOk result (λ view. view.devices ≡ node_devices inventory.now node.now) }
+        ensures broken { IfOk result (λ view. view.has_broken ≡ has_broken inventory.now node.now) }
+    {
+        Pools::of(alloc, inventory)?.view(alloc, node)
+    }
+
+    /// The devices of usable pools that the node sees, in the order of driver, pool, slice and place
+    /// in the slice. A device's position is its index here.
+    pub fn devices(&self) -> &[DeviceRef<'a>]
+        ensures { result.now ≡ self.now.devices }
+    {
+        self.devices.as_slice()
+    }
+
+    /// The position of the device of that id, or `None` where the view has no such device. Takes no
+    /// memory.
+    #[tactic(auto, using(crate::proofs::Indexed::position_is))]
+    pub fn position(&self, id: &DeviceId) -> Option<usize>
+        ensures { result ≡ position_of id.now self.now.devices }
+    {
+        self.places.get(id).copied()
+    }
+
+    /// The inventory of which it is a view.
+    pub fn inventory(&self) -> &'a Inventory
+        ensures { result.now ≡ self.now.inventory }
+    {
+        self.inventory
+    }
+
+    /// Whether an incomplete or invalid pool has a slice of its highest generation that the node
+    /// sees.
+    pub fn has_broken(&self) -> bool
+        ensures { result ≡ self.now.has_broken }
+    {
+        self.broken
+    }
+}
+
+fn push_seen<'a>(
+    out: &mut Seq<DeviceRef<'a>>,
+    node: &Node,
+    slice: &'a ResourceSlice,
+) -> Result<(), AllocError>
+    ensures { IfOk result (λ _. out.new ≡ out.old ++ offered_to node.now slice.now) }
+{
+    for device in slice.devices.as_slice() {
+        if sees_device(&slice.nodes, node, device) {
+            out.push(DeviceRef::of(slice, device))?;
+        }
+    }
+    Ok(())
+}
+
+/// The devices of slices that a node sees, in order.
+fn devices_of<'a>(
+    alloc: Global,
+    node: &Node,
+    slices: &[SliceRef<'a>],
+) -> Result<Seq<DeviceRef<'a>>, AllocError>
+    ensures { IfOk result (λ devices. devices ≡ flat_map (offered_to node.now) slices.now) }
+{
+    let mut out = Seq::empty(alloc);
+    for slice in slices {
+        push_seen(&mut out, node, slice.get())?;
+    }
+    Ok(out)
+}
+
+fn sees_any(node: &Node, slices: &[SliceRef<'_>]) -> bool
+    ensures { result ≡ list_any (sees_slice node.now) slices.now }
+{
+    for slice in slices {
+        if sees_slice(node, slice.get()) {
+            return true;
+        }
+    }
+    false
+}
+
+fn put_place(
+    places: &mut Table<DeviceId, usize>,
+    id: DeviceId,
+    place: usize,
+) -> Result<(), AllocError>
+    ensures { IfOk result (λ _. places.new ≡ with_place places.old id place) }
+{
+    if places.contains_key(&id) {
+        Ok(())
+    } else {
+        places.insert(id, place)
+    }
+}
+
+/// The index of each device by its id.
+#[tactic(auto, unfolding(crate::specs::Views::places_from))]
+fn places_of(alloc: Global, devices: &[DeviceRef<'_>]) -> Result<Table<DeviceId, usize>, AllocError>
+    ensures { IfOk result (λ places. places ≡ places_from 0 devices.now []) }
+{
+    let mut places = Table::new(alloc);
+    for place in 0..devices.len() {
+        put_place(&mut places, devices[place].id(alloc)?, place)?;
+    }
+    Ok(places)
+}
