@@ -1,0 +1,6 @@
+pub mod Fresh
+pub mod Holding
+pub mod Moves
+pub mod Names
+pub mod Pairs
+pub mod Shortages

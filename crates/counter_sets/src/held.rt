@@ -1,0 +1,186 @@
+ghost use Rattle.std.specs.Prelude.{◌≡◌, ◌++◌, ◌∷◌, [], List, Option, None, Some, OnOk, OnErr, if◌then◌else◌, option_copied};
+ghost use Rattle.pool_view.specs.Names.{at_name, device_eq};
+ghost use Rattle.object_fields.specs.declared.key.DeviceId.{DeviceId};
+ghost use Rattle.counter_sets.specs.Totals.{or_empty};
+ghost use Rattle.counter_sets.specs.Holding as spec;
+ghost use Rattle.object_fields.specs.declared.key.Key.{Key};
+ghost use Rattle.counter_sets.specs.Holding.{AreHeld, holder_in};
+
+use crate::change::{Change, SetTotals, move_slice};
+use api_slice::{Device, ResourceSlice};
+use dra_values::{Table, Text};
+use object_fields::{DeviceId, Key};
+use std::alloc::{AllocError, Global};
+use std::marker::Model;
+
+type Devices = Table<Text, Key>;
+
+type Pools = Table<Text, Devices>;
+
+/// The devices that claims hold, each with its claim.
+///
+/// Clauses see the claim that holds a device (`holder_in`), or that they are the pairs of a list
+/// (`AreHeld`).
+#[derive(Drop)]
+pub struct Held {
+    drivers: Table<Text, Pools>,
+}
+
+impl Model for Held {
+    ghost use Rattle.counter_sets.specs.Holding.{Holders};
+
+    ghost Value = { Holders };
+
+    ghost view = { λ h. h.drivers };
+}
+
+impl Held {
+    /// No device is held. Takes no memory.
+    #[tactic(auto, unfolding(crate::specs::Holding::holder_in))]
+    pub fn new(alloc: Global) -> Held
+        ensures none { (id : DeviceId) → holder_in result id ≡ None }
+        ensures pairs { AreHeld result [] }
+    {
+        Held {
+            drivers: Table::new(alloc),
+        }
+    }
+
+    /// Adds a device and the claim that holds it, in place of another that held it. `AllocError`
+    /// comes only where memory runs out, and then nothing changes.
+    pub fn insert(
+        &mut self,
+        device: &DeviceId,
+        holder: Key,
+        alloc: Global,
+    ) -> Result<(), AllocError>
+        ensures ok { OnOk result ((id : DeviceId) → holder_in self.new id ≡ (if device_eq device.now id then Some holder else holder_in self.old id)) }
+        ensures pairs { OnOk result ((pairs : List (DeviceId × Key)) → AreHeld self.old pairs → holder_in self.old device.now ≡ None → AreHeld self.new (pairs ++ (device.now, holder) ∷ [])) }
+        ensures err { OnErr result (self.new ≡ self.old) }
+    {
+        self.put(device, holder, alloc)
+    }
+
+    fn put(&mut self, device: &DeviceId, holder: Key, alloc: Global) -> Result<(), AllocError>
+        ensures ok { OnOk result (self.new ≡ spec.put_driver device.now holder self.old) }
+        ensures err { OnErr result (self.new ≡ self.old) }
+    {
+        put_driver(&mut self.drivers, device, holder, alloc)
+    }
+
+    /// The claim that holds a device.
+    pub fn holder(&self, device: &DeviceId) -> Option<&Key>
+        ensures { option_copied result ≡ holder_in self.now device.now }
+    {
+        self.at(&device.driver, &device.pool, &device.device)
+    }
+
+    /// The claim that holds a device, by its driver, its pool and its name.
+    #[tactic(auto, unfolding(crate::specs::Holding::holder_in))]
+    pub fn at(&self, driver: &Text, pool: &Text, device: &Text) -> Option<&Key>
+        ensures { option_copied result ≡ holder_in self.now (record { driver = driver.now; pool = pool.now; device = device.now }) }
+    {
+        find(find_pool(&self.drivers, driver, pool), device)
+    }
+}
+
+fn find_pool<'a>(drivers: &'a Table<Text, Pools>, driver: &Text, pool: &Text) -> Option<&'a Devices>
+    ensures { option_copied result ≡ at_name (or_empty (at_name drivers.now driver.now)) pool.now }
+{
+    match drivers.get(driver) {
+        None => None,
+        Some(pools) => pools.get(pool),
+    }
+}
+
+fn find<'a>(devices: Option<&'a Devices>, device: &Text) -> Option<&'a Key>
+    ensures { option_copied result ≡ at_name (or_empty (option_copied devices.entry)) device.now }
+{
+    match devices {
+        None => None,
+        Some(devices) => devices.get(device),
+    }
+}
+
+fn put_device(
+    devices: &mut Devices,
+    name: &Text,
+    holder: Key,
+    alloc: Global,
+) -> Result<(), AllocError>
+    ensures ok { OnOk result (devices.new ≡ spec.put_device name.now holder devices.old) }
+    ensures err { OnErr result (devices.new ≡ devices.old) }
+{
+    let name = name.copy(alloc)?;
+    devices.insert(name, holder)
+}
+
+#[tactic(auto, using(std::proofs::lemmas::Map::Steps::set_value_same))]
+fn put_pool(
+    pools: &mut Pools,
+    device: &DeviceId,
+    holder: Key,
+    alloc: Global,
+) -> Result<(), AllocError>
+    ensures ok { OnOk result (pools.new ≡ spec.put_pool device.now holder pools.old) }
+    ensures err { OnErr result (pools.new ≡ pools.old) }
+{
+    if let Some(devices) = pools.get_mut(&device.pool) {
+        return put_device(devices, &device.device, holder, alloc);
+    }
+    let name = device.pool.copy(alloc)?;
+    let mut devices = Table::new(alloc);
+    put_device(&mut devices, &device.device, holder, alloc)?;
+    pools.insert(name, devices)
+}
+
+#[tactic(auto, using(std::proofs::lemmas::Map::Steps::set_value_same), unfolding(crate::specs::Holding::put_driver))]
+fn put_driver(
+    drivers: &mut Table<Text, Pools>,
+    device: &DeviceId,
+    holder: Key,
+    alloc: Global,
+) -> Result<(), AllocError>
+    ensures ok { OnOk result (drivers.new ≡ spec.put_driver device.now holder drivers.old) }
+    ensures err { OnErr result (drivers.new ≡ drivers.old) }
+{
+    if let Some(pools) = drivers.get_mut(&device.driver) {
+        return put_pool(pools, device, holder, alloc);
+    }
+    let name = device.driver.copy(alloc)?;
+    let mut pools = Table::new(alloc);
+    put_pool(&mut pools, device, holder, alloc)?;
+    drivers.insert(name, pools)
+}
+
+/// Draws what a device draws, where it is held.
+fn draw_device(
+    slices: &mut Table<Text, SetTotals>,
+    slice: &ResourceSlice,
+    device: &Device,
+    held: &Held,
+)
+    ensures { slices.new ≡ spec.held_device held.now slice.now device.now slices.old }
+{
+    if held
+        .at(slice.driver.as_text(), &slice.pool.name, &device.name)
+        .is_some()
+    {
+        move_slice(
+            slices,
+            Change::Draw,
+            &slice.name,
+            device.consumes.as_slice(),
+        );
+    }
+}
+
+/// Draws what the held devices of a slice draw.
+#[tactic(auto, unfolding(crate::specs::Holding::added_held))]
+pub fn draw_devices(slices: &mut Table<Text, SetTotals>, slice: &ResourceSlice, held: &Held)
+    ensures { slices.new ≡ spec.added_held held.now slice.now slice.now.devices slices.old }
+{
+    for device in slice.devices.as_slice() {
+        draw_device(slices, slice, device, held);
+    }
+}

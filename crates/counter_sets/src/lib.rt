@@ -1,0 +1,14 @@
+//! Counters that devices share, and what is drawn from them (KEP 4815).
+#![tactic(auto)]
+
+mod added;
+mod amount;
+mod change;
+mod covered;
+mod held;
+mod short;
+mod totals;
+
+pub use held::Held;
+pub use short::Shortage;
+pub use totals::Totals;

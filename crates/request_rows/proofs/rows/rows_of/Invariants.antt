@@ -1,0 +1,6 @@
+use Rattle.std.proofs.Common.{◌≡◌, ◌++◌, drop}
+use Rattle.request_rows.specs.Rows.{rows_from}
+use Rattle.request_rows.proofs.rows.rows_of.Given as goal
+
+abbrev pub invariant-loop-row : goal.invariant-loop-row
+invariant-loop-row l = l.rows ++ rows_from l.columns l.row (drop l.row l.ways) ≡ rows_from l.columns 0 l.ways

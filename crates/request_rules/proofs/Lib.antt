@@ -1,0 +1,12 @@
+mod Equal
+mod Tests
+mod Places
+mod Covered
+mod Parts
+mod Shapes
+mod Standing
+mod Meant
+mod Found
+mod Once
+mod Joined
+mod Granted

@@ -1,0 +1,11 @@
+pub mod Lists
+pub mod Names
+pub mod Input
+pub mod Asked
+pub mod Rules
+pub mod Fronts
+pub mod Problem
+pub mod Faults
+pub mod Allocation
+pub mod Grants
+pub mod Joining

@@ -1,0 +1,12 @@
+//! What an allocation is: which devices a node may give to claims of `resource.k8s.io/v1`, and which
+//! lists of positions begin an allocation.
+//!
+//! The definitions are in `specs/`; this crate has no code but laws, whose bodies are empty.
+#![tactic(auto)]
+
+mod laws;
+
+pub use laws::{
+    allocations_hold_once, faults_are_first, fronts_are_good, grants_have_all_results,
+    joining_is_by_device, walk_is_meant,
+};
