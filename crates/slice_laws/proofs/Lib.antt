@@ -1,0 +1,6 @@
+mod Read
+mod Counts
+mod CountedSets
+mod CountedDraws
+mod Renamed
+mod Valued
