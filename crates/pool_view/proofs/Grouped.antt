@@ -1,13 +1,10 @@
 -- What stands in the groups of a list.
-use Rattle.std.proofs.Common.{ℕ, ◌≡◌, ◌∙◌, List, [], ◌∷◌, ◌++◌, Bool, true, false, cond, refl, sym, ap, append_assoc, append-nil, Option}
-use Rattle.std.specs.Prelude.{filter, map, unwrap_or, Some, ◌&&◌}
-use Rattle.std.specs.List.{flat_map}
-use Rattle.std.specs.BTreeMap.{insert_entry, is_at}
+use Rattle.std.proofs.Common.{◌≡◌, ◌∙◌, List, [], ◌∷◌, ◌++◌, Bool, true, false, cond, refl, sym, ap, append_assoc, append-nil, Option}
+use Rattle.std.specs.Prelude.{filter, unwrap_or, Some}
+use Rattle.std.specs.BTreeMap.{is_at}
 use Rattle.std.specs.Map.{lookup, remove_entry}
-use Rattle.std.specs.Cmp.Lexicographic.{same_text, texts_ties}
-use Rattle.std.specs.Ordering.{is_eq, match_ordering, ordering_then}
+use Rattle.std.specs.Ordering.{is_eq}
 use Rattle.std.specs.declared.cmp.Ordering.{Ordering}
-use Rattle.std.specs.declared.cmp.Ordering.TheVariants.{Less, Equal, Greater}
 use Rattle.pool_view.proofs.Found.{IsExact, at_insert, at_remove, is_equal}
 use Rattle.pool_view.specs.Groups.{added, group_at, grouped}
 
@@ -15,7 +12,7 @@ module _ {K T : Type 0} (cmp : K → K → Ordering) (exact : IsExact cmp) where
   abbrev at : K → List (K × List T) → Option (List T)
   at q es = lookup (is_at (cmp q)) es
 
-  added_by : (b : Bool) (g : List (K × List T)) (k q : K) (x : T) → is_eq (cmp q k) ≡ b → group_at cmp (added cmp g k x) q ≡ group_at cmp g q ++ cond b (x ∷ []) []
+  pub added_by : (b : Bool) (g : List (K × List T)) (k q : K) (x : T) → is_eq (cmp q k) ≡ b → group_at cmp (added cmp g k x) q ≡ group_at cmp g q ++ cond b (x ∷ []) []
   added_by true g k q x e =
       ap (λ (r : Option (List T)). unwrap_or r []) (at_insert cmp exact (remove_entry (is_at (cmp k)) g) k q (group_at cmp g k ++ x ∷ []) ∙ ap (λ (b : Bool). cond b (Some (group_at cmp g k ++ x ∷ [])) (at q (remove_entry (is_at (cmp k)) g))) e)
       ∙ ap (λ (j : K). group_at cmp g j ++ x ∷ []) (sym (exact.same q k (is_equal (cmp q k) e)))

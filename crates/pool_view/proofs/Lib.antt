@@ -7,3 +7,6 @@ pub mod Found
 pub mod Grouped
 pub mod PoolGroups
 pub mod Indexed
+pub mod Pairs
+pub mod Differ
+pub mod OfNode

@@ -1,8 +1,8 @@
 -- The groups of slices by their pools, and what is made of them.
-use Rattle.std.proofs.Common.{ℕ, ◌≡◌, ◌∙◌, List, [], ◌∷◌, ◌++◌, Bool, true, false, cond, refl, sym, ap}
-use Rattle.std.specs.Prelude.{filter, map, ◌&&◌, Result, Ok, Err, IfOk}
+use Rattle.std.proofs.Common.{ℕ, ◌≡◌, ◌∙◌, List, [], ◌∷◌, ◌++◌, Bool, true, cond, refl, sym, ap}
+use Rattle.std.specs.Prelude.{filter, ◌&&◌, Result, Ok, Err, IfOk}
 use Rattle.std.specs.List.{flat_map}
-use Rattle.std.specs.Cmp.Lexicographic.{same_text, texts_ties, nat_list_cmp_total, nat_list_eq_equiv}
+use Rattle.std.specs.Cmp.Lexicographic.{same_text, texts_ties, nat_list_eq_equiv}
 use Rattle.std.specs.Ordering.{is_eq, ordering_then}
 use Rattle.std.specs.declared.cmp.Ordering.{Ordering}
 use Rattle.std.specs.declared.cmp.Ordering.TheVariants.{Less, Equal, Greater}
@@ -35,7 +35,7 @@ is_equal Greater e = absurd (cc)
 pub text_equal : (a : List ℕ) → text_cmp a a ≡ Equal
 text_equal a = is_equal (text_cmp a a) (sym (texts_ties a a) ∙ nat_list_eq_equiv.refl a)
 
-same_parts : (d e p q : List ℕ) → d ≡ e → p ≡ q → ◌≡◌ {A = PoolName} (record { driver = d; pool = p }) (record { driver = e; pool = q })
+pub same_parts : (d e p q : List ℕ) → d ≡ e → p ≡ q → ◌≡◌ {A = PoolName} (record { driver = d; pool = p }) (record { driver = e; pool = q })
 same_parts d e p q f g = cc
 
 pool_same : (a b : PoolName) → pool_cmp a b ≡ Equal → a ≡ b
@@ -61,7 +61,7 @@ is_of p x =
     ∙ ap (λ (b : Bool). b && is_eq (text_cmp p.pool x.pool.name)) (sym (texts_ties p.driver x.driver) ∙ nat_list_eq_equiv.symm p.driver x.driver)
     ∙ ap (λ (b : Bool). text_eq x.driver p.driver && b) (sym (texts_ties p.pool x.pool.name) ∙ nat_list_eq_equiv.symm p.pool x.pool.name)
 
-of_pool : (p : PoolName) (all : Named ResourceSlice) → filter (λ x. is_eq (pool_cmp p (pool_named x))) (objects all) ≡ slices_of p.driver p.pool all
+pub of_pool : (p : PoolName) (all : Named ResourceSlice) → filter (λ x. is_eq (pool_cmp p (pool_named x))) (objects all) ≡ slices_of p.driver p.pool all
 of_pool p [] = refl
 of_pool p (e ∷ es) =
     ap (λ (b : Bool). cond b (e.1.object ∷ filter (λ x. is_eq (pool_cmp p (pool_named x))) (objects es)) (filter (λ x. is_eq (pool_cmp p (pool_named x))) (objects es))) (is_of p e.1.object)

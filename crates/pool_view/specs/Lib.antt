@@ -7,3 +7,5 @@ pub mod Visibility
 pub mod Usable
 pub mod Groups
 pub mod Views
+pub mod Differing
+pub mod NodeIndexes

@@ -1,6 +1,8 @@
 ghost use Rattle.std.specs.Prelude.{◌≡◌, ◌≤◌, true, OnOk, OnErr};
+ghost use Rattle.std.specs.List.Sorted.{IsStrictlySortedBy};
+ghost use Rattle.std.specs.Map.{keys_of};
 ghost use Rattle.pool_view.specs.Inventory.{AtOwnNames, device_count, devices_by, devices_most, empty_inventory, has_room_for, with_node, with_slice, without_node, without_slice};
-ghost use Rattle.pool_view.specs.Names.{at_name};
+ghost use Rattle.pool_view.specs.Names.{at_name, text_cmp};
 
 use crate::Stored;
 use crate::stored::put_named;
@@ -74,6 +76,14 @@ impl Inventory {
         ensures { AtOwnNames self.now.slices }
     {
         let _devices = self.devices;
+    }
+
+    /// States that the names of the slices strictly increase from each to the next, so that no name
+    /// stands twice. Takes no memory.
+    pub fn keeps_order(&self)
+        ensures { IsStrictlySortedBy text_cmp (keys_of self.now.slices) }
+    {
+        self.slices.in_order();
     }
 
     /// Whether all slices have at most 65,536 devices with this slice in the stead of the one of its

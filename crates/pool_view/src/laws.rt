@@ -1,10 +1,16 @@
-ghost use Rattle.std.specs.Prelude.{◌≡◌, List, ℕ, true, Contains};
+ghost use Rattle.std.specs.Prelude.{◌≡◌, List, ℕ, Some, true, Contains, map, slice_get};
 ghost use Rattle.std.specs.List.Sorted.{IsStrictlySortedBy};
+ghost use Rattle.std.specs.Map.{keys_of};
+ghost use Rattle.api_slice.specs.declared.types.Device.{Device};
 ghost use Rattle.api_slice.specs.declared.types.ResourceSlice.{ResourceSlice};
 ghost use Rattle.pool_view.specs.declared.inventory.Inventory.{Inventory};
 ghost use Rattle.pool_view.specs.declared.order.SlicePlace.{SlicePlace};
 ghost use Rattle.pool_view.specs.declared.stored.Stored.{Stored};
-ghost use Rattle.pool_view.specs.Pools.{is_used, place_cmp, place_of, used_places};
+ghost use Rattle.pool_view.specs.Differing.{IsAtItsName, usable_devices};
+ghost use Rattle.pool_view.specs.Inventory.{AtOwnNames};
+ghost use Rattle.pool_view.specs.Names.{text_cmp};
+ghost use Rattle.pool_view.specs.Pools.{Offered, id_in, id_of, is_used, place_cmp, place_of, used_places};
+ghost use Rattle.pool_view.specs.Usable.{node_devices, usable_slices};
 ghost use Rattle.pool_view.specs.Used.{IsPlaceInUse};
 
 /// The places in use are exactly those of the slices that have the highest generation of their pool,
@@ -13,4 +19,29 @@ pub fn places_are_used()
     ensures every { (i : Inventory) (name : List ℕ) (x : Stored ResourceSlice) → Contains i.slices (name, x) → is_used i.slices x.object ≡ true → Contains (used_places i) (place_of x.object) }
     ensures only { (i : Inventory) (p : SlicePlace) → Contains (used_places i) p → IsPlaceInUse i p }
     ensures in_order { (i : Inventory) → IsStrictlySortedBy place_cmp (used_places i) }
+{}
+
+/// No two devices that a node sees have one id, so a device's id tells its position. Each has its
+/// slice among the slices of usable pools, and stands among the devices of that slice. Slices of one
+/// name are one slice, where each slice of the inventory stands at its own name
+/// (`Inventory::keeps_names`) and the names strictly increase (`Inventory::keeps_order`).
+pub fn devices_of_a_view_differ()
+    ensures ids { (i : Inventory) (node : List ℕ) (n m : ℕ) (o p : Offered) → slice_get (node_devices i node) n ≡ Some o → slice_get (node_devices i node) m ≡ Some p → id_in o ≡ id_in p → n ≡ m }
+    ensures slices { (i : Inventory) (node : List ℕ) (n m : ℕ) (o p : Offered) → AtOwnNames i.slices → IsStrictlySortedBy text_cmp (keys_of i.slices) → slice_get (node_devices i node) n ≡ Some o → slice_get (node_devices i node) m ≡ Some p → o.slice.name ≡ p.slice.name → o.slice ≡ p.slice }
+    ensures usable { (i : Inventory) (node : List ℕ) (n : ℕ) (o : Offered) → slice_get (node_devices i node) n ≡ Some o → Contains (usable_slices i) o.slice }
+    ensures listed { (i : Inventory) (node : List ℕ) (n : ℕ) (o : Offered) → slice_get (node_devices i node) n ≡ Some o → Contains o.slice.devices o.device }
+{}
+
+/// The slices of usable pools strictly increase by driver, then by pool, then by their names, so none
+/// comes twice. Each is the one that the inventory has at its name, so two of one name are one
+/// slice. This holds where each slice of the inventory stands at its own name
+/// (`Inventory::keeps_names`) and the names strictly increase (`Inventory::keeps_order`). Always, no
+/// two of their devices have one id, whatever nodes see them: by slices and devices, and by the
+/// positions in the list of all these devices.
+pub fn usable_slices_differ()
+    ensures in_order { (i : Inventory) → AtOwnNames i.slices → IsStrictlySortedBy text_cmp (keys_of i.slices) → IsStrictlySortedBy place_cmp (map place_of (usable_slices i)) }
+    ensures stored { (i : Inventory) (x : ResourceSlice) → AtOwnNames i.slices → IsStrictlySortedBy text_cmp (keys_of i.slices) → Contains (usable_slices i) x → IsAtItsName i.slices x }
+    ensures names { (i : Inventory) (x y : ResourceSlice) → AtOwnNames i.slices → IsStrictlySortedBy text_cmp (keys_of i.slices) → Contains (usable_slices i) x → Contains (usable_slices i) y → x.name ≡ y.name → x ≡ y }
+    ensures devices { (i : Inventory) (x y : ResourceSlice) (d e : Device) → Contains (usable_slices i) x → Contains x.devices d → Contains (usable_slices i) y → Contains y.devices e → id_of x d ≡ id_of y e → (x ≡ y) × (d ≡ e) }
+    ensures ids { (i : Inventory) (n m : ℕ) (o p : Offered) → slice_get (usable_devices i) n ≡ Some o → slice_get (usable_devices i) m ≡ Some p → id_in o ≡ id_in p → n ≡ m }
 {}

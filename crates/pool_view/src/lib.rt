@@ -6,6 +6,7 @@ mod groups;
 mod inventory;
 mod laws;
 mod names;
+mod node_index;
 mod nodes;
 mod order;
 mod pool;
@@ -17,7 +18,7 @@ mod visible;
 
 pub use device::DeviceRef;
 pub use inventory::{Inventory, MOST_DEVICES, Slices};
-pub use laws::places_are_used;
+pub use laws::{devices_of_a_view_differ, places_are_used, usable_slices_differ};
 pub use names::PoolName;
 pub use nodes::named_node;
 pub use order::SlicePlace;

@@ -1,42 +1,37 @@
-ghost use Rattle.std.specs.Prelude.{◌≡◌, ◌++◌, [], IfOk, IsSome, length};
-ghost use Rattle.std.specs.List.{flat_map, list_any};
+ghost use Rattle.std.specs.Prelude.{◌≡◌, [], IfOk, IsSome};
 ghost use Rattle.pool_view.specs.Names.{at_name};
-ghost use Rattle.pool_view.specs.Pools.{id_in};
-ghost use Rattle.pool_view.specs.Usable.{broken_slices, has_broken, node_devices, usable_slices};
+ghost use Rattle.pool_view.specs.Usable.{has_broken, node_devices};
 ghost use Rattle.pool_view.specs.Views.{places_from, position_of, with_place};
-ghost use Rattle.pool_view.specs.Visibility.{offered_to, sees_slice};
 
 use crate::Inventory;
 use crate::device::DeviceRef;
-use crate::slice_ref::SliceRef;
+use crate::node_index::{NodeIndex, devices_of, sees_any};
 use crate::sorting::{Sorted, sort_out};
-use crate::visible::{sees_device, sees_slice};
-use api_cluster::Node;
-use api_slice::ResourceSlice;
 use dra_values::{Seq, Table, Text};
 use object_fields::DeviceId;
 use std::alloc::{AllocError, Global};
 use std::marker::Model;
 
 /// The slices of an inventory that have the highest generation of their pool, usable ones apart from
-/// broken ones. Contracts see the inventory.
+/// broken ones, each by the node that they name. Contracts see the inventory.
 #[derive(Drop)]
 pub struct Pools<'a> {
     inventory: &'a Inventory,
-    usable: Seq<SliceRef<'a>>,
-    broken: Seq<SliceRef<'a>>,
+    usable: NodeIndex<'a>,
+    broken: NodeIndex<'a>,
 }
 
 impl<'a> Model for Pools<'a> {
     ghost use Rattle.std.specs.Prelude.{◌≡◌};
     ghost use Rattle.pool_view.specs.declared.inventory.Inventory.{Inventory};
+    ghost use Rattle.pool_view.specs.NodeIndexes.{index_of};
     ghost use Rattle.pool_view.specs.Usable.{broken_slices, usable_slices};
 
     ghost Value = { Inventory };
 
     ghost view = { λ p. p.inventory.now };
 
-    ghost invariant = { λ p. (p.usable ≡ usable_slices p.inventory.now) × (p.broken ≡ broken_slices p.inventory.now) };
+    ghost invariant = { λ p. (p.usable ≡ index_of (usable_slices p.inventory.now)) × (p.broken ≡ index_of (broken_slices p.inventory.now)) };
 }
 
 /// What a node sees of the pools of an inventory: the devices that may be given to a pod there, with
@@ -61,12 +56,14 @@ impl<'a> Model for PoolView<'a> {
 }
 
 impl<'a> Pools<'a> {
-    /// Sorts the slices of an inventory by their pools: one pass over all of them. `AllocError` comes
-    /// only where memory runs out.
+    /// Sorts the slices of an inventory by their pools and by the node that they name: one pass over
+    /// all of them. `AllocError` comes only where memory runs out.
     pub fn of(alloc: Global, inventory: &'a Inventory) -> Result<Pools<'a>, AllocError>
         ensures { IfOk result (λ pools. pools ≡ inventory.now) }
     {
         let Sorted { usable, broken } = sort_out(alloc, inventory)?;
+        let usable = NodeIndex::of(alloc, usable.as_slice())?;
+        let broken = NodeIndex::of(alloc, broken.as_slice())?;
         Ok(Pools {
             inventory,
             usable,
@@ -74,27 +71,47 @@ impl<'a> Pools<'a> {
         })
     }
 
+    /// The devices of usable pools that a node of the inventory sees, in the order of driver, pool,
+    /// slice and place in the slice. Goes over the slices that name the node and those that name none.
+    /// `AllocError` comes only where memory runs out.
+    #[tactic(auto, using(crate::proofs::OfNode::devices_by_index), unfolding(crate::specs::Usable::node_devices))]
+    pub fn devices(&self, alloc: Global, node: &Text) -> Result<Vec<DeviceRef<'a>>, AllocError>
+        requires { IsSome (at_name self.now.nodes node.now) }
+        ensures { IfOk result (λ devices. devices.items ≡ node_devices self.now node.now) }
+    {
+        match self.inventory.nodes().get(node) {
+            Some(stored) => Ok(devices_of(alloc, &stored.object, &self.usable)?.into_vec()),
+            None => Ok(Vec::new(alloc)),
+        }
+    }
+
+    /// Whether an incomplete or invalid pool has a slice of its highest generation that a node of the
+    /// inventory sees; false of a node that isn't there. Goes over the slices that name the node and
+    /// those that name none, and takes no memory.
+    #[tactic(auto, using(crate::proofs::OfNode::any_by_index), unfolding(crate::specs::Usable::has_broken))]
+    pub fn has_broken(&self, node: &Text) -> bool
+        ensures { result ≡ has_broken self.now node.now }
+    {
+        match self.inventory.nodes().get(node) {
+            Some(stored) => sees_any(&stored.object, &self.broken),
+            None => false,
+        }
+    }
+
     /// What a node of the inventory sees. `AllocError` comes only where memory runs out.
-    #[tactic(auto, unfolding(crate::specs::Usable::node_devices, crate::specs::Usable::has_broken))]
     pub fn view(&self, alloc: Global, node: &Text) -> Result<PoolView<'a>, AllocError>
         requires { IsSome (at_name self.now.nodes node.now) }
         ensures inventory { IfOk result (λ view. view.inventory ≡ self.now) }
         ensures devices { IfOk result (λ view. view.devices ≡ node_devices self.now node.now) }
         ensures broken { IfOk result (λ view. view.has_broken ≡ has_broken self.now node.now) }
     {
-        let (devices, broken) = match self.inventory.nodes().get(node) {
-            Some(stored) => (
-                devices_of(alloc, &stored.object, self.usable.as_slice())?,
-                sees_any(&stored.object, self.broken.as_slice()),
-            ),
-            None => (Seq::empty(alloc), false),
-        };
+        let devices = Seq::new(self.devices(alloc, node)?);
         let places = places_of(alloc, devices.as_slice())?;
         Ok(PoolView {
             inventory: self.inventory,
             devices,
             places,
-            broken,
+            broken: self.has_broken(node),
         })
     }
 }
@@ -145,47 +162,6 @@ impl<'a> PoolView<'a> {
     {
         self.broken
     }
-}
-
-fn push_seen<'a>(
-    out: &mut Seq<DeviceRef<'a>>,
-    node: &Node,
-    slice: &'a ResourceSlice,
-) -> Result<(), AllocError>
-    ensures { IfOk result (λ _. out.new ≡ out.old ++ offered_to node.now slice.now) }
-{
-    for device in slice.devices.as_slice() {
-        if sees_device(&slice.nodes, node, device) {
-            out.push(DeviceRef::of(slice, device))?;
-        }
-    }
-    Ok(())
-}
-
-/// The devices of slices that a node sees, in order.
-fn devices_of<'a>(
-    alloc: Global,
-    node: &Node,
-    slices: &[SliceRef<'a>],
-) -> Result<Seq<DeviceRef<'a>>, AllocError>
-    ensures { IfOk result (λ devices. devices ≡ flat_map (offered_to node.now) slices.now) }
-{
-    let mut out = Seq::empty(alloc);
-    for slice in slices {
-        push_seen(&mut out, node, slice.get())?;
-    }
-    Ok(out)
-}
-
-fn sees_any(node: &Node, slices: &[SliceRef<'_>]) -> bool
-    ensures { result ≡ list_any (sees_slice node.now) slices.now }
-{
-    for slice in slices {
-        if sees_slice(node, slice.get()) {
-            return true;
-        }
-    }
-    false
 }
 
 fn put_place(

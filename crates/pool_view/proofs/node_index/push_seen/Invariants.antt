@@ -1,7 +1,7 @@
 use Rattle.std.proofs.Common.{◌≡◌, ◌++◌, drop, map, filter}
 use Rattle.pool_view.specs.Pools.{offered_by}
 use Rattle.pool_view.specs.Visibility.{sees_device}
-use Rattle.pool_view.proofs.view.push_seen.Given as goal
+use Rattle.pool_view.proofs.node_index.push_seen.Given as goal
 
 abbrev pub invariant-loop-device : goal.invariant-loop-device
 invariant-loop-device l = record {

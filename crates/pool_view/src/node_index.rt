@@ -1,0 +1,184 @@
+ghost use Rattle.std.specs.Prelude.{◌≡◌, ◌≤◌, ◌++◌, ◌||◌, IfOk, drop, length, take};
+ghost use Rattle.std.specs.List.{flat_map, list_any};
+ghost use Rattle.pool_view.specs.NodeIndexes.{count_before, index_of, merged, own_slices, put_at, slices_in};
+ghost use Rattle.pool_view.specs.Visibility.{offered_to, sees_slice};
+
+use crate::device::DeviceRef;
+use crate::groups::add;
+use crate::names::NameRef;
+use crate::nodes::named_node;
+use crate::slice_ref::SliceRef;
+use crate::visible::{sees_device, sees_slice};
+use api_cluster::Node;
+use api_slice::ResourceSlice;
+use dra_values::{Seq, Table};
+use std::alloc::{AllocError, Global};
+
+/// A slice with its place among those of an index.
+#[derive(Drop)]
+pub struct PlacedSlice<'a> {
+    pub place: usize,
+    pub slice: SliceRef<'a>,
+}
+
+/// Slices by the node that they name (`nodeName`), and those that name none, each list in the order of
+/// the places.
+#[derive(Drop)]
+pub struct NodeIndex<'a> {
+    pub named: Table<NameRef<'a>, Seq<PlacedSlice<'a>>>,
+    pub others: Seq<PlacedSlice<'a>>,
+}
+
+impl<'a> NodeIndex<'a> {
+    /// The index of slices, whose places are those in the list. `AllocError` comes only where memory
+    /// runs out.
+    #[tactic(auto, unfolding(crate::specs::NodeIndexes::with_slices))]
+    pub fn of(alloc: Global, slices: &[SliceRef<'a>]) -> Result<NodeIndex<'a>, AllocError>
+        ensures { IfOk result (λ index. index ≡ index_of slices.now) }
+    {
+        let mut index = NodeIndex {
+            named: Table::new(alloc),
+            others: Seq::empty(alloc),
+        };
+        for place in 0..slices.len() {
+            put(&mut index, alloc, place, slices[place].get())?;
+        }
+        Ok(index)
+    }
+}
+
+fn put<'a>(
+    index: &mut NodeIndex<'a>,
+    alloc: Global,
+    place: usize,
+    slice: &'a ResourceSlice,
+) -> Result<(), AllocError>
+    ensures { IfOk result (λ _. index.new ≡ put_at place slice.now index.old) }
+{
+    let placed = PlacedSlice {
+        place,
+        slice: SliceRef::of(slice),
+    };
+    match named_node(&slice.nodes) {
+        Some(node) => add(&mut index.named, alloc, NameRef::of(node), placed),
+        None => index.others.push(placed),
+    }
+}
+
+fn push_seen<'a>(
+    out: &mut Seq<DeviceRef<'a>>,
+    node: &Node,
+    slice: &'a ResourceSlice,
+) -> Result<(), AllocError>
+    ensures { IfOk result (λ _. out.new ≡ out.old ++ offered_to node.now slice.now) }
+{
+    for device in slice.devices.as_slice() {
+        if sees_device(&slice.nodes, node, device) {
+            out.push(DeviceRef::of(slice, device))?;
+        }
+    }
+    Ok(())
+}
+
+/// Puts the devices of slices that a node sees at the end, in order.
+fn push_all<'a>(
+    out: &mut Seq<DeviceRef<'a>>,
+    node: &Node,
+    slices: &[PlacedSlice<'a>],
+) -> Result<(), AllocError>
+    ensures { IfOk result (λ _. out.new ≡ out.old ++ flat_map (offered_to node.now) (slices_in slices.now)) }
+{
+    for placed in slices {
+        push_seen(out, node, placed.slice.get())?;
+    }
+    Ok(())
+}
+
+/// How many of the first slices stand before a place.
+fn count_before(slices: &[PlacedSlice<'_>], place: usize) -> usize
+    ensures is { result ≡ count_before place slices.now }
+    ensures within { result ≤ length slices.now }
+{
+    let mut count = 0;
+    while count < slices.len() && slices[count].place < place {
+        count += 1;
+    }
+    count
+}
+
+/// Puts the devices of those slices at the end, from an index on, that stand before a place, and
+/// returns the index of the first that doesn't.
+fn push_before<'a>(
+    out: &mut Seq<DeviceRef<'a>>,
+    node: &Node,
+    slices: &[PlacedSlice<'a>],
+    from: usize,
+    place: usize,
+) -> Result<usize, AllocError>
+    requires { from ≤ length slices.now }
+    ensures pushed { IfOk result (λ _. out.new ≡ out.old ++ flat_map (offered_to node.now) (slices_in (take (count_before place (drop from slices.now)) (drop from slices.now)))) }
+    ensures left { IfOk result (λ next. drop next slices.now ≡ drop (count_before place (drop from slices.now)) (drop from slices.now)) }
+    ensures within { IfOk result (λ next. next ≤ length slices.now) }
+{
+    let left = &slices[from..];
+    let count = count_before(left, place);
+    push_all(out, node, &left[..count])?;
+    Ok(from + count)
+}
+
+/// Puts the devices of the slices of two lists at the end, in the order of the slices' places.
+fn push_merged<'a>(
+    out: &mut Seq<DeviceRef<'a>>,
+    node: &Node,
+    own: &[PlacedSlice<'a>],
+    others: &[PlacedSlice<'a>],
+) -> Result<(), AllocError>
+    ensures { IfOk result (λ _. out.new ≡ out.old ++ flat_map (offered_to node.now) (merged own.now others.now)) }
+{
+    let mut next = 0;
+    for placed in own {
+        next = push_before(out, node, others, next, placed.place)?;
+        push_seen(out, node, placed.slice.get())?;
+    }
+    push_all(out, node, &others[next..])
+}
+
+/// The devices that a node sees of the slices that name it and of those that name no node, in the
+/// order of the slices' places.
+pub fn devices_of<'a>(
+    alloc: Global,
+    node: &'a Node,
+    index: &NodeIndex<'a>,
+) -> Result<Seq<DeviceRef<'a>>, AllocError>
+    ensures { IfOk result (λ devices. devices ≡ flat_map (offered_to node.now) (merged (own_slices node.now.name index.now) index.now.others)) }
+{
+    let mut out = Seq::empty(alloc);
+    let others = index.others.as_slice();
+    match index.named.get(&NameRef::of(&node.name)) {
+        Some(own) => push_merged(&mut out, node, own.as_slice(), others)?,
+        None => push_all(&mut out, node, others)?,
+    }
+    Ok(out)
+}
+
+fn sees_one(node: &Node, slices: &[PlacedSlice<'_>]) -> bool
+    ensures { result ≡ list_any (sees_slice node.now) (slices_in slices.now) }
+{
+    for placed in slices {
+        if sees_slice(node, placed.slice.get()) {
+            return true;
+        }
+    }
+    false
+}
+
+/// Whether a node sees one of the slices that name it or of those that name no node.
+pub fn sees_any<'a>(node: &'a Node, index: &NodeIndex<'a>) -> bool
+    ensures { result ≡ (list_any (sees_slice node.now) (slices_in (own_slices node.now.name index.now)) || list_any (sees_slice node.now) (slices_in index.now.others)) }
+{
+    let own = match index.named.get(&NameRef::of(&node.name)) {
+        Some(own) => sees_one(node, own.as_slice()),
+        None => false,
+    };
+    own || sees_one(node, index.others.as_slice())
+}
