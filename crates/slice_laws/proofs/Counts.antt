@@ -79,9 +79,9 @@ past most n h = grind (arith, nat_tests)
 
 less_or : (n most : ℕ) → (most < n) ⊎ (n ≤ most)
 less_or n most = (elim (nat_lt most n) as (λ b. nat_lt most n ≡ b → (most < n) ⊎ (n ≤ most)) [
-      | true ↦ λ h. inl (ltb-true most n h)
-      | false ↦ λ h. inr (ltb-false most n h)
-    ]) refl
+  | true ↦ λ h. inl (ltb-true most n h)
+  | false ↦ λ h. inr (ltb-false most n h)
+]) refl
 
 -- an item whose name is new, with few counters
 taken_in : {X : Type 0} (name : List ℕ) (most : ℕ) (text : X → List ℕ) (path at : List Step) (met : ℕ) (before : List X) (d : Data) (x : X) → is_among (text x) (map text before) ≡ false → met + has d ≤ most → judged_item name most text path at met before d x ≡ Ok (x, met + has d)
