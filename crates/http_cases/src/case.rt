@@ -1,0 +1,34 @@
+use crate::reading::{cuts, faults, read};
+use crate::spelling::from_text;
+use crate::writing::reply;
+use std::alloc::{AllocError, Global};
+
+/// A text up to its first space, and what is behind that.
+fn cut_word(text: &str) -> (&str, &str) {
+    text.split_once(' ').unwrap_or((text, ""))
+}
+
+/// A case such as `reply 200 json {}`.
+fn of_reply(alloc: Global, text: &str) -> Result<String, AllocError> {
+    let (code, rest) = cut_word(text);
+    let (kind, body) = cut_word(rest);
+    match code.parse::<u16>() {
+        Ok(code) => reply(alloc, code, kind == "json", from_text(alloc, body)?),
+        Err(_) => String::from_str(alloc, "no case"),
+    }
+}
+
+/// The line of a case.
+pub fn answer(alloc: Global, line: &str) -> Result<String, AllocError> {
+    if line.is_empty() || line.starts_with('#') {
+        return String::from_str(alloc, line);
+    }
+    let (verb, text) = cut_word(line);
+    match verb {
+        "read" => read(alloc, &from_text(alloc, text)?),
+        "cuts" => cuts(alloc, &from_text(alloc, text)?),
+        "faults" => faults(alloc, &from_text(alloc, text)?),
+        "reply" => of_reply(alloc, text),
+        _ => String::from_str(alloc, "no case"),
+    }
+}

@@ -1,0 +1,23 @@
+//! Runs cases of requests and replies of HTTP: reads one a line from the standard input and prints one
+//! line for each, so that the expected lines of the file `stdout` stand beside those of `stdin`, whose
+//! head says what a case is. An empty line and a line that begins with `#` are printed as they are.
+#![tactic(auto)]
+
+mod case;
+mod reading;
+mod spelling;
+mod writing;
+
+use std::io;
+
+fn print_answer(rt: &HostRuntime, line: &str) -> io::Result<()> {
+    let answer = case::answer(rt.alloc(), line)?;
+    rt.println(answer)
+}
+
+fn main(rt: HostRuntime) -> io::Result<()> {
+    for line in rt.lines(rt.alloc()) {
+        print_answer(&rt, line?.as_str())?;
+    }
+    Ok(())
+}

@@ -1,0 +1,11 @@
+mod Options
+mod Numbers
+mod Lengths
+mod Scanned
+mod Ends
+mod Known
+mod Heading
+mod Finding
+mod Joining
+mod Fronts
+mod Single

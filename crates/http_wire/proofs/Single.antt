@@ -1,0 +1,272 @@
+-- Bytes have one list of requests and one ending.
+use Rattle.std.proofs.Common.{ℕ, ◌≤◌, ◌<◌, ◌≡◌, ◌∙◌, ◌⊎◌, inl, inr, Bool, true, false, List, [], ◌∷◌, ◌++◌, length, take, refl, sym, ap, subst, arith, append_assoc, append-nil}
+use Rattle.std.specs.Prelude.{Option, None, Some, Result, Ok, Err, MatchBool}
+use Rattle.std.proofs.lemmas.List.{length-append, take_all, take-append-le}
+use Rattle.httparse.proofs.GrammarLemmas.{request_unique}
+use Rattle.http_wire.specs.declared.error.WireError.{WireError}
+use Rattle.http_wire.specs.declared.error.WireError.TheVariants as error
+use Rattle.http_wire.specs.declared.head.Head.{Head}
+use Rattle.http_wire.specs.Fields.{meaning_of}
+use Rattle.http_wire.specs.Heads.{HasNoHead, IsBlank, IsHead, IsLongHead, IsOpenHead, behind_empty, line_count, through_empty}
+use Rattle.http_wire.specs.Requests.{AreRequests, BadHead, Closed, EndedEarly, Ending, Follow, HasMeaning, IsBadHead, IsFirst, IsNoHead, IsRequest, IsTooLong, Lie, Message, NoLength, Says, Stops, TooLong, message_of}
+use Rattle.http_wire.proofs.Fronts.{Fronted, none_at_all, no_head_there, one_head, split_same}
+
+-- what a head that stands at the front is found to be
+data Verdict : Type 0 where
+  Bare : Verdict
+  Crowded : Verdict
+  Meant : (r : Result Head WireError) → Verdict
+
+abbrev Judged : List ℕ → Verdict → Type 0
+Judged lines Bare = (line_count lines ≤ 66) × IsNoHead lines
+Judged lines Crowded = 66 < line_count lines
+Judged lines (Meant r) = (line_count lines ≤ 66) × HasMeaning lines r
+
+meant_same : (lines : List ℕ) (r q : Result Head WireError) → HasMeaning lines r → HasMeaning lines q → r ≡ q
+meant_same lines r q h k = sym h.meaning_is ∙ ap meaning_of (request_unique lines h.head k.head [] [] h.reads k.reads).0 ∙ k.meaning_is
+
+too_many : (n : ℕ) → n ≤ 66 → 66 < n → ⊥
+too_many n h k = omega (arith, h, k)
+
+judged_same : (lines : List ℕ) (v w : Verdict) → Judged lines v → Judged lines w → v ≡ w
+judged_same lines Bare Bare h k = refl
+judged_same lines Bare Crowded h k = absurd (too_many (line_count lines) h.0 k)
+judged_same lines Bare (Meant q) h k = absurd (h.1 k.1.head k.1.reads)
+judged_same lines Crowded Bare h k = absurd (too_many (line_count lines) k.0 h)
+judged_same lines Crowded Crowded h k = refl
+judged_same lines Crowded (Meant q) h k = absurd (too_many (line_count lines) k.0 h)
+judged_same lines (Meant r) Bare h k = absurd (k.1 h.1.head h.1.reads)
+judged_same lines (Meant r) Crowded h k = absurd (too_many (line_count lines) h.0 k)
+judged_same lines (Meant r) (Meant q) h k = ap (λ (x : Result Head WireError). Meant x) (meant_same lines r q h.1 k.1)
+
+-- bytes with a head at their front
+record Headed (bytes front lines rest : List ℕ) (v : Verdict) : Type 0 where
+  at : Fronted bytes front lines rest
+  judged : Judged lines v
+
+record SameHead (front rest : List ℕ) (v : Verdict) (front' rest' : List ℕ) (v' : Verdict) : Type 0 where
+  fronts : front ≡ front'
+  rests : rest ≡ rest'
+  verdicts : v ≡ v'
+
+same_head : (bytes front lines rest front' lines' rest' : List ℕ) (v v' : Verdict) → Headed bytes front lines rest v → Headed bytes front' lines' rest' v' → SameHead front rest v front' rest' v'
+same_head bytes front lines rest front' lines' rest' v v' h k =
+    let s = one_head bytes front lines rest front' lines' rest' h.at k.at in
+    record { fronts = s.fronts; rests = s.rests; verdicts = judged_same lines' v v' (subst (λ (l : List ℕ). Judged l v) s.lines_are h.judged) k.judged }
+
+-- how the requests end where no request stands first
+
+abbrev ending_of : Verdict → Option Ending
+ending_of Bare = Some BadHead
+ending_of Crowded = Some TooLong
+ending_of (Meant (Ok head)) = None
+ending_of (Meant (Err error.BadHead)) = Some BadHead
+ending_of (Meant (Err error.NoLength)) = Some NoLength
+ending_of (Meant (Err error.TooLong)) = Some TooLong
+ending_of (Meant (Err error.EndedEarly)) = None
+ending_of (Meant (Err error.ReadFault)) = None
+ending_of (Meant (Err error.WriteFault)) = None
+ending_of (Meant (Err error.Memory)) = None
+
+record Refused (bytes : List ℕ) (e : Ending) : Type 0 where
+  front : List ℕ
+  lines : List ℕ
+  rest : List ℕ
+  verdict : Verdict
+  head : Headed bytes front lines rest verdict
+  ending : ending_of verdict ≡ Some e
+
+-- a head that says how long a body is
+record Begun (bytes front rest : List ℕ) (head : Head) : Type 0 where
+  lines : List ℕ
+  headed : Headed bytes front lines rest (Meant (Ok head))
+
+record Cut (bytes : List ℕ) (e : Ending) : Type 0 where
+  front : List ℕ
+  rest : List ℕ
+  head : Head
+  begun : Begun bytes front rest head
+  short : length rest < head.length
+  early : e ≡ EndedEarly
+
+abbrev Unheaded : List ℕ → Ending → Type 0
+Unheaded bytes Closed = IsBlank bytes
+Unheaded bytes BadHead = ⊥
+Unheaded bytes NoLength = ⊥
+Unheaded bytes TooLong = IsLongHead bytes
+Unheaded bytes EndedEarly = IsOpenHead bytes
+
+abbrev Shape : List ℕ → Ending → Type 0
+Shape bytes e = Unheaded bytes e ⊎ (Refused bytes e ⊎ Cut bytes e)
+
+short_refused : (bytes front lines rest : List ℕ) (e : Ending) (v : Verdict) → bytes ≡ front ++ rest → IsHead front lines → Judged lines v → ending_of v ≡ Some e → Refused bytes e
+short_refused bytes front lines rest e v is head judged ending = record {
+  front = front;
+  lines = lines;
+  rest = rest;
+  verdict = v;
+  head = record { at = record { is = is; head = head }; judged = judged };
+  ending = ending;
+}
+
+said_refused : (bytes front rest : List ℕ) (e : Ending) (r : Result Head WireError) → bytes ≡ front ++ rest → Says front r → ending_of (Meant r) ≡ Some e → Refused bytes e
+said_refused bytes front rest e r is says ending = short_refused bytes front says.lines rest e (Meant r) is says.short.head (says.short.few, says.means) ending
+
+bad_shape : (bytes front rest : List ℕ) → bytes ≡ front ++ rest → IsBadHead front → Refused bytes BadHead
+bad_shape bytes front rest is (inl stray) = short_refused bytes front stray.lines rest BadHead Bare is stray.short.head (stray.short.few, stray.none) refl
+bad_shape bytes front rest is (inr says) = said_refused bytes front rest BadHead (Err error.BadHead) is says refl
+
+begun_of : (bytes front rest : List ℕ) (head : Head) → bytes ≡ front ++ rest → Says front (Ok head) → Begun bytes front rest head
+begun_of bytes front rest head is says = record { lines = says.lines; headed = record { at = record { is = is; head = says.short.head }; judged = (says.short.few, says.means) } }
+
+cut_same : (most : ℕ) (bytes front rest : List ℕ) → bytes ≡ front ++ rest → most < length front → take most bytes ≡ take most front
+cut_same most bytes front rest is long = ap (take most) is ∙ take-append-le most front rest (omega (arith, long))
+
+more_long : (most : ℕ) (bytes front rest : List ℕ) → bytes ≡ front ++ rest → most < length front → most < length bytes
+more_long most bytes front rest is long = omega (arith, long, ap length is, length-append front rest)
+
+long_shape : (bytes front rest : List ℕ) → bytes ≡ front ++ rest → IsTooLong front → Shape bytes TooLong
+long_shape bytes front rest is (inl h) = inl (record { longer = more_long 16384 bytes front rest is h.longer; open_ = subst (λ (l : List ℕ). HasNoHead l) (sym (cut_same 16384 bytes front rest is h.longer)) h.open_ })
+long_shape bytes front rest is (inr (inl h)) = inr (inl (short_refused bytes front h.lines rest TooLong Crowded is h.head h.many refl))
+long_shape bytes front rest is (inr (inr says)) = inr (inl (said_refused bytes front rest TooLong (Err error.TooLong) is says refl))
+
+shape_of : (bytes : List ℕ) (e : Ending) → Stops bytes e → Shape bytes e
+shape_of bytes Closed h = inl h
+shape_of bytes BadHead h = inr (inl (bad_shape bytes h.0 h.1 h.2 h.3))
+shape_of bytes NoLength h = inr (inl (said_refused bytes h.0 h.1 NoLength (Err error.NoLength) h.2 h.3 refl))
+shape_of bytes TooLong h = long_shape bytes h.0 h.1 h.2 h.3
+shape_of bytes EndedEarly (inl h) = inl h
+shape_of bytes EndedEarly (inr h) = inr (inr (record { front = h.front; rest = h.body; head = h.head; begun = begun_of bytes h.front h.body h.head h.is h.says; short = h.short; early = refl }))
+
+-- two endings
+
+no_head_in : (bytes : List ℕ) (e : Ending) → Unheaded bytes e → HasNoHead (take 16384 bytes)
+no_head_in bytes Closed h = subst (λ (l : List ℕ). HasNoHead l) (sym (take_all 16384 bytes h.within)) (ap through_empty h.only ∙ none_at_all)
+no_head_in bytes BadHead h = absurd h
+no_head_in bytes NoLength h = absurd h
+no_head_in bytes TooLong h = h.open_
+no_head_in bytes EndedEarly h = subst (λ (l : List ℕ). HasNoHead l) (sym (take_all 16384 bytes h.within)) h.open_
+
+not_both : (bytes front lines rest : List ℕ) (v : Verdict) (e : Ending) → Headed bytes front lines rest v → Unheaded bytes e → ⊥
+not_both bytes front lines rest v e h u = no_head_there bytes front lines rest 16384 h.at.head.within h.at (no_head_in bytes e u)
+
+begun_blank : (bytes : List ℕ) → behind_empty bytes ≡ [] → 0 < length (behind_empty bytes) → ⊥
+begun_blank bytes e h = omega (arith, ap length e, h)
+
+unheaded_same : (bytes : List ℕ) (e f : Ending) → Unheaded bytes e → Unheaded bytes f → e ≡ f
+unheaded_same bytes BadHead f h k = absurd h
+unheaded_same bytes NoLength f h k = absurd h
+unheaded_same bytes Closed BadHead h k = absurd k
+unheaded_same bytes Closed NoLength h k = absurd k
+unheaded_same bytes Closed Closed h k = refl
+unheaded_same bytes Closed TooLong h k = absurd (omega (arith, h.within, k.longer))
+unheaded_same bytes Closed EndedEarly h k = absurd (begun_blank bytes h.only k.begun)
+unheaded_same bytes TooLong BadHead h k = absurd k
+unheaded_same bytes TooLong NoLength h k = absurd k
+unheaded_same bytes TooLong Closed h k = absurd (omega (arith, k.within, h.longer))
+unheaded_same bytes TooLong TooLong h k = refl
+unheaded_same bytes TooLong EndedEarly h k = absurd (omega (arith, k.within, h.longer))
+unheaded_same bytes EndedEarly BadHead h k = absurd k
+unheaded_same bytes EndedEarly NoLength h k = absurd k
+unheaded_same bytes EndedEarly Closed h k = absurd (begun_blank bytes k.only h.begun)
+unheaded_same bytes EndedEarly TooLong h k = absurd (omega (arith, h.within, k.longer))
+unheaded_same bytes EndedEarly EndedEarly h k = refl
+
+some_ending : (e f : Ending) → ◌≡◌ {A = Option Ending} (Some e) (Some f) → e ≡ f
+some_ending e f h = cc
+
+none_ending : (e : Ending) → ◌≡◌ {A = Option Ending} None (Some e) → ⊥
+none_ending e h = absurd (cc)
+
+refused_same : (bytes : List ℕ) (e f : Ending) → Refused bytes e → Refused bytes f → e ≡ f
+refused_same bytes e f h k =
+    let s = same_head bytes h.front h.lines h.rest k.front k.lines k.rest h.verdict k.verdict h.head k.head in
+    some_ending e f (sym h.ending ∙ ap ending_of s.verdicts ∙ k.ending)
+
+refused_begun : (bytes front rest : List ℕ) (head : Head) (e : Ending) → Refused bytes e → Begun bytes front rest head → ⊥
+refused_begun bytes front rest head e h k =
+    let s = same_head bytes h.front h.lines h.rest front k.lines rest h.verdict (Meant (Ok head)) h.head k.headed in
+    none_ending e (sym (ap ending_of s.verdicts) ∙ h.ending)
+
+shape_same : (bytes : List ℕ) (e f : Ending) → Shape bytes e → Shape bytes f → e ≡ f
+shape_same bytes e f (inl h) (inl k) = unheaded_same bytes e f h k
+shape_same bytes e f (inl h) (inr (inl k)) = absurd (not_both bytes k.front k.lines k.rest k.verdict e k.head h)
+shape_same bytes e f (inl h) (inr (inr k)) = absurd (not_both bytes k.front k.begun.lines k.rest (Meant (Ok k.head)) e k.begun.headed h)
+shape_same bytes e f (inr (inl h)) (inl k) = absurd (not_both bytes h.front h.lines h.rest h.verdict f h.head k)
+shape_same bytes e f (inr (inl h)) (inr (inl k)) = refused_same bytes e f h k
+shape_same bytes e f (inr (inl h)) (inr (inr k)) = absurd (refused_begun bytes k.front k.rest k.head e h k.begun)
+shape_same bytes e f (inr (inr h)) (inl k) = absurd (not_both bytes h.front h.begun.lines h.rest (Meant (Ok h.head)) f h.begun.headed k)
+shape_same bytes e f (inr (inr h)) (inr (inl k)) = absurd (refused_begun bytes h.front h.rest h.head f k h.begun)
+shape_same bytes e f (inr (inr h)) (inr (inr k)) = h.early ∙ sym k.early
+
+-- a request and another, or an ending
+
+head_same : (h k : Head) → ◌≡◌ {A = Verdict} (Meant (Ok h)) (Meant (Ok k)) → h ≡ k
+head_same h k e = cc
+
+same_begun : (bytes front rest front' rest' : List ℕ) (head head' : Head) → Begun bytes front rest head → Begun bytes front' rest' head' → (rest ≡ rest') × (head ≡ head')
+same_begun bytes front rest front' rest' head head' h k =
+    let s = same_head bytes front h.lines rest front' k.lines rest' (Meant (Ok head)) (Meant (Ok head')) h.headed k.headed in
+    (s.rests, head_same head head' s.verdicts)
+
+request_begun : (bytes text rest : List ℕ) (m : Message) (r : IsRequest text m) → bytes ≡ text ++ rest → Begun bytes r.front (r.body ++ rest) r.head
+request_begun bytes text rest m r is = begun_of bytes r.front (r.body ++ rest) r.head (is ∙ ap (λ (l : List ℕ). l ++ rest) r.is ∙ append_assoc r.front r.body rest) r.says
+
+request_same : (bytes text rest text' rest' : List ℕ) (m m' : Message) → bytes ≡ text ++ rest → IsRequest text m → bytes ≡ text' ++ rest' → IsRequest text' m' → (m ≡ m') × (rest ≡ rest')
+request_same bytes text rest text' rest' m m' is r is' r' =
+    let s = same_begun bytes r.front (r.body ++ rest) r'.front (r'.body ++ rest') r.head r'.head (request_begun bytes text rest m r is) (request_begun bytes text' rest' m' r' is') in
+    let b = split_same r.body r'.body rest rest' (r.long ∙ ap (λ (h : Head). h.length) s.1 ∙ sym r'.long) s.0 in
+    (r.message_is ∙ ap (λ (h : Head). message_of h r.body) s.1 ∙ ap (λ (l : List ℕ). message_of r'.head l) b.0 ∙ sym r'.message_is, b.1)
+
+too_short : (body rest whole : List ℕ) (n k : ℕ) → body ++ rest ≡ whole → length body ≡ n → n ≡ k → length whole < k → ⊥
+too_short body rest whole n k e l s h = omega (arith, length-append body rest, ap length e, l, s, h)
+
+request_or_ending : (bytes text rest : List ℕ) (m : Message) (e : Ending) → bytes ≡ text ++ rest → IsRequest text m → Shape bytes e → ⊥
+request_or_ending bytes text rest m e is r (inl u) =
+    let b = request_begun bytes text rest m r is in not_both bytes r.front b.lines (r.body ++ rest) (Meant (Ok r.head)) e b.headed u
+request_or_ending bytes text rest m e is r (inr (inl k)) = refused_begun bytes r.front (r.body ++ rest) r.head e k (request_begun bytes text rest m r is)
+request_or_ending bytes text rest m e is r (inr (inr k)) =
+    let s = same_begun bytes r.front (r.body ++ rest) k.front k.rest r.head k.head (request_begun bytes text rest m r is) k.begun in
+    too_short r.body rest k.rest r.head.length k.head.length s.0 r.long (ap (λ (h : Head). h.length) s.1) k.short
+
+-- all of them
+
+go_on : (last : Bool) (rest : List ℕ) (ms ns : List Message) (e f : Ending) → MatchBool last ((ms ≡ []) × (e ≡ Closed)) (Lie rest ms e) → MatchBool last ((ns ≡ []) × (f ≡ Closed)) (Lie rest ns f)
+    → (Lie rest ms e → Lie rest ns f → (ms ≡ ns) × (e ≡ f)) → (ms ≡ ns) × (e ≡ f)
+go_on true rest ms ns e f h k more = (h.0 ∙ sym k.0, h.1 ∙ sym k.1)
+go_on false rest ms ns e f h k more = more h k
+
+pub lie_one : (bytes : List ℕ) (ms ns : List Message) (e f : Ending) → Lie bytes ms e → Lie bytes ns f → (ms ≡ ns) × (e ≡ f)
+lie_one bytes [] [] e f h k = (refl, shape_same bytes e f (shape_of bytes e h) (shape_of bytes f k))
+lie_one bytes [] (n ∷ ns) e f h k = absurd (request_or_ending bytes k.0 k.1 n e k.2 k.3 (shape_of bytes e h))
+lie_one bytes (m ∷ ms) [] e f h k = absurd (request_or_ending bytes h.0 h.1 m f h.2 h.3 (shape_of bytes f k))
+lie_one bytes (m ∷ ms) (n ∷ ns) e f h k =
+    let s = request_same bytes h.0 h.1 k.0 k.1 m n h.2 h.3 k.2 k.3 in
+    let there : Follow m h.1 ns f = subst (λ (l : List ℕ). Follow m l ns f) (sym s.1) (subst (λ (x : Message). Follow x k.1 ns f) (sym s.0) k.4) in
+    let r = go_on m.last h.1 ms ns e f h.4 there (λ p q. lie_one h.1 ms ns e f p q) in
+    (ap (λ (x : Message). x ∷ ms) s.0 ∙ ap (λ (l : List Message). n ∷ l) r.0, r.1)
+
+-- a request that stands first is the first of them
+
+pub lie_first : (text rest : List ℕ) (m : Message) (ms : List Message) (e : Ending) → IsRequest text m → Lie (text ++ rest) ms e → IsFirst m rest ms e
+lie_first text rest m [] e r h = absurd (request_or_ending (text ++ rest) text rest m e refl r (shape_of (text ++ rest) e h))
+lie_first text rest m (n ∷ ns) e r h =
+    let s = request_same (text ++ rest) text rest h.0 h.1 m n refl r h.2 h.3 in
+    record { others = ns; first = ap (λ (x : Message). x ∷ ns) (sym s.0); follow = subst (λ (l : List ℕ). Follow m l ns e) (sym s.1) (subst (λ (x : Message). Follow x h.1 ns e) (sym s.0) h.4) }
+
+-- one request more, and what follows
+
+pub one_more : (bytes text : List ℕ) (ms : List Message) (m : Message) → AreRequests bytes ms → IsRequest text m → m.last ≡ false → AreRequests (bytes ++ text) (ms ++ m ∷ [])
+one_more bytes text [] m h r goes = (text, [], ap (λ (l : List ℕ). l ++ text) h ∙ sym (append-nil text), r, goes, refl)
+one_more bytes text (n ∷ ms) m h r goes =
+    (h.0, h.1 ++ text, ap (λ (l : List ℕ). l ++ text) h.2 ∙ append_assoc h.0 h.1 text, h.3, h.4, one_more h.1 text ms m h.5 r goes)
+
+pub lie_behind : (bytes rest : List ℕ) (ms ns : List Message) (e : Ending) → AreRequests bytes ms → Lie rest ns e → Lie (bytes ++ rest) (ms ++ ns) e
+lie_behind bytes rest [] ns e h k = subst (λ (l : List ℕ). Lie (l ++ rest) ns e) (sym h) k
+lie_behind bytes rest (m ∷ ms) ns e h k = (
+  h.0,
+  h.1 ++ rest,
+  ap (λ (l : List ℕ). l ++ rest) h.2 ∙ append_assoc h.0 h.1 rest,
+  h.3,
+  subst (λ (b : Bool). MatchBool b ((ms ++ ns ≡ []) × (e ≡ Closed)) (Lie (h.1 ++ rest) (ms ++ ns) e)) (sym h.4) (lie_behind h.1 rest ms ns e h.5 k),
+)

@@ -1,0 +1,10 @@
+pub mod Heads
+pub mod Fields
+pub mod Firsts
+pub mod Requests
+pub mod Meanings
+pub mod Scan
+pub mod Reader
+pub mod Filling
+pub mod Steps
+pub mod Replies

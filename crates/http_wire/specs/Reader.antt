@@ -1,0 +1,54 @@
+-- What a call for the next request returns.
+use Rattle.std.specs.Prelude.{ℕ, ◌≡◌, ◌≤◌, ◌⊎◌, List, Option, None, Some, Result, Ok, Err, IfErr, IsErrOf, OnOk}
+use Rattle.std.specs.Io.KnownBytes.{Consumes, IsAtEnd, prepend_known}
+use Rattle.dra_ports.specs.Causes.{Rose}
+use Rattle.dra_ports.specs.Fronts.{ConsumesFront}
+use Rattle.dra_ports.specs.declared.error.PortError.{PortError}
+use Rattle.dra_ports.specs.declared.error.PortError.TheVariants as port
+use Rattle.http_wire.specs.declared.error.WireError.{WireError}
+use Rattle.http_wire.specs.declared.error.WireError.TheVariants as error
+use Rattle.http_wire.specs.declared.request.Request.{Request}
+use Rattle.http_wire.specs.Heads.{IsBlank}
+use Rattle.http_wire.specs.Requests.{Message, IsRequest, IsBadHead, IsTooLong, IsOpen, Says}
+
+-- the error of a read that fails
+abbrev pub read_error : PortError → WireError
+read_error port.Failed = error.ReadFault
+read_error port.Memory = error.Memory
+
+-- what remains: the bytes that were taken of the source and belong to no request so far, and those that it has left
+abbrev pub remaining : List ℕ → Option (List ℕ) → Option (List ℕ)
+remaining ahead left = prepend_known ahead left
+
+-- what remained begins with bytes of which this holds, and behind them stands the rest
+pub record Begins (ahead : List ℕ) (left rest : Option (List ℕ)) (P : List ℕ → Type 0) : Type 0 where
+  pub front : List ℕ
+  pub consumed : Consumes (remaining ahead left) rest front
+  pub fact : P front
+
+abbrev pub message : Request → Message
+message r = record { method = r.method; target = r.target; body = r.body.items; last = r.last }
+
+-- no request is begun, or one is and doesn't end
+abbrev pub IsUndone : List ℕ → Type 0
+IsUndone front = IsBlank front ⊎ IsOpen front
+
+-- what each answer says of the bytes that remained before the call and remain after it. Behind a request that is
+-- refused stands what was taken of the source besides, and what it has left
+abbrev pub Answers : List ℕ → List ℕ → Option (List ℕ) → Option (List ℕ) → Result (Option Request) WireError → Type 0
+Answers ahead ahead_now left left_now (Ok (Some r)) = Begins ahead left (remaining ahead_now left_now) (λ front. IsRequest front (message r))
+Answers ahead ahead_now left left_now (Ok None) = Begins ahead left (remaining ahead_now left_now) IsBlank × IsAtEnd (remaining ahead_now left_now)
+Answers ahead ahead_now left left_now (Err error.BadHead) = (rest : List ℕ) × Begins ahead left (remaining rest left_now) IsBadHead
+Answers ahead ahead_now left left_now (Err error.NoLength) = (rest : List ℕ) × Begins ahead left (remaining rest left_now) (λ front. Says front (Err error.NoLength))
+Answers ahead ahead_now left left_now (Err error.TooLong) = (rest : List ℕ) × Begins ahead left (remaining rest left_now) IsTooLong
+Answers ahead ahead_now left left_now (Err error.EndedEarly) = Begins ahead left left_now IsOpen × IsAtEnd left_now
+Answers ahead ahead_now left left_now (Err error.ReadFault) = Begins ahead left left_now IsUndone
+Answers ahead ahead_now left left_now (Err error.WriteFault) = ⊥
+Answers ahead ahead_now left left_now (Err error.Memory) = ConsumesFront (remaining ahead left) left_now
+
+-- the count of faults never falls, `ReadFault` comes only where it rose, and with each other answer it stays
+pub record HasReadCause {T : Type 0} (before now : ℕ) (result : Result T WireError) : Type 0 where
+  pub later : before ≤ now
+  pub failed : IsErrOf result error.ReadFault → Rose before now
+  pub ok : OnOk result (now ≡ before)
+  pub other : IfErr result (λ e. (e ≡ error.ReadFault → ⊥) → now ≡ before)

@@ -1,0 +1,119 @@
+-- The requests that stand in bytes, one behind another.
+use Rattle.std.specs.Prelude.{ℕ, ◌≡◌, ◌≤◌, ◌<◌, ◌⊎◌, Bool, false, List, [], ◌∷◌, ◌++◌, Result, Ok, Err, MatchBool, length}
+use Rattle.httparse.specs.Grammar.{RequestHead, ReadsRequest}
+use Rattle.http_wire.specs.declared.error.WireError.{WireError}
+use Rattle.http_wire.specs.declared.error.WireError.TheVariants as error
+use Rattle.http_wire.specs.declared.head.Head.{Head}
+use Rattle.http_wire.specs.Heads.{IsHead, IsBlank, IsOpenHead, IsLongHead, line_count, lines_most}
+use Rattle.http_wire.specs.Fields.{meaning_of}
+
+-- the lines are a head by `httparse`'s grammar, and this is what it says
+pub record HasMeaning (lines : List ℕ) (meaning : Result Head WireError) : Type 0 where
+  pub head : RequestHead
+  pub reads : ReadsRequest lines head []
+  pub meaning_is : meaning_of head ≡ meaning
+
+-- the lines are no head by that grammar
+abbrev pub IsNoHead : List ℕ → Type 0
+IsNoHead lines = (h : RequestHead) → ReadsRequest lines h [] → ⊥
+
+-- the bytes are a head that isn't too long
+pub record IsShortHead (front lines : List ℕ) : Type 0 where
+  pub head : IsHead front lines
+  pub few : line_count lines ≤ lines_most
+
+-- the bytes are a head that isn't too long, with this meaning
+pub record Says (front : List ℕ) (meaning : Result Head WireError) : Type 0 where
+  pub lines : List ℕ
+  pub short : IsShortHead front lines
+  pub means : HasMeaning lines meaning
+
+-- a request
+pub record Message : Type 0 where
+  pub method : List ℕ
+  pub target : List ℕ
+  pub body : List ℕ
+  pub last : Bool
+
+abbrev pub message_of : Head → List ℕ → Message
+message_of head body = record { method = head.method; target = head.target; body = body; last = head.last }
+
+-- the bytes are this request, with the empty lines before it: its head and as many bytes as that says
+pub record IsRequest (text : List ℕ) (message : Message) : Type 0 where
+  pub front : List ℕ
+  pub body : List ℕ
+  pub is : text ≡ front ++ body
+  pub head : Head
+  pub says : Says front (Ok head)
+  pub long : length body ≡ head.length
+  pub message_is : message ≡ message_of head body
+
+-- a head that isn't one by `httparse`'s grammar, or whose lengths are no number or different
+pub record IsStray (front : List ℕ) : Type 0 where
+  pub lines : List ℕ
+  pub short : IsShortHead front lines
+  pub none : IsNoHead lines
+
+abbrev pub IsBadHead : List ℕ → Type 0
+IsBadHead front = IsStray front ⊎ Says front (Err error.BadHead)
+
+-- more lines than a head may have
+pub record HasManyLines (front : List ℕ) : Type 0 where
+  pub lines : List ℕ
+  pub head : IsHead front lines
+  pub many : lines_most < line_count lines
+
+-- a head of too many bytes or lines, or a body of too many bytes
+abbrev pub IsTooLong : List ℕ → Type 0
+IsTooLong front = IsLongHead front ⊎ (HasManyLines front ⊎ Says front (Err error.TooLong))
+
+-- a body that has fewer bytes than its head says
+pub record IsOpenBody (text : List ℕ) : Type 0 where
+  pub front : List ℕ
+  pub body : List ℕ
+  pub is : text ≡ front ++ body
+  pub head : Head
+  pub says : Says front (Ok head)
+  pub short : length body < head.length
+
+-- a request is begun, is not refused so far, and doesn't end
+abbrev pub IsOpen : List ℕ → Type 0
+IsOpen text = IsOpenHead text ⊎ IsOpenBody text
+
+-- how the requests of a connection end
+pub data Ending : Type 0 where
+  -- the input ends between two requests, or the last request ends the connection
+  Closed : Ending
+  -- the next request is refused, and what stands behind it isn't looked at
+  BadHead NoLength TooLong : Ending
+  -- the input ends inside a request
+  EndedEarly : Ending
+
+-- why no request stands first
+abbrev pub Stops : List ℕ → Ending → Type 0
+Stops bytes Closed = IsBlank bytes
+Stops bytes BadHead = (front rest : List ℕ) × (bytes ≡ front ++ rest) × IsBadHead front
+Stops bytes NoLength = (front rest : List ℕ) × (bytes ≡ front ++ rest) × Says front (Err error.NoLength)
+Stops bytes TooLong = (front rest : List ℕ) × (bytes ≡ front ++ rest) × IsTooLong front
+Stops bytes EndedEarly = IsOpen bytes
+
+-- the requests of bytes: these are the requests that stand in them in order, one behind another, and then this
+-- ending; what stands behind a request that ends the connection isn't looked at
+abbrev pub Lie : List ℕ → List Message → Ending → Type 0
+Lie bytes [] ending = Stops bytes ending
+Lie bytes (m ∷ ms) ending = (text rest : List ℕ) × (bytes ≡ text ++ rest) × IsRequest text m × MatchBool m.last ((ms ≡ []) × (ending ≡ Closed)) (Lie rest ms ending)
+
+-- behind a request stand these requests and this ending
+abbrev pub Follow : Message → List ℕ → List Message → Ending → Type 0
+Follow m rest ms ending = MatchBool m.last ((ms ≡ []) × (ending ≡ Closed)) (Lie rest ms ending)
+
+-- a request, and behind it these
+pub record IsFirst (m : Message) (rest : List ℕ) (ms : List Message) (ending : Ending) : Type 0 where
+  pub others : List Message
+  pub first : ms ≡ m ∷ others
+  pub follow : Follow m rest others ending
+
+-- the bytes are these requests in order, one behind another, and none of them ends the connection
+abbrev pub AreRequests : List ℕ → List Message → Type 0
+AreRequests bytes [] = bytes ≡ []
+AreRequests bytes (m ∷ ms) = (text rest : List ℕ) × (bytes ≡ text ++ rest) × IsRequest text m × (m.last ≡ false) × AreRequests rest ms

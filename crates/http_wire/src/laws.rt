@@ -1,0 +1,16 @@
+ghost use Rattle.std.specs.Prelude.{◌≡◌, ◌∷◌, ◌++◌, [], List, ℕ, false};
+ghost use Rattle.http_wire.specs.Requests.{AreRequests, Ending, IsFirst, IsRequest, Lie, Message};
+
+/// The requests of bytes lie in them in order, one behind another, up to an ending.
+///
+/// Bytes have one list of requests and one ending (`one`), and a request that stands first is the
+/// first of them, with those of the bytes behind it (`first`): so a reader that takes the request
+/// that stands first, again and again, can give no others. Requests that don't end the connection,
+/// and one behind them that doesn't either, are such requests again (`more`). Behind them stand the
+/// requests and the ending of what follows (`ends`).
+pub fn requests_lie_in_order()
+    ensures one { (bytes : List ℕ) (ms ns : List Message) (e f : Ending) → Lie bytes ms e → Lie bytes ns f → (ms ≡ ns) × (e ≡ f) }
+    ensures first { (text rest : List ℕ) (m : Message) (ms : List Message) (e : Ending) → IsRequest text m → Lie (text ++ rest) ms e → IsFirst m rest ms e }
+    ensures more { (bytes text : List ℕ) (ms : List Message) (m : Message) → AreRequests bytes ms → IsRequest text m → m.last ≡ false → AreRequests (bytes ++ text) (ms ++ m ∷ []) }
+    ensures ends { (bytes rest : List ℕ) (ms ns : List Message) (e : Ending) → AreRequests bytes ms → Lie rest ns e → Lie (bytes ++ rest) (ms ++ ns) e }
+{}

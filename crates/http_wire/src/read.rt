@@ -1,0 +1,165 @@
+ghost use Rattle.std.specs.Prelude.{◌≡◌, ◌<◌, ◌≤◌, ◌+◌, ◌-◌, ◌++◌, [], OnErr, OnOk, count_by, length, take, drop, min};
+ghost use Rattle.http_wire.specs.Heads.{line_count};
+ghost use Rattle.http_wire.specs.Meanings.{SaysOf};
+ghost use Rattle.http_wire.specs.Reader.{Answers, HasReadCause};
+ghost use Rattle.http_wire.specs.Steps.{EndsAt, Finds, Found, TakesBody, TakesHead};
+
+use crate::head::{Head, read_head};
+use crate::scan::{HEAD, Place, Scan, is_before, is_done};
+use crate::{Request, RequestReader, WireError};
+use dra_ports::Source;
+use std::alloc::{AllocError, Global};
+
+/// The most lines of a head: its first, 64, and the empty one.
+const LINES: usize = 66;
+
+impl RequestReader {
+    /// The next request, or `None` if no byte is left and no request is begun.
+    ///
+    /// Lines end with LF, and a CR before the LF belongs to the end. Empty lines before a request are
+    /// skipped. A head has at most 16,384 bytes, with the empty lines before it, and at most 64 lines
+    /// between its first line and the empty one that ends it. A body has as many bytes as
+    /// `Content-Length` says, at most 2,097,152, or none.
+    ///
+    /// If the source tells its bytes, a request is returned only if it is the first of what remains,
+    /// `None` only if at most 16,384 bytes of empty lines remain, and `BadHead`, `NoLength`,
+    /// `TooLong` and `EndedEarly` only if what remains begins with a request that is refused, or
+    /// ends early, for the reason that the variant names. They are looked at in the order `TooLong`
+    /// of the head, `BadHead`, `NoLength`, `TooLong` of the body.
+    ///
+    /// `ReadFault` is returned only if the source's count of faults rose in this call, or stands at
+    /// its last value, and only if no request stands whole in what was read; with every other result
+    /// the count stays. `Memory` is returned only if memory runs out. Nothing is said of a call after
+    /// an error.
+    pub fn read_request<S: Source>(
+        &mut self,
+        alloc: Global,
+        from: &mut S,
+    ) -> Result<Option<Request>, WireError>
+        ensures answers { Answers self.old self.new (S.left from.old) (S.left from.new) result }
+        ensures cause { HasReadCause (S.faults from.old) (S.faults from.new) result }
+    {
+        let Some(head) = self.take_head(alloc, from)? else {
+            return Ok(None);
+        };
+        let body = self.take_body(alloc, from, head.length)?;
+        Ok(Some(Request {
+            method: head.method,
+            target: head.target,
+            body,
+            last: head.last,
+        }))
+    }
+
+    /// Takes the head of the next request, with the empty lines before it.
+    fn take_head<S: Source>(
+        &mut self,
+        alloc: Global,
+        from: &mut S,
+    ) -> Result<Option<Head>, WireError>
+        ensures takes { TakesHead self.old self.new (S.left from.old) (S.left from.new) result }
+        ensures cause { HasReadCause (S.faults from.old) (S.faults from.new) result }
+    {
+        let Some(scan) = self.find_head(alloc, from)? else {
+            let count = self.ahead().len();
+            self.advance(count);
+            return Ok(None);
+        };
+        let head = head_of(alloc, self.ahead(), scan)?;
+        self.advance(scan.count);
+        Ok(Some(head))
+    }
+
+    /// Finds the end of the next head. None where empty lines alone are left, which are ahead then.
+    fn find_head<S: Source>(
+        &mut self,
+        alloc: Global,
+        from: &mut S,
+    ) -> Result<Option<Scan>, WireError>
+        ensures finds { Finds self.old self.new (S.left from.old) (S.left from.new) result }
+        ensures cause { HasReadCause (S.faults from.old) (S.faults from.new) result }
+    {
+        let mut scan = Scan::new();
+        'pieces: loop {
+            scan = scan.over(self.ahead());
+            if is_done(scan.place) {
+                return Ok(Some(scan));
+            }
+            if self.ahead().len() > HEAD {
+                return Err(WireError::TooLong);
+            }
+            if !self.fill(alloc, from)? {
+                return at_end(scan.place);
+            }
+        }
+    }
+
+    /// Takes so many bytes.
+    fn take_body<S: Source>(
+        &mut self,
+        alloc: Global,
+        from: &mut S,
+        length: usize,
+    ) -> Result<Vec<u8>, WireError>
+        ensures takes { TakesBody self.old self.new (S.left from.old) (S.left from.new) length result }
+        ensures cause { HasReadCause (S.faults from.old) (S.faults from.new) result }
+    {
+        let mut body = Vec::new(alloc);
+        'pieces: while body.len() < length {
+            if !self.has_more(alloc, from)? {
+                return Err(WireError::EndedEarly);
+            }
+            self.take_piece(&mut body, length)?;
+        }
+        Ok(body)
+    }
+
+    /// Takes bytes ahead into a body, up to so many in all.
+    fn take_piece(&mut self, body: &mut Vec<u8>, long: usize) -> Result<(), AllocError>
+        requires { length body.old.items ≤ long }
+        ensures took { OnOk result (body.new.items ≡ body.old.items ++ take (long - length body.old.items) self.old) }
+        ensures left { OnOk result (self.new ≡ drop (long - length body.old.items) self.old) }
+        ensures err { OnErr result (self.new ≡ self.old) }
+    {
+        let ahead = self.ahead();
+        let count = ahead.len().min(long - body.len());
+        body.extend_from_slice(&ahead[..count])?;
+        self.advance(count);
+        Ok(())
+    }
+}
+
+/// What is found where the input ends.
+fn at_end(place: Place) -> Result<Option<Scan>, WireError>
+    ensures { EndsAt place result }
+{
+    if is_before(place) {
+        return Ok(None);
+    }
+    Err(WireError::EndedEarly)
+}
+
+/// What the head says that was found, if it hasn't too many lines.
+fn head_of(alloc: Global, ahead: &[u8], scan: Scan) -> Result<Head, WireError>
+    requires found { Found ahead.now scan }
+    ensures says { SaysOf (take scan.count ahead.now) result }
+{
+    let lines = &ahead[scan.blank..scan.count];
+    if count_lines(lines) > LINES {
+        return Err(WireError::TooLong);
+    }
+    read_head(alloc, lines)
+}
+
+/// How many lines end in the bytes.
+fn count_lines(bytes: &[u8]) -> usize
+    ensures { result ≡ line_count bytes.now }
+{
+    let mut count = 0;
+    for byte in bytes {
+        if *byte == b'\n' {
+            count += 1;
+        }
+    }
+    count
+}
