@@ -1,109 +1,86 @@
--- What is decided is true, and is what searches answer.
-use Rattle.std.proofs.Common.{ℕ, ◌≤◌, ◌≡◌, ◌∙◌, List, [], ◌∷◌, ◌++◌, Bool, true, false, cond, not, Option, None, Some, map, refl, sym, ap, subst, arith}
+-- What is decided is true, and is what searches within the budget tell.
+use Rattle.std.proofs.Common.{ℕ, zero, suc, ◌≡◌, ◌∙◌, List, [], ◌∷◌, ◌++◌, Bool, true, false, cond, not, Option, None, Some, take, refl, sym, ap, subst, arith}
 use Rattle.std.specs.List.{All, AllByRecursion, Contains, find, take_while}
 use Rattle.std.specs.List.Sorted.{IsStrictlySortedBy}
 use Rattle.std.specs.Map.{keys_of}
 use Rattle.std.specs.Ordering.{ordering_reverse}
+use Rattle.std.specs.Prelude.{nat_le, length}
 use Rattle.std.specs.declared.cmp.Ordering.TheVariants.{Less, Greater}
 use Rattle.std.proofs.lemmas.Bool.{false_from_ne_true}
-use Rattle.std.proofs.lemmas.Cmp.{nat_list_cmp_total}
+use Rattle.std.proofs.lemmas.Cmp.{nat_list_cmp_total, nat_list_eq_equiv}
+use Rattle.std.specs.Cmp.Lexicographic.{same_text}
 use Rattle.std.proofs.lemmas.List.Sums.{take_while-cons}
 use Rattle.std.proofs.lemmas.List.Elements.{All-from_recursion, Contains-append_right}
-use Rattle.walk.specs.Outcome.{Unsat}
+use Rattle.walk.specs.Walk.{Item}
+use Rattle.walk.specs.Outcome.{Ended, Unsat, ends, outcome, outcome_by}
 use Rattle.object_fields.specs.declared.key.Key.{Key}
 use Rattle.api_cluster.specs.declared.types.Pod.{Pod}
-use Rattle.alloc_rules.specs.declared.fit.Fit.{Fit}
-use Rattle.alloc_rules.specs.declared.fit.Fit.TheVariants as fit
-use Rattle.alloc_rules.specs.declared.fit.NodeFit.{NodeFit}
+use Rattle.pool_view.specs.Names.{text_cmp, text_eq}
 use Rattle.cluster.specs.declared.plan.Cause.{Cause}
 use Rattle.cluster.specs.declared.plan.Cause.TheVariants as cause
 use Rattle.cluster.specs.declared.plan.Passed.{Passed}
-use Rattle.cluster.specs.declared.state.State.{State}
+use Rattle.cluster.specs.declared.plan.Reason.{Reason}
+use Rattle.cluster.specs.declared.plan.Reason.TheVariants as reason
 use Rattle.cluster.specs.declared.state.PodState.{PodState}
-use Rattle.pool_view.specs.Names.{at_key, text_cmp, text_eq}
-use Rattle.pool_view.specs.Pools.{devices_on}
-use Rattle.alloc_rules.specs.Claims.{Slot, claims_built, schedule_built, slots_of, wanted}
-use Rattle.cluster.specs.Claims.{claim_keys}
-use Rattle.alloc_rules.specs.Match.{fault_for}
-use Rattle.alloc_rules.specs.Rules.{grants_for, outcome_on, walk_on}
-use Rattle.alloc_rules.specs.Plans.{CauseBy, CauseTrue, IsUnsat, names_before, nodes_of}
-use Rattle.alloc_rules.specs.Fits.{cause_of, devices_for, fit_on, fits_for, is_fit, is_found, node_fit, passed_over, plan_with, slot_due}
-use Rattle.alloc_rules.specs.Decisions.{IsDecision, IsReserve, IsJudge, decision_among, decision_with}
-use Rattle.alloc_rules.proofs.Names.{same_from_text_eq, text_eq-same}
-use Rattle.alloc_rules.proofs.Picked.{Contains-from_get}
-use Rattle.alloc_rules.proofs.Wanted.{built_parts, idle_is, one_slot}
-use Rattle.alloc_rules.proofs.Bridge.{FitsWalk, Meets, fits_walk, meets_fit}
+use Rattle.cluster.specs.declared.state.State.{State}
+use Rattle.allocations.specs.Claims.{full_claim, keys_of_pod, missing_claim}
+use Rattle.allocations.specs.Input.{outcome_on, walk_on}
+use Rattle.allocations.specs.Outcomes.{IsUnsat}
+use Rattle.alloc_rules.specs.declared.nodes.Taken.{Taken}
+use Rattle.alloc_rules.specs.Decisions.{IsDecision, IsJudge, IsReserve}
+use Rattle.alloc_rules.specs.Parts.{decision_by, first_full, first_missing, plan_by, unready, unready_by}
+use Rattle.alloc_rules.specs.Plans.{CauseBy, CauseTrue, IsIdle, MaySearch, names_before, nodes_of}
+use Rattle.alloc_rules.specs.Tries.{AllPassed, AreTried, IsFirstTaken}
 
--- a node that isn't taken, by what it has
-abbrev passed_at : State → Option Slot → List ℕ → Passed
-passed_at s r n = record { node = n; cause = cause_of (fit_on s r n) }
+-- ---- what ends a walk within a budget is what ends it
 
-abbrev IsPassed : State → Option Slot → List ℕ → Type 0
-IsPassed s r n = is_fit (fit_on s r n) ≡ false
+found_by : (o : Option Item) (whole : Bool) (x : Item) → outcome_by o whole ≡ Ended x → o ≡ Some x
+found_by (Some y) whole x e = cc
+found_by None true x e = absurd (cc)
+found_by None false x e = absurd (cc)
 
--- the first node that may be taken, and those before it
-record Chosen (s : State) (r : Option Slot) (keys : List (List ℕ)) (f : NodeFit) : Type 0 where
-  pub front : List (List ℕ)
-  pub back : List (List ℕ)
-  pub keys_are : keys ≡ front ++ f.node ∷ back
-  pub passed : passed_over (map (node_fit s r) keys) ≡ map (passed_at s r) front
-  pub unsat : AllByRecursion (IsPassed s r) front
-  pub fit_is : f.fit ≡ fit_on s r f.node
-  pub may : is_fit f.fit ≡ true
+find_by : (b : Bool) (x y : Item) (front rest : Option Item) → cond b (Some x) front ≡ Some y → (front ≡ Some y → rest ≡ Some y) → cond b (Some x) rest ≡ Some y
+find_by true x y front rest e later = e
+find_by false x y front rest e later = later e
 
-chosen_step : (s : State) (r : Option Slot) (n : List ℕ) (ns : List (List ℕ)) (f : NodeFit) (b : Bool) → is_fit (fit_on s r n) ≡ b → cond b (Some (node_fit s r n)) (find is_found (map (node_fit s r) ns)) ≡ Some f
-    → (find is_found (map (node_fit s r) ns) ≡ Some f → Chosen s r ns f) → Chosen s r (n ∷ ns) f
-chosen_step s r n ns f true e h rest =
-    let same : node_fit s r n ≡ f = cc in
-    record {
-      front = [];
-      back = ns;
-      keys_are = ap (λ (g : NodeFit). g.node ∷ ns) same;
-      passed = ap (λ b. cond b [] (passed_at s r n ∷ passed_over (map (node_fit s r) ns))) e;
-      unsat = tt;
-      fit_is = subst (λ (g : NodeFit). g.fit ≡ fit_on s r g.node) same refl;
-      may = subst (λ (g : NodeFit). is_fit g.fit ≡ true) same e;
-    }
-chosen_step s r n ns f false e h rest =
-    let c = rest h in
-    record {
-      front = n ∷ c.front;
-      back = c.back;
-      keys_are = ap (λ l. n ∷ l) c.keys_are;
-      passed = ap (λ b. cond b [] (passed_at s r n ∷ passed_over (map (node_fit s r) ns))) e ∙ ap (λ l. passed_at s r n ∷ l) c.passed;
-      unsat = (e, c.unsat);
-      fit_is = c.fit_is;
-      may = c.may;
-    }
+find_take : (b : ℕ) (items : List Item) (y : Item) → find ends (take b items) ≡ Some y → find ends items ≡ Some y
+find_take zero items y e = absurd (cc)
+find_take (suc b) [] y e = e
+find_take (suc b) (x ∷ items) y e = find_by (ends x) x y (find ends (take b items)) (find ends items) e (find_take b items y)
 
-chosen : (s : State) (r : Option Slot) (keys : List (List ℕ)) (f : NodeFit) → find is_found (map (node_fit s r) keys) ≡ Some f → Chosen s r keys f
-chosen s r [] f h = absurd (cc)
-chosen s r (n ∷ ns) f h = chosen_step s r n ns f (is_fit (fit_on s r n)) refl h (chosen s r ns f)
+ends_first : (s : State) (pod : Pod) (node : List ℕ) (budget : ℕ) (x : Item) → outcome_on s pod node budget ≡ Ended x → find ends (walk_on s pod node) ≡ Some x
+unfolding outcome_on outcome
+ends_first s pod node budget x e =
+    find_take budget (walk_on s pod node) x (found_by (find ends (take budget (walk_on s pod node))) (nat_le (length (walk_on s pod node)) budget) x e)
 
--- no node may be taken
-record NoneFits (s : State) (r : Option Slot) (keys : List (List ℕ)) : Type 0 where
-  pub passed : passed_over (map (node_fit s r) keys) ≡ map (passed_at s r) keys
-  pub unsat : AllByRecursion (IsPassed s r) keys
+-- ---- causes
 
-none_step : (s : State) (r : Option Slot) (n : List ℕ) (ns : List (List ℕ)) (b : Bool) → is_fit (fit_on s r n) ≡ b → cond b (Some (node_fit s r n)) (find is_found (map (node_fit s r) ns)) ≡ None
-    → (find is_found (map (node_fit s r) ns) ≡ None → NoneFits s r ns) → NoneFits s r (n ∷ ns)
-none_step s r n ns true e h rest = absurd (cc)
-none_step s r n ns false e h rest =
-    let c = rest h in
-    record {
-      passed = ap (λ b. cond b [] (passed_at s r n ∷ passed_over (map (node_fit s r) ns))) e ∙ ap (λ l. passed_at s r n ∷ l) c.passed;
-      unsat = (e, c.unsat);
-    }
+-- what the law of Unsat says
+abbrev pub Unsats : Type 0
+Unsats = (s : State) (pod : Pod) (node : List ℕ) (b : ℕ) → outcome_on s pod node b ≡ Unsat → IsUnsat s pod node
 
-none_fits : (s : State) (r : Option Slot) (keys : List (List ℕ)) → find is_found (map (node_fit s r) keys) ≡ None → NoneFits s r keys
-none_fits s r [] h = record { passed = refl; unsat = tt }
-none_fits s r (n ∷ ns) h = none_step s r n ns (is_fit (fit_on s r n)) refl h (none_fits s r ns)
+cause_true : (s : State) (pod : Pod) (budget : ℕ) (node : List ℕ) (c : Cause) → Unsats → CauseBy s pod budget node c → CauseTrue s pod node c
+cause_true s pod budget node cause.Unsat law e = law s pod node budget e.none
+cause_true s pod budget node (cause.Fault fault) law e = (budget, e)
+cause_true s pod budget node (cause.Budget steps) law e = record { here = e.1.here; over = ap (λ n. outcome_on s pod node n) e.0 ∙ e.1.over }
+cause_true s pod budget node (cause.Other claim) law e = e
 
-nodes_passed : (s : State) (r : Option Slot) (ns : List (List ℕ)) → nodes_of (map (passed_at s r) ns) ≡ ns
-nodes_passed s r [] = refl
-nodes_passed s r (n ∷ ns) = ap (λ l. n ∷ l) (nodes_passed s r ns)
+causes_true : (s : State) (pod : Pod) (budget : ℕ) → Unsats → (ps : List Passed) → AllByRecursion (λ p. CauseBy s pod budget p.node p.cause) ps
+    → AllByRecursion (λ p. CauseTrue s pod p.node p.cause) ps
+causes_true s pod budget law [] a = tt
+causes_true s pod budget law (p ∷ ps) a = (cause_true s pod budget p.node p.cause law a.0, causes_true s pod budget law ps a.1)
 
--- names in order differ
+all_true : (s : State) (pod : Pod) (budget : ℕ) → Unsats → (ps : List Passed) → AllByRecursion (λ p. CauseBy s pod budget p.node p.cause) ps → All (λ p. CauseTrue s pod p.node p.cause) ps
+all_true s pod budget law ps a = All-from_recursion (λ p. CauseTrue s pod p.node p.cause) ps (causes_true s pod budget law ps a)
+
+-- ---- names in order differ
+
+text_eq-same : (a : List ℕ) → text_eq a a ≡ true
+text_eq-same a = nat_list_eq_equiv.refl a
+
+same_from_text_eq : (a b : List ℕ) → text_eq a b ≡ true → a ≡ b
+same_from_text_eq a b e = same_text a b (sym e)
+
 below : (y : List ℕ) (xs rest : List (List ℕ)) (k : List ℕ) → AllByRecursion (λ q. text_cmp y q ≡ Less) (xs ++ k ∷ rest) → text_cmp y k ≡ Less
 below y [] rest k a = a.0
 below y (x ∷ xs) rest k a = below y xs rest k a.1
@@ -125,113 +102,88 @@ front_names (x ∷ xs) back node o =
     take_while-cons (λ n. not (text_eq n node)) x (xs ++ node ∷ back)
     ∙ ap (λ b. cond (not b) (x ∷ take_while (λ n. not (text_eq n node)) (xs ++ node ∷ back)) []) other ∙ ap (λ l. x ∷ l) (front_names xs back node o.1)
 
--- what the law of Unsat says
-abbrev pub Unsats : Type 0
-Unsats = (s : State) (pod : Pod) (node : List ℕ) (b : ℕ) → outcome_on s pod node b ≡ Unsat → IsUnsat s pod node
+-- ---- decisions
 
--- the one result that a pod is due
-abbrev due : State → Pod → Option Slot
-due s pod = slot_due (slots_of (wanted s pod))
-
--- what each node has is what its walk meets
-abbrev Walked : State → Pod → Type 0
-Walked s pod = (node choice : List ℕ) → FitsWalk (walk_on s pod node) (devices_on s.inventory node) (fault_for s (wanted s pod) node choice) (fit_on s (due s pod) node)
-
-walked : (s : State) (pod : Pod) → claims_built s (claim_keys pod) ≡ true → Walked s pod
-unfolding walk_on
-walked s pod h node choice = fits_walk s (wanted s pod) node choice (one_slot s pod h)
-
--- why a node isn't taken is what a search of it answers
-cause_by : (s : State) (pod : Pod) (node : List ℕ) (f : Fit) (b : ℕ) → is_fit f ≡ false → 2 ≤ b
-    → ((choice : List ℕ) → FitsWalk (walk_on s pod node) (devices_on s.inventory node) (fault_for s (wanted s pod) node choice) f) → CauseBy s pod b node (cause_of f)
-unfolding outcome_on
-cause_by s pod node fit.Nothing b e h w = absurd (cc)
-cause_by s pod node (fit.Device d) b e h w = absurd (cc)
-cause_by s pod node fit.Unsat b e h w = w [] b h
-cause_by s pod node (fit.Fault fault) b e h w =
-    let m = w [] in
-    record { item = m.item; found = m.found b h; ends_so = m.ends_so; place = (w m.item.choice).place }
-
-cause_true : (s : State) (pod : Pod) (node : List ℕ) (c : Cause) → Unsats → CauseBy s pod 2 node c → CauseTrue s pod node c
-cause_true s pod node cause.Unsat law e = law s pod node 2 e
-cause_true s pod node (cause.Fault fault) law e = (2, e)
-
-causes_by : (s : State) (pod : Pod) (b : ℕ) → 2 ≤ b → Walked s pod → (ns : List (List ℕ)) → AllByRecursion (IsPassed s (due s pod)) ns → AllByRecursion (λ p. CauseBy s pod b p.node p.cause) (map (passed_at s (due s pod)) ns)
-causes_by s pod b h w [] a = tt
-causes_by s pod b h w (n ∷ ns) a = (cause_by s pod n (fit_on s (due s pod) n) b a.0 h (w n), causes_by s pod b h w ns a.1)
-
-causes_true : (s : State) (pod : Pod) → Unsats → Walked s pod → (ns : List (List ℕ)) → AllByRecursion (IsPassed s (due s pod)) ns → AllByRecursion (λ p. CauseTrue s pod p.node p.cause) (map (passed_at s (due s pod)) ns)
-causes_true s pod law w [] a = tt
-causes_true s pod law w (n ∷ ns) a =
-    (cause_true s pod n (cause_of (fit_on s (due s pod) n)) law (cause_by s pod n (fit_on s (due s pod) n) 2 a.0 (omega arith) (w n)), causes_true s pod law w ns a.1)
-
-all_causes_by : (s : State) (pod : Pod) (b : ℕ) → 2 ≤ b → Walked s pod → (ns : List (List ℕ)) (ps : List Passed) → ps ≡ map (passed_at s (due s pod)) ns → AllByRecursion (IsPassed s (due s pod)) ns → All (λ p. CauseBy s pod b p.node p.cause) ps
-all_causes_by s pod b h w ns ps e a = subst (λ (l : List Passed). All (λ p. CauseBy s pod b p.node p.cause) l) (sym e) (All-from_recursion (λ p. CauseBy s pod b p.node p.cause) (map (passed_at s (due s pod)) ns) (causes_by s pod b h w ns a))
-
-all_causes_true : (s : State) (pod : Pod) → Unsats → Walked s pod → (ns : List (List ℕ)) (ps : List Passed) → ps ≡ map (passed_at s (due s pod)) ns → AllByRecursion (IsPassed s (due s pod)) ns → All (λ p. CauseTrue s pod p.node p.cause) ps
-all_causes_true s pod law w ns ps e a = subst (λ (l : List Passed). All (λ p. CauseTrue s pod p.node p.cause) l) (sym e) (All-from_recursion (λ p. CauseTrue s pod p.node p.cause) (map (passed_at s (due s pod)) ns) (causes_true s pod law w ns a))
-
-met : (s : State) (pod : Pod) (f : NodeFit) → Walked s pod → f.fit ≡ fit_on s (due s pod) f.node → is_fit f.fit ≡ true → Meets (walk_on s pod f.node) (devices_on s.inventory f.node) (devices_for f.fit)
-met s pod f w e m = meets_fit (walk_on s pod f.node) (devices_on s.inventory f.node) (fault_for s (wanted s pod) f.node []) f.fit (subst (λ (x : Fit). FitsWalk (walk_on s pod f.node) (devices_on s.inventory f.node) (fault_for s (wanted s pod) f.node []) x) (sym e) (w f.node [])) m
-
-reserve_is : (s : State) (pod : Key) (p : PodState) (at : ℕ) (f : NodeFit) → Unsats → schedule_built s pod ≡ true → Some p ≡ at_key s.pods pod → IsStrictlySortedBy text_cmp (keys_of s.inventory.nodes)
-    → Chosen s (due s p.pod.object) (keys_of s.inventory.nodes) f → IsReserve s pod at (plan_with s p at (fits_for s p) f)
-unfolding plan_with outcome_on
-reserve_is s pod p at f law h e o c =
-    let parts = built_parts s pod p h e in
-    let w = walked s p.pod.object parts.1 in
-    let m = met s p.pod.object f w c.fit_is c.may in
+reserve_is : (s : State) (pod : Key) (p : PodState) (budget at : ℕ) (passed : List Passed) (taken : Taken) → Unsats → MaySearch s pod p → IsStrictlySortedBy text_cmp (keys_of s.inventory.nodes)
+    → IsFirstTaken s p.pod.object budget (keys_of s.inventory.nodes) passed taken → IsReserve s pod budget at (plan_by s p at passed taken)
+reserve_is s pod p budget at passed taken law may order t =
+    let names = keys_of s.inventory.nodes in
+    let o : IsStrictlySortedBy text_cmp (nodes_of passed ++ taken.node ∷ t.rest) = subst (λ (l : List (List ℕ)). IsStrictlySortedBy text_cmp l) (sym t.names_are) order in
     record {
       place = refl;
       holds = record {
         state = p;
-        idle = record { there = sym e; idle = idle_is p.phase parts.0 };
-        built = h;
-        node_known = subst (λ (l : List (List ℕ)). Contains l f.node) (sym c.keys_are) (Contains-append_right c.front (f.node ∷ c.back) f.node (Contains-from_get (f.node ∷ c.back) 0 f.node refl));
-        passed = ap nodes_of c.passed ∙ nodes_passed s (due s p.pod.object) c.front ∙ sym (front_names c.front c.back f.node (subst (λ (l : List (List ℕ)). IsStrictlySortedBy text_cmp l) c.keys_are o)) ∙ ap (λ l. names_before f.node l) (sym c.keys_are);
-        causes = all_causes_true s p.pod.object law w c.front (passed_over (fits_for s p)) c.passed c.unsat;
-        item = m.item;
-        first = m.first;
-        full = m.full;
-        grants = ap (λ ds. grants_for (wanted s p.pod.object) ds) (sym m.picks);
+        may_search = may;
+        node_known = subst (λ (l : List (List ℕ)). Contains l taken.node) t.names_are
+            (Contains-append_right (nodes_of passed) (taken.node ∷ t.rest) taken.node (0, omega arith, refl));
+        passed = sym (front_names (nodes_of passed) t.rest taken.node o) ∙ ap (λ l. names_before taken.node l) t.names_are;
+        causes = all_true s p.pod.object budget law passed t.causes;
+        here = t.found.here;
+        item = t.found.item;
+        first = ends_first s p.pod.object taken.node budget t.found.item t.found.found;
+        full = t.found.full;
+        grants = t.found.grants_are;
         joins = refl;
         known = refl;
       };
-      found = λ b n. record {
+      found = record {
         state = p;
-        there = sym e;
-        causes = all_causes_by s p.pod.object b n w c.front (passed_over (fits_for s p)) c.passed c.unsat;
-        item = m.item;
-        found = m.found b n;
-        full = m.full;
+        there = may.idle.there;
+        causes = All-from_recursion (λ q. CauseBy s p.pod.object budget q.node q.cause) passed t.causes;
+        item = t.found.item;
+        found = t.found.found;
+        full = t.found.full;
       };
     }
 
-verdict_is : (s : State) (pod : Key) (p : PodState) (at : ℕ) → Unsats → schedule_built s pod ≡ true → Some p ≡ at_key s.pods pod
-    → NoneFits s (due s p.pod.object) (keys_of s.inventory.nodes) → IsJudge s pod at (record { at = at; nodes = passed_over (fits_for s p) })
-verdict_is s pod p at law h e c =
-    let parts = built_parts s pod p h e in
-    let w = walked s p.pod.object parts.1 in
-    record {
-      place = refl;
-      holds = record {
-        state = p;
-        idle = record { there = sym e; idle = idle_is p.phase parts.0 };
-        built = h;
-        nodes = ap nodes_of c.passed ∙ nodes_passed s (due s p.pod.object) (keys_of s.inventory.nodes);
-        causes = all_causes_true s p.pod.object law w (keys_of s.inventory.nodes) (passed_over (fits_for s p)) c.passed c.unsat;
-      };
-      found = λ b n. record {
-        state = p;
-        there = sym e;
-        causes = all_causes_by s p.pod.object b n w (keys_of s.inventory.nodes) (passed_over (fits_for s p)) c.passed c.unsat;
-      };
-    }
+judge_is : (s : State) (pod : Key) (p : PodState) (budget at : ℕ) (passed : List Passed) → Unsats → MaySearch s pod p → AllPassed s p.pod.object budget (keys_of s.inventory.nodes) passed
+    → IsJudge s pod budget at (record { at = at; reason = reason.Nodes passed })
+judge_is s pod p budget at passed law may a = record {
+  place = refl;
+  holds = record {
+    state = p;
+    idle = may.idle;
+    reason = record { there = may.there; room = may.room; all = a.names_are; causes = all_true s p.pod.object budget law passed a.causes };
+  };
+  found = record { state = p; there = may.idle.there; reason = All-from_recursion (λ q. CauseBy s p.pod.object budget q.node q.cause) passed a.causes };
+}
 
-decision_by : (s : State) (pod : Key) (p : PodState) (at : ℕ) (o : Option NodeFit) → find is_found (fits_for s p) ≡ o → Unsats → schedule_built s pod ≡ true → Some p ≡ at_key s.pods pod → IsStrictlySortedBy text_cmp (keys_of s.inventory.nodes)
-    → IsDecision s pod at (decision_with s p at (fits_for s p) o)
-decision_by s pod p at None f law h e k = verdict_is s pod p at law h e (none_fits s (due s p.pod.object) (keys_of s.inventory.nodes) f)
-decision_by s pod p at (Some x) f law h e k = reserve_is s pod p at x law h e k (chosen s (due s p.pod.object) (keys_of s.inventory.nodes) x f)
+-- by what became of the nodes
+pub decided : (s : State) (pod : Key) (p : PodState) (budget at : ℕ) (passed : List Passed) (taken : Option Taken) → Unsats → MaySearch s pod p
+    → IsStrictlySortedBy text_cmp (keys_of s.inventory.nodes) → AreTried s p.pod.object budget (keys_of s.inventory.nodes) passed taken → IsDecision s pod budget at (decision_by s p at passed taken)
+decided s pod p budget at passed None law may order t = judge_is s pod p budget at passed law may t
+decided s pod p budget at passed (Some taken) law may order t = reserve_is s pod p budget at passed taken law may order t
 
-pub decision_is : (s : State) (pod : Key) (p : PodState) (at : ℕ) → Unsats → schedule_built s pod ≡ true → Some p ≡ at_key s.pods pod → IsStrictlySortedBy text_cmp (keys_of s.inventory.nodes) → IsDecision s pod at (decision_among s p at (fits_for s p))
-decision_is s pod p at law h e k = decision_by s pod p at (find is_found (fits_for s p)) refl law h e k
+-- ---- pods that aren't searched for
+
+unready_judge : (s : State) (pod : Key) (p : PodState) (budget at : ℕ) (missing full : Option Key) (why : Reason) → IsIdle s pod p → missing_claim s p.pod.object ≡ missing → full_claim s pod p.pod.object ≡ full
+    → unready_by missing full ≡ Some why → IsJudge s pod budget at (record { at = at; reason = why })
+unready_judge s pod p budget at (Some k) full (reason.Missing claim) idle m f e =
+    let same : k ≡ claim = cc in
+    record { place = refl; holds = record { state = p; idle = idle; reason = m ∙ ap (λ l. Some l) same }; found = record { state = p; there = idle.there; reason = tt } }
+unready_judge s pod p budget at (Some k) full (reason.Users claim) idle m f e = absurd (cc)
+unready_judge s pod p budget at (Some k) full (reason.Nodes nodes) idle m f e = absurd (cc)
+unready_judge s pod p budget at None (Some k) (reason.Missing claim) idle m f e = absurd (cc)
+unready_judge s pod p budget at None (Some k) (reason.Users claim) idle m f e =
+    let same : k ≡ claim = cc in
+    record { place = refl; holds = record { state = p; idle = idle; reason = record { there = m; full = f ∙ ap (λ l. Some l) same } }; found = record { state = p; there = idle.there; reason = tt } }
+unready_judge s pod p budget at None (Some k) (reason.Nodes nodes) idle m f e = absurd (cc)
+unready_judge s pod p budget at None None why idle m f e = absurd (cc)
+
+pub unready_is : (s : State) (pod : Key) (p : PodState) (budget at : ℕ) (ks : List Key) (why : Reason) → IsIdle s pod p → ks ≡ keys_of_pod p.pod.object → unready s pod ks ≡ Some why
+    → IsJudge s pod budget at (record { at = at; reason = why })
+unfolding missing_claim full_claim
+unready_is s pod p budget at ks why idle keys e =
+    let f : unready s pod (keys_of_pod p.pod.object) ≡ Some why = ap (λ l. unready s pod l) (sym keys) ∙ e in
+    unready_judge s pod p budget at (missing_claim s p.pod.object) (full_claim s pod p.pod.object) why idle refl refl f
+
+ready_by : (missing full : Option Key) → unready_by missing full ≡ None → (missing ≡ None) × (full ≡ None)
+ready_by (Some k) full e = absurd (cc)
+ready_by None (Some k) e = absurd (cc)
+ready_by None None e = (refl, refl)
+
+pub ready_is : (s : State) (pod : Key) (p : PodState) (ks : List Key) → IsIdle s pod p → ks ≡ keys_of_pod p.pod.object → unready s pod ks ≡ None → MaySearch s pod p
+unfolding missing_claim full_claim
+ready_is s pod p ks idle keys e =
+    let r = ready_by (first_missing s (keys_of_pod p.pod.object)) (first_full s pod (keys_of_pod p.pod.object)) (ap (λ l. unready s pod l) (sym keys) ∙ e) in
+    record { idle = idle; there = r.0; room = r.1 }

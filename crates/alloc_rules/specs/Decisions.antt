@@ -1,37 +1,36 @@
 -- What a decision is.
-use Rattle.std.specs.Prelude.{ℕ, ◌≡◌, ◌≤◌, List, Option, None, Some, find}
+use Rattle.std.specs.Prelude.{ℕ, ◌≡◌, Bool, false, Option, None, Some}
 use Rattle.object_fields.specs.declared.key.Key.{Key}
-use Rattle.alloc_rules.specs.declared.decision.Decision.{Decision}
-use Rattle.alloc_rules.specs.declared.decision.Decision.TheVariants.{Reserve, Judge}
-use Rattle.alloc_rules.specs.declared.fit.NodeFit.{NodeFit}
+use Rattle.pool_view.specs.Names.{at_key}
 use Rattle.cluster.specs.declared.plan.Plan.{Plan}
 use Rattle.cluster.specs.declared.plan.Verdict.{Verdict}
-use Rattle.cluster.specs.declared.state.State.{State}
 use Rattle.cluster.specs.declared.state.PodState.{PodState}
-use Rattle.alloc_rules.specs.Fits.{is_found, passed_over, plan_with}
+use Rattle.cluster.specs.declared.state.State.{State}
+use Rattle.cluster.specs.State.{is_idle}
+use Rattle.alloc_rules.specs.declared.decision.Decision.{Decision}
+use Rattle.alloc_rules.specs.declared.decision.Decision.TheVariants.{Reserve, Judge}
 use Rattle.alloc_rules.specs.Plans.{PlanBy, PlanTrue, VerdictBy, VerdictTrue}
 
--- the plan is made at the place, is true there, and is what searches within each budget of at
--- least 2 answer
-pub record IsReserve (s : State) (pod : Key) (at : ℕ) (plan : Plan) : Type 0 where
+abbrev pub is_idle_by : Option PodState → Bool
+is_idle_by None = false
+is_idle_by (Some p) = is_idle p.phase
+
+-- the pod is there, and Idle
+abbrev pub is_idle_pod : State → Key → Bool
+is_idle_pod s pod = is_idle_by (at_key s.pods pod)
+
+-- the plan is made at the place, is true there, and is what searches within the budget find
+pub record IsReserve (s : State) (pod : Key) (budget at : ℕ) (plan : Plan) : Type 0 where
   pub place : plan.at ≡ at
   pub holds : PlanTrue s pod plan
-  pub found : (b : ℕ) → 2 ≤ b → PlanBy s pod b plan
+  pub found : PlanBy s pod budget plan
 
 -- the verdict, likewise
-pub record IsJudge (s : State) (pod : Key) (at : ℕ) (verdict : Verdict) : Type 0 where
+pub record IsJudge (s : State) (pod : Key) (budget at : ℕ) (verdict : Verdict) : Type 0 where
   pub place : verdict.at ≡ at
   pub holds : VerdictTrue s pod verdict
-  pub found : (b : ℕ) → 2 ≤ b → VerdictBy s pod b verdict
+  pub found : VerdictBy s pod budget verdict
 
-abbrev pub IsDecision : State → Key → ℕ → Decision → Type 0
-IsDecision s pod at (Reserve plan) = IsReserve s pod at plan
-IsDecision s pod at (Judge verdict) = IsJudge s pod at verdict
-
-abbrev pub decision_with : State → PodState → ℕ → List NodeFit → Option NodeFit → Decision
-decision_with s p at fits None = Judge (record { at = at; nodes = passed_over fits })
-decision_with s p at fits (Some f) = Reserve (plan_with s p at fits f)
-
--- the plan that takes the first node that may be taken, or the verdict that there is none
-abbrev pub decision_among : State → PodState → ℕ → List NodeFit → Decision
-decision_among s p at fits = decision_with s p at fits (find is_found fits)
+abbrev pub IsDecision : State → Key → ℕ → ℕ → Decision → Type 0
+IsDecision s pod budget at (Reserve plan) = IsReserve s pod budget at plan
+IsDecision s pod budget at (Judge verdict) = IsJudge s pod budget at verdict

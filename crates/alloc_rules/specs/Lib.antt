@@ -1,10 +1,4 @@
-pub mod Plain
-pub mod Claims
-pub mod Match
-pub mod Candidates
-pub mod Faults
-pub mod Rules
-pub mod Allocation
 pub mod Plans
-pub mod Fits
 pub mod Decisions
+pub mod Tries
+pub mod Parts

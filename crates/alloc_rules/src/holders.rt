@@ -1,25 +1,23 @@
-ghost use Rattle.std.specs.Prelude.{◌≡◌, ℕ, List, Some, Contains};
+ghost use Rattle.std.specs.Prelude.{ℕ, List};
 ghost use Rattle.object_fields.specs.declared.key.Key.{Key};
-ghost use Rattle.object_fields.specs.declared.key.DeviceId.{DeviceId};
 ghost use Rattle.cluster.specs.declared.object.Object.{Object};
 ghost use Rattle.cluster.specs.declared.object.Target.{Target};
-ghost use Rattle.cluster.specs.declared.state.State.{State};
-ghost use Rattle.cluster.specs.declared.state.ClaimState.{ClaimState};
 ghost use Rattle.cluster.specs.declared.plan.Plan.{Plan};
-ghost use Rattle.pool_view.specs.Names.{at_key};
-ghost use Rattle.cluster.specs.Held.{held_by};
-ghost use Rattle.cluster.specs.State.{empty_state};
-ghost use Rattle.cluster.specs.Bound.{with_bound};
+ghost use Rattle.cluster.specs.declared.state.State.{State};
 ghost use Rattle.cluster.specs.Applied.{with_object};
+ghost use Rattle.cluster.specs.Bound.{with_bound};
 ghost use Rattle.cluster.specs.Deleted.{without_object};
+ghost use Rattle.cluster.specs.Held.{HeldOnce};
 ghost use Rattle.cluster.specs.Reserved.{with_reserved};
+ghost use Rattle.cluster.specs.State.{empty_state};
 ghost use Rattle.cluster.specs.Wrote.{with_written};
 ghost use Rattle.alloc_rules.specs.Plans.{Holds};
-ghost use Rattle.cluster.specs.Held.{HeldOnce};
+
+use allocations::{changes_hold_once, grants_hold_once};
 
 /// Each device has one holder: it is so where there is nothing yet, and every change keeps it so. A
 /// change that reserves keeps it where nothing stands against the plan, however many claims the plan
-/// grants.
+/// grants or joins.
 pub fn one_holder_is_kept()
     ensures empty { HeldOnce empty_state }
     ensures applied { (place : ℕ) (object : Object) (s : State) → HeldOnce s → HeldOnce (with_object place object s) }
@@ -27,10 +25,7 @@ pub fn one_holder_is_kept()
     ensures reserved { (s : State) (job : ℕ) (pod : Key) (plan : Plan) → Holds s pod plan → HeldOnce s → HeldOnce (with_reserved job pod plan s) }
     ensures written { (place : ℕ) (pod claim : Key) (s : State) → HeldOnce s → HeldOnce (with_written place pod claim s) }
     ensures bound { (pod : Key) (node : List ℕ) (s : State) → HeldOnce s → HeldOnce (with_bound pod node s) }
-{}
-
-/// Where each device has one holder, two claims that hold the same device are the same claim.
-pub fn holders_are_one_claim()
-    ensures { (s : State) (k l : Key) (c b : ClaimState) (d : DeviceId) → HeldOnce s → at_key s.claims k ≡ Some c → at_key s.claims l ≡ Some b →
-        Contains (held_by c.grant) d → Contains (held_by b.grant) d → k ≡ l }
-{}
+{
+    changes_hold_once();
+    grants_hold_once();
+}

@@ -18,6 +18,8 @@ use Rattle.cluster.specs.declared.object.Object.TheVariants as object
 use Rattle.cluster.specs.declared.object.Target.{Target}
 use Rattle.cluster.specs.declared.object.Target.TheVariants as target
 use Rattle.cluster.specs.declared.state.ClaimState.{ClaimState}
+use Rattle.cluster.specs.declared.state.Phase.{Phase}
+use Rattle.cluster.specs.declared.state.Phase.TheVariants as phase
 use Rattle.cluster.specs.declared.state.PodState.{PodState}
 use Rattle.cluster.specs.declared.state.State.{State}
 use Rattle.cluster.specs.Same.{same_pod_claims, same_spec}
@@ -128,11 +130,21 @@ apply_refusal s x mode.Apply = if is_there s x then update_refusal s x else crea
 abbrev pub delete_refusal : State → Target → Option Refusal
 delete_refusal s t = or_else (when (not (is_found s t)) refusal.NotFound) (when (is_in_use s t) refusal.InUse)
 
+abbrev pub phase_refusal : Phase → Option Refusal
+phase_refusal phase.Idle = None
+phase_refusal (phase.Taken job node) = Some (refusal.Busy job)
+phase_refusal (phase.Bound node) = Some (refusal.Bound node)
+
+abbrev pub schedule_refusal : Option PodState → Option Refusal
+schedule_refusal None = Some refusal.NotFound
+schedule_refusal (Some p) = phase_refusal p.phase
+
 -- the first refusal of a command that holds
 abbrev pub first_refusal : State → Command → Option Refusal
 first_refusal s (command.Invalid error) = Some refusal.Invalid
 first_refusal s (command.Apply x m) = apply_refusal s x m
 first_refusal s (command.Delete t) = delete_refusal s t
+first_refusal s (command.Schedule pod) = schedule_refusal (at_key s.pods pod)
 
 -- nothing changes
 abbrev pub with_denial : State → State

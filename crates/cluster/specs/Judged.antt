@@ -1,11 +1,11 @@
 -- A verdict that a pod can't be scheduled.
-use Rattle.std.specs.Prelude.{ℕ, Bool, true, false}
+use Rattle.std.specs.Prelude.{ℕ, List, Bool, true, false}
 use Rattle.std.specs.List.{list_any}
 use Rattle.cluster.specs.declared.entry.Stand.{Stand}
 use Rattle.cluster.specs.declared.entry.Stand.TheVariants as stand
 use Rattle.cluster.specs.declared.plan.Cause.{Cause}
 use Rattle.cluster.specs.declared.plan.Cause.TheVariants as cause
-use Rattle.cluster.specs.declared.plan.Verdict.{Verdict}
+use Rattle.cluster.specs.declared.plan.Passed.{Passed}
 use Rattle.cluster.specs.declared.state.State.{State}
 
 -- nothing changes
@@ -19,7 +19,19 @@ judged_leaves place = stand.Ended place
 abbrev pub is_fault : Cause → Bool
 is_fault cause.Unsat = false
 is_fault (cause.Fault fault) = true
+is_fault (cause.Budget steps) = false
+is_fault (cause.Other claim) = false
+
+abbrev pub is_budget : Cause → Bool
+is_budget cause.Unsat = false
+is_budget (cause.Fault fault) = false
+is_budget (cause.Budget steps) = true
+is_budget (cause.Other claim) = false
 
 -- one of the nodes has a selector's fault
-abbrev pub has_fault : Verdict → Bool
-has_fault v = list_any (λ p. is_fault p.cause) v.nodes
+abbrev pub has_fault : List Passed → Bool
+has_fault nodes = list_any (λ p. is_fault p.cause) nodes
+
+-- the search of one of the nodes ended with its budget
+abbrev pub has_budget : List Passed → Bool
+has_budget nodes = list_any (λ p. is_budget p.cause) nodes

@@ -40,6 +40,8 @@ pub enum Command {
     Apply { object: Object, mode: Mode },
     /// To take an object away.
     Delete(Target),
+    /// To find devices for a pod, and to bind it to their node.
+    Schedule(Key),
 }
 
 /// Whether a command that applies an object asks for a new one.
@@ -54,11 +56,11 @@ pub enum Mode {
 }
 
 /// Why a command is refused.
-#[derive(Clone, Copy, Debug, PartialEq, Eq, Drop)]
+#[derive(Drop)]
 pub enum Refusal {
     /// The document has an error.
     Invalid,
-    /// No object of this kind and name is there.
+    /// No object of this kind and name is there; of a Schedule, the pod isn't there.
     NotFound,
     /// An object of this kind and name is there.
     Exists,
@@ -70,6 +72,10 @@ pub enum Refusal {
     InUse,
     /// All slices would have more than 65,536 devices.
     Devices,
+    /// This job has taken the pod.
+    Busy(u64),
+    /// The pod is bound to this node.
+    Bound(Text),
 }
 
 /// What became of a command, by the kind of its entry.

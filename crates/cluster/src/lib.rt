@@ -15,7 +15,7 @@ pub use entry::{Command, Entry, Event, Mode, Outcome, Refusal, Stand};
 pub use kept::Kept;
 pub use object::{Object, Target};
 pub use plan::{
-    Cause, DeviceResult, Grant, Known, KnownClaim, Passed, Plan, SelectorFault, Verdict,
+    Cause, DeviceResult, Grant, Known, KnownClaim, Passed, Plan, Reason, SelectorFault, Verdict,
 };
 pub use ready::{Ready, ReadyParts};
 pub use same::same_is_equal;

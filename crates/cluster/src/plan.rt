@@ -41,6 +41,10 @@ pub enum Cause {
     Unsat,
     /// The search of the node ended at a selector's fault.
     Fault(SelectorFault),
+    /// The search of the node made so many steps, which were all that it might make, without an end.
+    Budget(u64),
+    /// This claim of the pod has its grant on another node.
+    Other(Key),
 }
 
 /// A node that wasn't taken.
@@ -82,13 +86,23 @@ pub struct Plan {
     pub known: Known,
 }
 
-/// That a pod can't be scheduled at a place of the history: a cause for each node.
+/// That a pod can't be scheduled at a place of the history.
 #[derive(Drop)]
 pub struct Verdict {
     /// The number of entries that stood in the history.
     pub at: u64,
-    /// Each node, in the order of names.
-    pub nodes: Seq<Passed>,
+    pub reason: Reason,
+}
+
+/// Why a pod can't be scheduled.
+#[derive(Drop)]
+pub enum Reason {
+    /// This claim of the pod isn't there.
+    Missing(Key),
+    /// This claim of the pod has 256 users, and the pod isn't one of them.
+    Users(Key),
+    /// No node can be taken: each node with its cause, in the order of names.
+    Nodes(Seq<Passed>),
 }
 
 impl Duplicate for DeviceResult {
@@ -133,6 +147,8 @@ impl Cause {
         match self {
             Cause::Unsat => Ok(Cause::Unsat),
             Cause::Fault(fault) => Ok(Cause::Fault(fault.copy(alloc)?)),
+            Cause::Budget(steps) => Ok(Cause::Budget(*steps)),
+            Cause::Other(claim) => Ok(Cause::Other(claim.copy(alloc)?)),
         }
     }
 }
@@ -186,7 +202,20 @@ impl Verdict {
     {
         Ok(Verdict {
             at: self.at,
-            nodes: self.nodes.copy(alloc)?,
+            reason: self.reason.copy(alloc)?,
         })
+    }
+}
+
+impl Reason {
+    /// An equal reason.
+    pub fn copy(&self, alloc: Global) -> Result<Reason, AllocError>
+        ensures { IfOk result (λ copy. copy ≡ self.now) }
+    {
+        match self {
+            Reason::Missing(claim) => Ok(Reason::Missing(claim.copy(alloc)?)),
+            Reason::Users(claim) => Ok(Reason::Users(claim.copy(alloc)?)),
+            Reason::Nodes(nodes) => Ok(Reason::Nodes(nodes.copy(alloc)?)),
+        }
     }
 }

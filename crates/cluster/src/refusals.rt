@@ -1,5 +1,5 @@
-ghost use Rattle.std.specs.Prelude.{◌≡◌, option_copied, option_map};
-ghost use Rattle.cluster.specs.Denied.{carried_version, conflict_of, has_user, is_busy, is_claim_changed, is_pod_changed};
+ghost use Rattle.std.specs.Prelude.{◌≡◌, IfOk, option_copied, option_map};
+ghost use Rattle.cluster.specs.Denied.{carried_version, conflict_of, has_user, is_busy, is_claim_changed, is_pod_changed, phase_refusal};
 
 use crate::same::{same_pod_claims, same_spec};
 use crate::{ClaimState, Command, Mode, Object, Phase, PodState, Refusal, State, Target};
@@ -7,16 +7,18 @@ use api_claim::ResourceClaim;
 use api_cluster::Pod;
 use object_fields::Key;
 use pool_view::Stored;
+use std::alloc::{AllocError, Global};
 
 impl State {
-    ghost use Rattle.std.specs.Prelude.{◌≡◌};
+    ghost use Rattle.std.specs.Prelude.{◌≡◌, IfOk};
     ghost use Rattle.cluster.specs.State.{has_room, is_there};
     ghost use Rattle.cluster.specs.Denied.{conflict, first_refusal, is_changed, is_found, is_in_use, is_user, no_room, or_else, version_at, when};
-    ghost use Rattle.cluster.specs.declared.entry.Command.TheVariants.{Apply, Delete};
+    ghost use Rattle.cluster.specs.declared.entry.Command.TheVariants.{Apply, Delete, Schedule};
     ghost use Rattle.cluster.specs.declared.entry.Mode.TheVariants.{Create, Update};
     ghost use Rattle.cluster.specs.declared.entry.Refusal.TheVariants as refusal;
 
-    /// The first refusal of a command that holds, or `None` where none does. Takes no memory.
+    /// The first refusal of a command that holds, or `None` where none does. `AllocError` comes only
+    /// if memory runs out.
     ///
     /// | Command | Refusals in order |
     /// |---|---|
@@ -25,13 +27,19 @@ impl State {
     /// | to update an object | NotFound, Conflict, Immutable, Devices |
     /// | to apply an object | as an update where one of its kind and name is there, else as a creation |
     /// | to delete an object | NotFound, InUse |
-    pub fn first_refusal(&self, command: &Command) -> Option<Refusal>
-        ensures { result ≡ first_refusal self.now command.now }
+    /// | to schedule a pod | NotFound, Busy, Bound |
+    pub fn first_refusal(
+        &self,
+        alloc: Global,
+        command: &Command,
+    ) -> Result<Option<Refusal>, AllocError>
+        ensures { IfOk result (λ refusal. refusal ≡ first_refusal self.now command.now) }
     {
         match command {
-            Command::Invalid(_) => Some(Refusal::Invalid),
-            Command::Apply { object, mode } => self.apply_refusal(object, *mode),
-            Command::Delete(target) => self.delete_refusal(target),
+            Command::Invalid(_) => Ok(Some(Refusal::Invalid)),
+            Command::Apply { object, mode } => Ok(self.apply_refusal(object, *mode)),
+            Command::Delete(target) => Ok(self.delete_refusal(target)),
+            Command::Schedule(pod) => self.schedule_refusal(alloc, pod),
         }
     }
 
@@ -62,6 +70,17 @@ impl State {
             Some(Refusal::InUse)
         } else {
             None
+        }
+    }
+
+    /// The first refusal that holds of a pod to be scheduled. `AllocError` comes only if memory runs
+    /// out.
+    pub fn schedule_refusal(&self, alloc: Global, pod: &Key) -> Result<Option<Refusal>, AllocError>
+        ensures { IfOk result (λ refusal. refusal ≡ first_refusal self.now (Schedule pod.now)) }
+    {
+        match self.pods.get(pod) {
+            None => Ok(Some(Refusal::NotFound)),
+            Some(state) => phase_refusal(alloc, &state.phase),
         }
     }
 
@@ -284,6 +303,17 @@ fn has_user(state: Option<&ClaimState>) -> bool
     match state {
         None => false,
         Some(state) => !state.users.is_empty(),
+    }
+}
+
+/// The refusal of a pod that isn't Idle.
+fn phase_refusal(alloc: Global, phase: &Phase) -> Result<Option<Refusal>, AllocError>
+    ensures { IfOk result (λ refusal. refusal ≡ phase_refusal phase.now) }
+{
+    match phase {
+        Phase::Idle => Ok(None),
+        Phase::Taken { job, .. } => Ok(Some(Refusal::Busy(*job))),
+        Phase::Bound(node) => Ok(Some(Refusal::Bound(node.copy(alloc)?))),
     }
 }
 

@@ -1,7 +1,11 @@
 -- What the journal that a run prints says.
-use Rattle.std.specs.Prelude.{ℕ, ◌≡◌, List, ◌∷◌, ◌++◌, Option}
+use Rattle.std.specs.Prelude.{ℕ, ◌≡◌, List, ◌∷◌, ◌++◌, Option, Contains}
 use Rattle.object_fields.specs.declared.key.Key.{Key}
+use Rattle.cluster.specs.declared.plan.Cause.TheVariants.{Budget}
+use Rattle.cluster.specs.declared.plan.Passed.{Passed}
 use Rattle.cluster.specs.declared.plan.Plan.{Plan}
+use Rattle.cluster.specs.declared.plan.Reason.{Reason}
+use Rattle.cluster.specs.declared.plan.Reason.TheVariants as reason
 use Rattle.cluster.specs.declared.plan.Verdict.{Verdict}
 use Rattle.cluster.specs.Held.{HeldOnce}
 use Rattle.cluster.specs.declared.entry.Command.{Command}
@@ -12,21 +16,31 @@ use Rattle.ledger_core.specs.Denied.{MayDeny}
 use Rattle.cluster.specs.History.{state_at, state_of}
 use Rattle.ledger_core.specs.Headline.{IsGrantOf, IsVerdictOf}
 use Rattle.ledger_core.specs.Limits.{ObjectsKept}
+use Rattle.replay_core.specs.declared.options.ReplayOptions.{ReplayOptions}
 use Rattle.replay_core.specs.Replay.{EndsDone}
-use Rattle.dra_cli.specs.Program.{most_entries}
 
--- Each reservation grants an allocation over the state before it, and each verdict names a place with
--- no allocation. Each denial carries the first refusal of its command that holds in the state before
--- it, and none is because memory ran out. At no place does a device have two holders, and at each the
--- objects keep their limits.
-pub record IsTrueHistory (h : List Entry) : Type 0 where
+-- each node whose cause is the budget was searched with this one
+abbrev pub NamesBudget : ℕ → Reason → Type 0
+NamesBudget budget (reason.Missing claim) = Unit {0}
+NamesBudget budget (reason.Users claim) = Unit {0}
+NamesBudget budget (reason.Nodes nodes) = (p : Passed) (steps : ℕ) → Contains nodes p → p.cause ≡ Budget steps → steps ≡ budget
+
+-- Each reservation grants an allocation over the state before it, and each verdict is true at its place:
+-- where it is `unsatisfiable`, no node has an allocation there, and where a node's cause is `budget`, the
+-- first items of its walk, as many as the budget, are neither an allocation nor a fault, and there are
+-- more. Each denial carries the first refusal of its command that holds in the state before it, and
+-- none is because memory ran out. At no place does a device have two holders, and at each the objects
+-- keep their limits.
+pub record IsTrueHistory (budget : ℕ) (h : List Entry) : Type 0 where
   pub grants : (front back : List Entry) (job : ℕ) (pod : Key) (plan : Plan) → h ≡ front ++ record { job = job; event = Reserved pod plan } ∷ back → IsGrantOf front pod plan
   pub verdicts : (front back : List Entry) (job : ℕ) (pod : Key) (verdict : Verdict) → h ≡ front ++ record { job = job; event = Judged pod verdict } ∷ back → IsVerdictOf front pod verdict
+  -- the steps of a `budget` are those of the option
+  pub budgets : (front back : List Entry) (job : ℕ) (pod : Key) (verdict : Verdict) → h ≡ front ++ record { job = job; event = Judged pod verdict } ∷ back → NamesBudget budget verdict.reason
   pub denials : (front back : List Entry) (job : ℕ) (command : Command) (refusal : Refusal) → h ≡ front ++ record { job = job; event = Denied command refusal } ∷ back → MayDeny (state_of front) command refusal
   pub holders : (place : ℕ) → HeldOnce (state_at h place)
   pub limits : (place : ℕ) → ObjectsKept (state_at h place)
 
 -- all commands of the script were done, what was written is the text of their history, and it is true
-pub record Replayed (left before after : Option (List ℕ)) : Type 0 where
-  pub ends : EndsDone most_entries left before after
-  pub history : IsTrueHistory ends.history
+pub record Replayed (options : ReplayOptions) (left before after : Option (List ℕ)) : Type 0 where
+  pub ends : EndsDone options left before after
+  pub history : IsTrueHistory options.budget ends.history

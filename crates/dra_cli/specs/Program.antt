@@ -1,15 +1,15 @@
--- What the words of a call ask for, and the numbers that the program ends with.
-use Rattle.std.specs.Prelude.{ℕ, ◌≡◌, List, [], ◌∷◌, codes}
+-- What a call asks for, and the numbers that the program ends with.
+use Rattle.std.specs.Prelude.{ℕ, ◌≡◌, List, Some}
+use Rattle.replay_core.specs.declared.options.ReplayOptions.{ReplayOptions}
 use Rattle.replay_core.specs.declared.status.Status.{Status}
 use Rattle.replay_core.specs.declared.status.Status.TheVariants as status
+use Rattle.dra_cli.specs.Words.{options_of}
 
--- the words, each as its bytes, are the one word `replay`
-abbrev pub AsksReplay : List (List ℕ) → Type 0
-AsksReplay words = words ≡ codes "replay" ∷ []
-
--- the most entries of a history
-abbrev pub most_entries : ℕ
-most_entries = 1000000
+-- the words, each as its bytes, ask for a replay with options of which this holds
+pub record AsksFor (words : List (List ℕ)) (P : ReplayOptions → Type 0) : Type 0 where
+  pub options : ReplayOptions
+  pub asked : options_of words ≡ Some options
+  pub so : P options
 
 -- the exit status of the program
 abbrev pub exit_number : Status → ℕ

@@ -11,7 +11,9 @@ impl fmt::Display for Fault {
         match self.0 {
             Status::Done => f.write_str("all was done"),
             Status::Usage => f.write_str(
-                "these words are no command; the one command is `replay`\nusage: dra replay < script",
+                "these words are no command; the one command is `replay`\n\
+                 usage: dra replay [--budget 1..10000000] [--attempts 1..64] [--entries 1..1000000] \
+                 < script",
             ),
             Status::Document(at) => write!(
                 f,
@@ -30,12 +32,12 @@ impl fmt::Display for Fault {
             ),
             Status::Limit(count) => write!(
                 f,
-                "the limit of {count} was met; a history has at most 1000000 entries, and a script \
-                 at most 1073741824 bytes"
+                "the limit of {count} was met; a history has at most as many entries as --entries says, \
+                 1000000 without it, and a script at most 1073741824 bytes"
             ),
             Status::NotYet(at) => write!(
                 f,
-                "the command at byte {at} has a form that is not done yet; docs/FORMATS.md says \
+                "the command at byte {at} has a form that is not supported yet; docs/FORMATS.md says \
                  which forms are"
             ),
         }

@@ -1,10 +1,11 @@
-//! The program `dra`: `dra replay < script` replays a script of the Kubernetes API's objects and
-//! prints the journal of what was decided.
+//! The program `dra`: `dra replay [--budget B] [--attempts A] [--entries E] < script` replays a script
+//! of the Kubernetes API's objects and prints the journal of what was decided.
 #![tactic(auto)]
 
 mod fault;
 mod program;
 mod stdio;
+mod words;
 
 use fault::Fault;
 use program::{exit_number, run};

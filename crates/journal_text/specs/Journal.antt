@@ -9,24 +9,26 @@ use Rattle.cluster.specs.declared.object.Object.TheVariants as object
 use Rattle.cluster.specs.declared.object.Target.{Target}
 use Rattle.cluster.specs.declared.object.Target.TheVariants as target
 use Rattle.cluster.specs.declared.plan.Cause.{Cause}
-use Rattle.cluster.specs.declared.plan.Cause.TheVariants.{Unsat, Fault}
+use Rattle.cluster.specs.declared.plan.Cause.TheVariants.{Unsat, Fault, Budget, Other}
 use Rattle.cluster.specs.declared.plan.SelectorFault.{SelectorFault}
 use Rattle.cel_value.specs.declared.error.EvalError.{EvalError}
 use Rattle.cel_value.specs.declared.error.EvalError.TheVariants.{NoKey, NoOverload, Overflow, DivByZero, OutOfRange, BadConversion, Memory}
 use Rattle.device_match.specs.declared.verdict.Cause as matched
 use Rattle.device_match.specs.declared.verdict.Cause.TheVariants as why
-use Rattle.cluster.specs.Judged.{has_fault}
+use Rattle.cluster.specs.Judged.{has_budget, has_fault}
 use Rattle.cluster.specs.declared.plan.DeviceResult.{DeviceResult}
 use Rattle.cluster.specs.declared.plan.Grant.{Grant}
 use Rattle.cluster.specs.declared.plan.Passed.{Passed}
 use Rattle.cluster.specs.declared.plan.Plan.{Plan}
+use Rattle.cluster.specs.declared.plan.Reason.{Reason}
+use Rattle.cluster.specs.declared.plan.Reason.TheVariants as reason
 use Rattle.cluster.specs.declared.plan.Verdict.{Verdict}
 use Rattle.pool_view.specs.Inventory.{devices_most}
 use Rattle.cluster.specs.declared.state.State.{State}
 use Rattle.cluster.specs.declared.state.Phase.{Phase}
 use Rattle.cluster.specs.declared.state.Phase.TheVariants as phase
 use Rattle.cluster.specs.declared.entry.Command.{Command}
-use Rattle.cluster.specs.declared.entry.Command.TheVariants.{Apply, Delete, Invalid}
+use Rattle.cluster.specs.declared.entry.Command.TheVariants.{Apply, Delete, Invalid, Schedule}
 use Rattle.cluster.specs.declared.entry.Refusal.{Refusal}
 use Rattle.cluster.specs.declared.entry.Refusal.TheVariants as refusal
 use Rattle.cluster.specs.declared.entry.Entry.{Entry}
@@ -80,6 +82,8 @@ fault_text f =
 abbrev pub cause_text : Cause → List ℕ
 cause_text Unsat = codes "unsat"
 cause_text (Fault f) = fault_text f
+cause_text (Budget steps) = codes "budget"
+cause_text (Other claim) = codes "other:" ++ key_text claim
 
 -- a node that wasn't taken, and why
 abbrev pub passed_text : Passed → List ℕ
@@ -104,17 +108,28 @@ reserved_text pod plan =
     ++ codes " grants=" ++ listed grant_text plan.grants
     ++ codes " joins=" ++ listed key_text plan.joins
 
--- `fault` where one node has a fault
-abbrev pub verdict_word : Verdict → List ℕ
-verdict_word verdict = if has_fault verdict then codes "fault" else codes "unsatisfiable"
+-- `fault` where one node has a fault, else `budget` where the search of one ended with its budget
+abbrev pub nodes_word : List Passed → List ℕ
+nodes_word nodes = if has_fault nodes then codes "fault" else if has_budget nodes then codes "budget" else codes "unsatisfiable"
+
+abbrev pub verdict_word : Reason → List ℕ
+verdict_word (reason.Missing claim) = codes "missing"
+verdict_word (reason.Users claim) = codes "users"
+verdict_word (reason.Nodes nodes) = nodes_word nodes
+
+-- the claim, or each node with its cause
+abbrev pub reason_text : Reason → List ℕ
+reason_text (reason.Missing claim) = codes "claim=" ++ key_text claim
+reason_text (reason.Users claim) = codes "claim=" ++ key_text claim
+reason_text (reason.Nodes nodes) = codes "nodes=" ++ listed passed_text nodes
 
 abbrev pub verdict_text : Key → Verdict → List ℕ
 verdict_text pod verdict =
-    codes "verdict " ++ key_text pod ++ codes " " ++ verdict_word verdict ++ codes " at=" ++ decimal verdict.at
-    ++ codes " nodes=" ++ listed passed_text verdict.nodes
+    codes "verdict " ++ key_text pod ++ codes " " ++ verdict_word verdict.reason ++ codes " at=" ++ decimal verdict.at
+    ++ codes " " ++ reason_text verdict.reason
 
 -- a refusal of a command on the object of this kind and name: its word and the object, of a conflict both versions,
--- and of too many devices how many all slices may have
+-- of too many devices how many all slices may have, and of a pod that isn't Idle the job that has taken it or its node
 abbrev pub refusal_text : List ℕ → Refusal → List ℕ
 refusal_text name refusal.Invalid = codes "denied Invalid " ++ name
 refusal_text name refusal.NotFound = codes "denied NotFound " ++ name
@@ -123,12 +138,15 @@ refusal_text name (refusal.Conflict had now) = codes "denied Conflict had=" ++ d
 refusal_text name refusal.Immutable = codes "denied Immutable " ++ name
 refusal_text name refusal.InUse = codes "denied InUse " ++ name
 refusal_text name refusal.Devices = codes "denied Devices " ++ decimal devices_most
+refusal_text name (refusal.Busy job) = codes "denied Busy " ++ decimal job
+refusal_text name (refusal.Bound node) = codes "denied Bound " ++ node
 
 -- a refusal; of a document with an error the word of the error and its path
 abbrev pub denial_text : Command → Refusal → List ℕ
 denial_text (Invalid error) refused = codes "denied Invalid " ++ kind_word error.kind ++ codes " " ++ path_text error.path
 denial_text (Apply object mode) refused = refusal_text (object_text object) refused
 denial_text (Delete target) refused = refusal_text (target_text target) refused
+denial_text (Schedule pod) refused = refusal_text (target_text (target.Pod pod)) refused
 
 -- what a line says after its place and job
 abbrev pub event_text : Event → List ℕ

@@ -1,9 +1,9 @@
 ghost use Rattle.std.specs.Prelude.{◌≡◌, IfOk, string_bytes};
-ghost use Rattle.journal_text.specs.Journal.{denial_text, event_text, object_text, refusal_text, reserved_text, target_text, verdict_text, verdict_word};
-ghost use Rattle.cluster.specs.Judged.{has_fault, is_fault};
+ghost use Rattle.journal_text.specs.Journal.{denial_text, event_text, nodes_word, object_text, reason_text, refusal_text, reserved_text, target_text, verdict_text, verdict_word};
+ghost use Rattle.cluster.specs.Judged.{has_budget, has_fault, is_budget, is_fault};
 
 use crate::worded::listed;
-use cluster::{Cause, Command, Event, Object, Plan, Refusal, Target, Verdict};
+use cluster::{Cause, Command, Event, Object, Passed, Plan, Reason, Refusal, Target, Verdict};
 use object_fields::Key;
 use pool_view::MOST_DEVICES;
 use std::alloc::{AllocError, Global};
@@ -49,41 +49,84 @@ fn reserved_text(alloc: Global, pod: &Key, plan: &Plan) -> Result<String, AllocE
 fn verdict_text(alloc: Global, pod: &Key, verdict: &Verdict) -> Result<String, AllocError>
     ensures { IfOk result (λ s. string_bytes s ≡ verdict_text pod.now verdict.now) }
 {
-    let nodes = listed(alloc, verdict.nodes.as_slice())?;
-    let word = verdict_word(verdict);
-    format!(in alloc; "verdict {pod} {word} at={} nodes={nodes}", verdict.at)
+    let rest = reason_text(alloc, &verdict.reason)?;
+    let word = verdict_word(&verdict.reason);
+    format!(in alloc; "verdict {pod} {word} at={} {rest}", verdict.at)
 }
 
-/// `fault` where one node has a selector's fault.
-fn verdict_word(verdict: &Verdict) -> &'static str
-    ensures { result.now ≡ verdict_word verdict.now }
+/// What a verdict says behind its place: its claim, or its nodes with their causes.
+fn reason_text(alloc: Global, reason: &Reason) -> Result<String, AllocError>
+    ensures { IfOk result (λ s. string_bytes s ≡ reason_text reason.now) }
 {
-    if has_fault(verdict) {
+    match reason {
+        Reason::Missing(claim) => format!(in alloc; "claim={claim}"),
+        Reason::Users(claim) => format!(in alloc; "claim={claim}"),
+        Reason::Nodes(nodes) => {
+            let nodes = listed(alloc, nodes.as_slice())?;
+            format!(in alloc; "nodes={nodes}")
+        }
+    }
+}
+
+fn verdict_word(reason: &Reason) -> &'static str
+    ensures { result.now ≡ verdict_word reason.now }
+{
+    match reason {
+        Reason::Missing(_) => "missing",
+        Reason::Users(_) => "users",
+        Reason::Nodes(nodes) => nodes_word(nodes.as_slice()),
+    }
+}
+
+/// `fault` where one node has a selector's fault, else `budget` where the search of one ended with its
+/// budget, else `unsatisfiable`.
+fn nodes_word(nodes: &[Passed]) -> &'static str
+    ensures { result.now ≡ nodes_word nodes.now }
+{
+    if has_fault(nodes) {
         "fault"
+    } else if has_budget(nodes) {
+        "budget"
     } else {
         "unsatisfiable"
     }
 }
 
-fn has_fault(verdict: &Verdict) -> bool
-    ensures { result ≡ has_fault verdict.now }
+fn has_fault(nodes: &[Passed]) -> bool
+    ensures { result ≡ has_fault nodes.now }
 {
-    let mut nodes = verdict.nodes.as_slice().iter();
+    let mut nodes = nodes.iter();
     nodes.any(|passed| is_fault(&passed.cause))
+}
+
+fn has_budget(nodes: &[Passed]) -> bool
+    ensures { result ≡ has_budget nodes.now }
+{
+    let mut nodes = nodes.iter();
+    nodes.any(|passed| is_budget(&passed.cause))
 }
 
 fn is_fault(cause: &Cause) -> bool
     ensures { result ≡ is_fault cause.now }
 {
     match cause {
-        Cause::Unsat => false,
+        Cause::Unsat | Cause::Budget(_) | Cause::Other(_) => false,
         Cause::Fault(_) => true,
     }
 }
 
+fn is_budget(cause: &Cause) -> bool
+    ensures { result ≡ is_budget cause.now }
+{
+    match cause {
+        Cause::Unsat | Cause::Fault(_) | Cause::Other(_) => false,
+        Cause::Budget(_) => true,
+    }
+}
+
 /// A refusal of a command on the object of this kind and name.
-fn refusal_text(alloc: Global, name: &String, refusal: Refusal) -> Result<String, AllocError>
-    ensures { IfOk result (λ s. string_bytes s ≡ refusal_text (string_bytes name.now) refusal) }
+fn refusal_text(alloc: Global, name: &String, refusal: &Refusal) -> Result<String, AllocError>
+    ensures { IfOk result (λ s. string_bytes s ≡ refusal_text (string_bytes name.now) refusal.now) }
 {
     match refusal {
         Refusal::Invalid => format!(in alloc; "denied Invalid {name}"),
@@ -93,11 +136,13 @@ fn refusal_text(alloc: Global, name: &String, refusal: Refusal) -> Result<String
         Refusal::Immutable => format!(in alloc; "denied Immutable {name}"),
         Refusal::InUse => format!(in alloc; "denied InUse {name}"),
         Refusal::Devices => format!(in alloc; "denied Devices {MOST_DEVICES}"),
+        Refusal::Busy(job) => format!(in alloc; "denied Busy {job}"),
+        Refusal::Bound(node) => format!(in alloc; "denied Bound {node}"),
     }
 }
 
-fn denial_text(alloc: Global, command: &Command, refusal: Refusal) -> Result<String, AllocError>
-    ensures { IfOk result (λ s. string_bytes s ≡ denial_text command.now refusal) }
+fn denial_text(alloc: Global, command: &Command, refusal: &Refusal) -> Result<String, AllocError>
+    ensures { IfOk result (λ s. string_bytes s ≡ denial_text command.now refusal.now) }
 {
     match command {
         Command::Invalid(error) => {
@@ -109,6 +154,10 @@ fn denial_text(alloc: Global, command: &Command, refusal: Refusal) -> Result<Str
         }
         Command::Delete(target) => {
             let name = target_text(alloc, target)?;
+            refusal_text(alloc, &name, refusal)
+        }
+        Command::Schedule(pod) => {
+            let name = format!(in alloc; "Pod {pod}")?;
             refusal_text(alloc, &name, refusal)
         }
     }
@@ -133,6 +182,6 @@ pub fn event_text(alloc: Global, event: &Event) -> Result<String, AllocError>
         }
         Event::Bound { pod, node } => format!(in alloc; "bound {pod} {node}"),
         Event::Judged { pod, verdict } => verdict_text(alloc, pod, verdict),
-        Event::Denied { command, refusal } => denial_text(alloc, command, *refusal),
+        Event::Denied { command, refusal } => denial_text(alloc, command, refusal),
     }
 }

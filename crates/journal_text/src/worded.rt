@@ -66,7 +66,7 @@ impl Worded for SelectorFault {
     }
 }
 
-/// As `unsat`, or as the fault.
+/// As `unsat`, `budget`, `other:claim`, or as the fault.
 impl Worded for Cause {
     ghost words = { cause_text };
 
@@ -74,6 +74,8 @@ impl Worded for Cause {
         match self {
             Cause::Unsat => Ok(out.push_str("unsat")?),
             Cause::Fault(fault) => fault.push_to(out),
+            Cause::Budget(_) => Ok(out.push_str("budget")?),
+            Cause::Other(claim) => write!(out, "other:{claim}"),
         }
     }
 }

@@ -1,5 +1,5 @@
 -- What one entry more does to a history.
-use Rattle.std.proofs.Common.{ℕ, ◌+◌, ◌≤◌, ◌<◌, List, [], ◌∷◌, ◌++◌, ◌≡◌, ◌∙◌, cond, eqb, length, refl, ap, arith, take, append_assoc, subst, sym, append-nil, length-append}
+use Rattle.std.proofs.Common.{ℕ, ◌+◌, List, [], ◌∷◌, ◌++◌, ◌≡◌, ◌∙◌, cond, eqb, length, refl, ap, arith, append_assoc, subst, sym, append-nil}
 use Rattle.std.proofs.lemmas.List.{take_all}
 use Rattle.object_fields.specs.declared.key.Key.{Key}
 use Rattle.cluster.specs.declared.state.State.{State}

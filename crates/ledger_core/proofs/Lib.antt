@@ -6,4 +6,7 @@ pub mod GoingOn
 pub mod Applying
 pub mod Headlines
 pub mod Holders
+pub mod Busy
+pub mod Using
+pub mod Claiming
 pub mod Limits

@@ -1,5 +1,5 @@
 -- Each object keeps its limits in each state of a legal history.
-use Rattle.std.proofs.Common.{ℕ, ◌+◌, ◌≡◌, ◌∙◌, List, [], ◌∷◌, ◌++◌, Bool, true, false, cond, Option, None, Some, length, refl, sym, ap, subst, append_assoc, append-nil, take, drop}
+use Rattle.std.proofs.Common.{ℕ, ◌+◌, ◌≡◌, List, [], ◌∷◌, ◌++◌, Bool, true, false, cond, Option, None, Some, length, refl, sym, subst, append_assoc, append-nil, take, drop}
 use Rattle.std.specs.Map.{lookup, remove_entry, set_value}
 use Rattle.std.specs.Option.{option_map_or}
 use Rattle.std.specs.Ordering.{match_ordering}
@@ -52,17 +52,17 @@ by_test : {A : Type 0} (Q : A → Type 0) (b : Bool) (x y : A) → Q x → Q y �
 by_test Q true x y a b = a
 by_test Q false x y a b = b
 
-inserted : {K V : Type 0} (P : V → Type 0) (cmp : K → K → Ordering) (es : List (K × V)) (k : K) (v : V) → Each P es → P v → Each P (insert_entry cmp es k v)
+pub inserted : {K V : Type 0} (P : V → Type 0) (cmp : K → K → Ordering) (es : List (K × V)) (k : K) (v : V) → Each P es → P v → Each P (insert_entry cmp es k v)
 inserted P cmp [] k v h p = (p, tt)
 inserted P cmp (e ∷ es) k v h p =
     by_order (Each P) (cmp k e.0) ((k, v) ∷ e ∷ es) ((e.0, v) ∷ es) (e ∷ insert_entry cmp es k v) (p, h) (p, h.1) (h.0, inserted P cmp es k v h.1 p)
 
-set_kept : {K V : Type 0} (P : V → Type 0) (test : K → Bool) (es : List (K × V)) (v : V) → Each P es → P v → Each P (set_value test es v)
+pub set_kept : {K V : Type 0} (P : V → Type 0) (test : K → Bool) (es : List (K × V)) (v : V) → Each P es → P v → Each P (set_value test es v)
 set_kept P test [] v h p = h
 set_kept P test (e ∷ es) v h p =
     by_test (Each P) (test e.0) ((e.0, v) ∷ es) (e ∷ set_value test es v) (p, h.1) (h.0, set_kept P test es v h.1 p)
 
-removed : {K V : Type 0} (P : V → Type 0) (test : K → Bool) (es : List (K × V)) → Each P es → Each P (remove_entry test es)
+pub removed : {K V : Type 0} (P : V → Type 0) (test : K → Bool) (es : List (K × V)) → Each P es → Each P (remove_entry test es)
 removed P test [] h = h
 removed P test (e ∷ es) h = by_test (Each P) (test e.0) es (e ∷ remove_entry test es) h.1 (h.0, removed P test es h.1)
 
@@ -73,7 +73,7 @@ found_by : {K V : Type 0} (P : V → Type 0) (test : K → Bool) (b : Bool) (e :
 found_by P test true e es v h p later = subst P (some_same e.1 v h) p
 found_by P test false e es v h p later = later h
 
-found : {K V : Type 0} (P : V → Type 0) (test : K → Bool) (es : List (K × V)) (v : V) → Each P es → lookup test es ≡ Some v → P v
+pub found : {K V : Type 0} (P : V → Type 0) (test : K → Bool) (es : List (K × V)) (v : V) → Each P es → lookup test es ≡ Some v → P v
 found P test [] v h f = absurd (cc)
 found P test (e ∷ es) v h f = found_by P test (test e.0) e es v f h.0 (λ g. found P test es v h.1 g)
 
@@ -82,7 +82,7 @@ changed_by P key f table None is h step = h
 changed_by P key f table (Some v) is h step =
     set_kept P (is_at (key_cmp key)) table (f v) h (step v (found P (is_at (key_cmp key)) table v h is))
 
-changed : {V : Type 0} (P : V → Type 0) (key : Key) (f : V → V) (table : List (Key × V)) → Each P table → ((v : V) → P v → P (f v)) → Each P (changed_at key f table)
+pub changed : {V : Type 0} (P : V → Type 0) (key : Key) (f : V → V) (table : List (Key × V)) → Each P table → ((v : V) → P v → P (f v)) → Each P (changed_at key f table)
 changed P key f table h step = changed_by P key f table (at_key table key) refl h step
 
 named_by : {T : Type 0} (P : T → Type 0) (place : ℕ) (name : List ℕ) (x : T) (table : Named T) (o : Option (Stored T)) → EachOf (λ e. P e.1.object) table → P x → EachOf (λ e. P e.1.object) (put_by place name x table o)

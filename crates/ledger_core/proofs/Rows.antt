@@ -1,10 +1,10 @@
 -- What stands at a number in a table that was changed.
-use Rattle.std.proofs.Common.{ℕ, ◌≡◌, ◌∙◌, ◌<◌, List, [], ◌∷◌, Bool, true, false, cond, eqb, Option, None, Some, refl, sym, ap, arith, eq-eqb, ne_eqb, is_some}
+use Rattle.std.proofs.Common.{ℕ, ◌≡◌, ◌∙◌, ◌<◌, List, [], ◌∷◌, Bool, true, false, cond, eqb, None, Some, refl, sym, ap, arith, eq-eqb, ne_eqb}
 use Rattle.std.specs.Ordering.{nat_cmp, is_eq, MatchOrdering, match_ordering}
 use Rattle.std.specs.declared.cmp.Ordering.{Ordering}
 use Rattle.std.specs.declared.cmp.Ordering.TheVariants.{Less, Equal, Greater}
 use Rattle.std.specs.BTreeMap.{insert_entry, is_at}
-use Rattle.std.specs.Map.{lookup, set_value}
+use Rattle.std.specs.Map.{set_value}
 use Rattle.std.proofs.lemmas.Cmp.{ranked}
 use Rattle.std.proofs.lemmas.Bool.{eqb-true}
 use Rattle.ledger_core.specs.Ledger.{at}

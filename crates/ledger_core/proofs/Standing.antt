@@ -7,7 +7,6 @@ use Rattle.std.specs.BTreeMap.{insert_entry, is_at}
 use Rattle.std.specs.Map.{set_value}
 use Rattle.std.proofs.lemmas.Bool.{eqb-true}
 use Rattle.cluster.specs.declared.entry.Entry.{Entry}
-use Rattle.cluster.specs.declared.entry.Event.{Event}
 use Rattle.cluster.specs.declared.entry.Stand.{Stand}
 use Rattle.cluster.specs.declared.entry.Stand.TheVariants.{Fresh}
 use Rattle.cluster.specs.Events.{stand_after}

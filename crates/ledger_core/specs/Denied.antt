@@ -14,6 +14,7 @@ abbrev pub IsAsked : Command → Type 0
 IsAsked (command.Invalid error) = error.kind ≡ Memory → ⊥
 IsAsked (command.Apply object mode) = IsReady object
 IsAsked (command.Delete target) = Unit {0}
+IsAsked (command.Schedule pod) = Unit {0}
 
 -- the refusal is the first that holds
 pub record MayDeny (s : State) (command : Command) (refusal : Refusal) : Type 0 where

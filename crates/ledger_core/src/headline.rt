@@ -1,19 +1,27 @@
-ghost use Rattle.std.specs.Prelude.{◌≡◌, ◌++◌, ◌∷◌, [], ℕ, List};
+ghost use Rattle.std.specs.Prelude.{◌≡◌, ◌≢◌, ◌++◌, ◌∷◌, [], ℕ, List, true, false};
 ghost use Rattle.object_fields.specs.declared.key.Key.{Key};
 ghost use Rattle.cluster.specs.declared.plan.Plan.{Plan};
 ghost use Rattle.cluster.specs.declared.plan.Verdict.{Verdict};
 ghost use Rattle.cluster.specs.Held.{HeldOnce};
 ghost use Rattle.cluster.specs.declared.entry.Command.{Command};
+ghost use Rattle.cluster.specs.declared.entry.Command.TheVariants.{Schedule};
 ghost use Rattle.cluster.specs.declared.entry.Refusal.{Refusal};
+ghost use Rattle.cluster.specs.declared.entry.Refusal.TheVariants.{Busy};
+ghost use Rattle.cluster.specs.Stand.{has_reserved};
 ghost use Rattle.cluster.specs.declared.entry.Entry.{Entry};
 ghost use Rattle.cluster.specs.declared.entry.Event.{Event};
-ghost use Rattle.cluster.specs.History.{state_at, state_of};
+ghost use Rattle.cluster.specs.History.{stand_of, state_at, state_of};
 ghost use Rattle.ledger_core.specs.Legal.{Legal, Step};
 ghost use Rattle.ledger_core.specs.Denied.{MayDeny};
 ghost use Rattle.ledger_core.specs.Headline.{IsGrantOf, IsVerdictOf};
 ghost use Rattle.ledger_core.specs.Limits.{ObjectsKept};
+ghost use Rattle.ledger_core.specs.Users.{PodsUseClaims, UsersAreBusy};
+ghost use Rattle.cluster.specs.Denied.{is_busy, is_user};
+ghost use Rattle.pool_view.specs.Names.{at_key};
 
 use alloc_rules::one_holder_is_kept;
+use allocations::budget_is_true;
+use cluster::same_is_equal;
 
 /// Each entry of a legal history may follow the entries before it, and each front of a legal history
 /// is legal.
@@ -22,19 +30,25 @@ pub fn legal_steps()
     ensures front { (front back : List Entry) → Legal (front ++ back) → Legal front }
 {}
 
-/// Each reservation of a legal history grants an allocation: in the state before it, the plan's
-/// grants are an allocation of the pod's claims without a grant on the plan's node.
+/// Each reservation of a legal history grants an allocation for the pod: in the state before it, the
+/// plan's grants are an allocation of the pod's claims without a grant on the plan's node, and each
+/// claim of the pod with a grant has it on this node and is joined.
 pub fn grants_are_allocations()
     ensures { (front back : List Entry) (job : ℕ) (pod : Key) (plan : Plan) →
         Legal (front ++ record { job = job; event = Event.Reserved pod plan } ∷ back) → IsGrantOf front pod plan }
 {}
 
-/// Each verdict of a legal history is true: at the verdict's place a node whose cause says so had no
-/// allocation for the pod, and where each cause says so, no node had one.
+/// Each verdict of a legal history is true at its place. A claim that it names isn't there, or has 256
+/// users other than the pod. Of the nodes that it names, which are all, a node whose cause says so
+/// had no allocation, and where no cause is a fault or the budget, no node had an allocation for
+/// the pod; the walk of a node whose search ended with its budget is longer, and the items that were
+/// looked at are neither an allocation nor a fault; a claim whose grant is elsewhere has it on another node.
 pub fn verdicts_are_true()
     ensures { (front back : List Entry) (job : ℕ) (pod : Key) (verdict : Verdict) →
         Legal (front ++ record { job = job; event = Event.Judged pod verdict } ∷ back) → IsVerdictOf front pod verdict }
-{}
+{
+    budget_is_true();
+}
 
 /// If a legal history denies a command, its refusal is the first that holds of the command in the
 /// state before the denial, in the order of `State::first_refusal`. If it denies a document for an error, the error isn't out of memory; that the document
@@ -46,6 +60,31 @@ pub fn denials_change_nothing()
     ensures kept { (front : List Entry) (job : ℕ) (command : Command) (refusal : Refusal) →
         state_of (front ++ record { job = job; event = Event.Denied command refusal } ∷ []) ≡ state_of front }
 {}
+
+/// If a legal history denies a Schedule because a job has taken its pod, that job has reserved, and it
+/// isn't the one that is denied.
+pub fn busy_is_another()
+    ensures { (front back : List Entry) (job holder : ℕ) (pod : Key) →
+        Legal (front ++ record { job = job; event = Event.Denied (Schedule pod) (Busy holder) } ∷ back) →
+        (has_reserved (stand_of front holder) ≡ true) × (holder ≢ job) }
+{}
+
+/// Each user of a claim is a pod that is taken or bound, after a legal history and at each place of
+/// it: a pod that is Idle uses no claim.
+pub fn users_are_busy()
+    ensures now { (h : List Entry) → Legal h → UsersAreBusy (state_of h) }
+    ensures always { (h : List Entry) (place : ℕ) → Legal h → UsersAreBusy (state_at h place) }
+    ensures idle { (h : List Entry) (pod : Key) → Legal h → is_busy (at_key (state_of h).pods pod) ≡ false → is_user (state_of h) pod ≡ false }
+{}
+
+/// After a legal history and at each place of it, a pod that is taken or bound uses each of its
+/// claims, and the uses of one that is bound are written.
+pub fn pods_use_claims()
+    ensures now { (h : List Entry) → Legal h → PodsUseClaims (state_of h) }
+    ensures always { (h : List Entry) (place : ℕ) → Legal h → PodsUseClaims (state_at h place) }
+{
+    same_is_equal();
+}
 
 /// Each object keeps the limits and name rules of the API references of `v1` and of
 /// `resource.k8s.io/v1` after a legal history, and at each place of it.

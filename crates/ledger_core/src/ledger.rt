@@ -7,7 +7,7 @@ ghost use Rattle.alloc_rules.specs.Plans.{PlanTrue, VerdictTrue};
 ghost use Rattle.cluster.specs.declared.entry.Command.TheVariants.{Invalid};
 ghost use Rattle.cluster.specs.declared.entry.Refusal.TheVariants as refusal;
 ghost use Rattle.cluster.specs.declared.entry.Event.TheVariants.{Applied, Deleted, Reserved, Wrote, Bound, Judged, Denied};
-ghost use Rattle.cluster.specs.Stand.{has_reserved};
+ghost use Rattle.cluster.specs.Stand.{has_reserved, may_try};
 ghost use Rattle.cluster.specs.Events.{allows, outcome_of, stand_after};
 ghost use Rattle.cluster.specs.Deleted.{without_object};
 ghost use Rattle.ledger_core.specs.Applied.{application};
@@ -15,6 +15,7 @@ ghost use Rattle.ledger_core.specs.Deleted.{deletion, MayDelete};
 ghost use Rattle.ledger_core.specs.Wrote.{MayWrite};
 ghost use Rattle.ledger_core.specs.Bound.{MayBind};
 ghost use Rattle.cluster.specs.State.{has_room, taken_node, version_of};
+ghost use Rattle.ledger_core.specs.Begun.{Begins};
 ghost use Rattle.ledger_core.specs.Ledger.{appended, at, stand_in};
 ghost use Rattle.cluster.specs.History.{entry_at, state_of, stand_of};
 ghost use Rattle.ledger_core.specs.Legal.{Legal};
@@ -40,6 +41,15 @@ pub struct Done {
     pub place: u64,
     /// What became of the command.
     pub outcome: Outcome,
+}
+
+/// How a pod's scheduling begins.
+#[derive(Clone, Copy, Debug, PartialEq, Eq, Drop)]
+pub enum Start {
+    /// The command was denied, which ends its job.
+    Denied(Done),
+    /// The pod is there and Idle, and a search may begin: so many entries stand in the history.
+    Seen(u64),
 }
 
 /// A legal history, and the state after it.
@@ -184,6 +194,28 @@ impl Ledger {
             return Err(LedgerError::Memory);
         }
         self.refuse(job, Command::Invalid(error), Refusal::Invalid)
+    }
+
+    /// Begins to schedule a pod: if a refusal of the command holds (`State::schedule_refusal`), the entry
+    /// is a denial that carries the pod and the first such, and the state stays as it was; else the
+    /// pod is there and Idle, and nothing is appended. `Full` comes if a denial is due and the history
+    /// has its limit of entries, and `Memory` only if memory runs out; then nothing changed.
+    pub fn begin(&mut self, alloc: Global, job: u64, pod: &Key) -> Result<Start, LedgerError>
+        requires { may_try (stand_of self.old.entries job) ≡ true }
+        ensures begins { IfOk result (λ start. Begins self.old self.new job pod.now start) }
+        ensures legal { Legal self.new.entries }
+        ensures full { (n : ℕ) → IsErrOf result (LedgerError.Full n) → (length self.old.entries ≡ n) × (self.old.limit ≤ n) }
+        ensures err { OnErr result (self.new ≡ self.old) }
+    {
+        let at = self.len();
+        match self.state.schedule_refusal(alloc, pod)? {
+            None => Ok(Start::Seen(at)),
+            Some(refusal) => {
+                let pod = pod.copy(alloc)?;
+                let done = self.refuse(job, Command::Schedule(pod), refusal)?;
+                Ok(Start::Denied(done))
+            }
+        }
     }
 
     /// Takes the pod for the job, and makes the plan's grants.

@@ -3,6 +3,10 @@
 pub struct Options {
     /// The most entries of the history.
     pub entries: u64,
+    /// The most items of a node's walk that a search looks at.
+    pub budget: u64,
+    /// The most attempts to schedule a pod.
+    pub attempts: u64,
     /// The most bytes that a read gives.
     pub pieces: u64,
     /// The most bytes that a write takes.
@@ -18,6 +22,8 @@ impl Options {
     fn plain() -> Self {
         Options {
             entries: 1_000_000,
+            budget: 100_000,
+            attempts: 32,
             pieces: 65_536,
             takes: u64::MAX,
             fail_read: 0,
@@ -32,6 +38,14 @@ impl Options {
         match key {
             "entries" => Some(Options {
                 entries: number,
+                ..self
+            }),
+            "budget" => Some(Options {
+                budget: number,
+                ..self
+            }),
+            "attempts" => Some(Options {
+                attempts: number,
                 ..self
             }),
             "pieces" => Some(Options {

@@ -1,7 +1,7 @@
 use crate::options::Options;
 use crate::ports::{Input, Output};
 use dra_ports::{PortError, read_all};
-use replay_core::{Status, replay};
+use replay_core::{ReplayOptions, Status, replay};
 use std::alloc::{AllocError, Global};
 
 /// How a run ended.
@@ -61,12 +61,16 @@ const ENTRIES_BOUND: u64 = 281_474_976_710_656;
 pub fn run_once(alloc: Global, script: &[u8], options: Options) -> Result<Outcome, AllocError> {
     let takes = (options.takes as usize).max(1);
     let pieces = (options.pieces as usize).max(1);
-    let entries = options.entries.min(ENTRIES_BOUND - 1);
+    let how = ReplayOptions {
+        budget: options.budget,
+        attempts: options.attempts.max(1),
+        entries: options.entries.min(ENTRIES_BOUND - 1),
+    };
     let Ok(mut output) = Output::new(alloc, takes, options.fail_write) else {
         return Err(AllocError);
     };
     let mut input = Input::new(alloc, script, pieces, options.fail_read)?;
-    let status = replay(alloc, entries, &mut input, &mut output);
+    let status = replay(alloc, how, &mut input, &mut output);
     let reads = input.reads;
     let read_faults = input.faults;
     let left = left_in(alloc, &mut input)?;

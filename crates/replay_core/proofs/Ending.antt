@@ -12,12 +12,13 @@ use Rattle.ledger_core.specs.Ledger.{History}
 use Rattle.journal_text.specs.Journal.{lines_from, summary_of, text_of}
 use Rattle.commands.specs.declared.command.Command.{Command}
 use Rattle.commands.specs.Commands.{commands_of_document}
+use Rattle.replay_core.specs.declared.options.ReplayOptions.{ReplayOptions}
 use Rattle.replay_core.specs.declared.status.Status.{Status}
 use Rattle.replay_core.specs.declared.status.Status.TheVariants as status
 use Rattle.replay_core.specs.declared.work.Work.{Work}
 use Rattle.replay_core.specs.Script.{Clean, Cut, Bad, Script, add_commands, at_each, ending_of, nothing, prepend, script_by, script_from, script_of}
 use Rattle.replay_core.specs.Jobs.{JobBegun}
-use Rattle.replay_core.specs.Lines.{MetNext, MetPrinted, PrintedShort, Stops, Summarized, new_lines, search_budget, schedule_attempts}
+use Rattle.replay_core.specs.Lines.{MetNext, MetPrinted, PrintedShort, Stops, Summarized, new_lines}
 use Rattle.replay_core.specs.Replay.{Ends, EndsAt, EndsFull, EndsRead, EndsShort, IsPart, Tells, TellsFirst}
 use Rattle.replay_core.specs.Progress.{IsSound, Progress, Standing}
 use Rattle.replay_core.specs.Turns.{DocumentDid, DocumentStops, Unread}
@@ -30,31 +31,31 @@ abbrev pub TellsDocument : Option (List ℕ) → List (ℕ × Command) → ℕ �
 TellsDocument left done at document = (bytes : List ℕ) → left ≡ Some bytes → (rest : Script) × (script_of bytes ≡ prepend done (add_commands at (commands_of_document document) rest))
 
 -- a document that was done
-pub record Moved (limit : ℕ) (before next : Option (List ℕ)) (done : List (ℕ × Command)) (at : ℕ) (document : List ℕ) (old new : Work) : Type 0 where
+pub record Moved (options : ReplayOptions) (before next : Option (List ℕ)) (done : List (ℕ × Command)) (at : ℕ) (document : List ℕ) (old new : Work) : Type 0 where
   pub now_done : List (ℕ × Command)
-  pub standing : Standing limit before next now_done new
+  pub standing : Standing options before next now_done new
   pub script : (rest : Script) → prepend done (add_commands at (commands_of_document document) rest) ≡ prepend now_done rest
 
-pub document_moves : (limit : ℕ) (before now next : Option (List ℕ)) (done : List (ℕ × Command)) (at : ℕ) (document : List ℕ) (old new : Work)
-    → Standing limit before now done old → DocumentDid at document old new now next → Moved limit before next done at document old new
-document_moves limit before now next done at document old new s (cs, is, did) = record {
+pub document_moves : (options : ReplayOptions) (before now next : Option (List ℕ)) (done : List (ℕ × Command)) (at : ℕ) (document : List ℕ) (old new : Work)
+    → Standing options before now done old → DocumentDid options at document old new now next → Moved options before next done at document old new
+document_moves options before now next done at document old new s (cs, is, did) = record {
   now_done = done ++ at_each at cs;
-  standing = did.standing limit before done s;
+  standing = did.standing before done s;
   script = λ rest. document_is done at document cs rest is;
 }
 
 -- what isn't done leaves the commands before it
-short_lines : (limit : ℕ) (left before now next : Option (List ℕ)) (done : List (ℕ × Command)) (old : Work) → Standing limit before now done old → TellsFirst left done → Appends now next []
-    → EndsShort limit left before next
-short_lines limit left before now next done old s tells kept = record {
+short_lines : (options : ReplayOptions) (left before now next : Option (List ℕ)) (done : List (ℕ × Command)) (old : Work) → Standing options before now done old → TellsFirst left done → Appends now next []
+    → EndsShort options left before next
+short_lines options left before now next done old s tells kept = record {
   text = lines_from 0 old.ledger.entries;
   due = inl (record { done = done; script = tells; history = old.ledger.entries; run = s.run; is = refl });
   written = front_all before next (lines_from 0 old.ledger.entries) (appends_kept before now next (lines_from 0 old.ledger.entries) s.printed kept);
 }
 
-part_of : (limit : ℕ) (before now : Option (List ℕ)) (done : List (ℕ × Command)) (c : Command) (old new : Work) (n : ℕ) → Standing limit before now done old → IsSound new.ledger → MetNext c old new n
-    → IsPart done c limit new.ledger.entries
-part_of limit before now done c old new n s sound met =
+part_of : (options : ReplayOptions) (before now : Option (List ℕ)) (done : List (ℕ × Command)) (c : Command) (old new : Work) (n : ℕ) → Standing options before now done old → IsSound new.ledger → MetNext options c old new n
+    → IsPart options done c new.ledger.entries
+part_of options before now done c old new n s sound met =
     let grown : new.ledger.entries ≡ old.ledger.entries ++ met.segment = ap (λ (h : History). h.entries) met.is in
     let same : new.ledger.limit ≡ old.ledger.limit = ap (λ (h : History). h.limit) met.is in
     let job : old.commands + 1 ≡ length done + 1 = omega (arith, s.count_is) in
@@ -65,35 +66,35 @@ part_of limit before now done c old new n s sound met =
       legal = sound.legal;
       run = s.run.run;
       built = met.built;
-      begun = subst (λ (k : ℕ). JobBegun k c search_budget schedule_attempts old.ledger.entries met.segment) job met.begun;
+      begun = subst (λ (k : ℕ). JobBegun k c options.budget options.attempts old.ledger.entries met.segment) job met.begun;
       full = omega (arith, same, s.limit_is, met.full, met.count_is, sound.within);
     }
 
 -- a command of which a front of the lines is printed
-short_command : LinesLaw → (limit : ℕ) (left before now next : Option (List ℕ)) (done : List (ℕ × Command)) (at : ℕ) (c : Command) (old new : Work) → Standing limit before now done old
-    → TellsFirst left (done ++ (at, c) ∷ []) → IsSound new.ledger → PrintedShort c old new now next → EndsShort limit left before next
-short_command lines limit left before now next done at c old new s tells sound (inl ran) = record {
+short_command : LinesLaw → (options : ReplayOptions) (left before now next : Option (List ℕ)) (done : List (ℕ × Command)) (at : ℕ) (c : Command) (old new : Work) → Standing options before now done old
+    → TellsFirst left (done ++ (at, c) ∷ []) → IsSound new.ledger → PrintedShort options c old new now next → EndsShort options left before next
+short_command lines options left before now next done at c old new s tells sound (inl ran) = record {
   text = lines_from 0 new.ledger.entries;
-  due = inl (record { done = done ++ (at, c) ∷ []; script = tells; history = new.ledger.entries; run = run_more limit done at c old new s.run s.count_is s.limit_is sound ran.built ran.ran; is = refl });
+  due = inl (record { done = done ++ (at, c) ∷ []; script = tells; history = new.ledger.entries; run = run_more options done at c old new s.run s.count_is s.limit_is sound ran.built ran.ran; is = refl });
   written = subst (λ (t : List ℕ). AppendsFront before next t) (sym (lines_more lines old.ledger new.ledger ran.ran.segment ran.ran.is))
       (appends_front before now next (lines_from 0 old.ledger.entries) (new_lines old.ledger new.ledger) s.printed ran.printed);
 }
-short_command lines limit left before now next done at c old new s tells sound (inr met) = record {
+short_command lines options left before now next done at c old new s tells sound (inr met) = record {
   text = lines_from 0 new.ledger.entries;
-  due = inr (inl (record { done = done; at = at; command = c; script = tells; history = new.ledger.entries; part = part_of limit before now done c old new met.count s sound met.met; is = refl }));
+  due = inr (inl (record { done = done; at = at; command = c; script = tells; history = new.ledger.entries; part = part_of options before now done c old new met.count s sound met.met; is = refl }));
   written = subst (λ (t : List ℕ). AppendsFront before next t) (sym (lines_more lines old.ledger new.ledger met.met.segment met.met.is))
       (appends_front before now next (lines_from 0 old.ledger.entries) (new_lines old.ledger new.ledger) s.printed met.printed);
 }
 
-full_command : LinesLaw → (limit : ℕ) (left before now next : Option (List ℕ)) (done : List (ℕ × Command)) (at : ℕ) (c : Command) (old new : Work) (n : ℕ) → Standing limit before now done old
-    → TellsFirst left (done ++ (at, c) ∷ []) → IsSound new.ledger → MetPrinted c old new now next n → EndsFull limit n left before next
-full_command lines limit left before now next done at c old new n s tells sound met = record {
+full_command : LinesLaw → (options : ReplayOptions) (left before now next : Option (List ℕ)) (done : List (ℕ × Command)) (at : ℕ) (c : Command) (old new : Work) (n : ℕ) → Standing options before now done old
+    → TellsFirst left (done ++ (at, c) ∷ []) → IsSound new.ledger → MetPrinted options c old new now next n → EndsFull options n left before next
+full_command lines options left before now next done at c old new n s tells sound met = record {
   done = done;
   at = at;
   command = c;
   script = tells;
   history = new.ledger.entries;
-  part = part_of limit before now done c old new n s sound met.met;
+  part = part_of options before now done c old new n s sound met.met;
   count_is = sym met.met.count_is;
   written = subst (λ (t : List ℕ). Appends before next t) (sym (lines_more lines old.ledger new.ledger met.met.segment met.met.is))
       (appends_more before now next (lines_from 0 old.ledger.entries) (new_lines old.ledger new.ledger) s.printed met.printed);
@@ -115,21 +116,21 @@ tells_up_to left done at document cs front c back tells is are bytes e =
     )
 
 -- a command that wasn't done
-command_stops : LinesLaw → (limit : ℕ) (left left_now before now next : Option (List ℕ)) (done : List (ℕ × Command)) (at : ℕ) (c : Command) (old new : Work) (s : Status)
-    → Standing limit before now done old → TellsFirst left (done ++ (at, c) ∷ []) → IsSound new.ledger → Stops at c old new now next s → Ends limit left left_now before next s
-command_stops lines limit left left_now before now next done at c old new status.Done standing tells sound stops = absurd stops
-command_stops lines limit left left_now before now next done at c old new status.Usage standing tells sound stops = absurd stops
-command_stops lines limit left left_now before now next done at c old new (status.Document place) standing tells sound stops = absurd stops
-command_stops lines limit left left_now before now next done at c old new status.Memory standing tells sound (inl kept) =
-    short_lines limit left before now next done old standing (tells_before left done ((at, c) ∷ []) tells) kept
-command_stops lines limit left left_now before now next done at c old new status.Memory standing tells sound (inr short) =
-    short_command lines limit left before now next done at c old new standing tells sound short
-command_stops lines limit left left_now before now next done at c old new status.Read standing tells sound stops = absurd stops
-command_stops lines limit left left_now before now next done at c old new status.Write standing tells sound short =
-    short_command lines limit left before now next done at c old new standing tells sound short
-command_stops lines limit left left_now before now next done at c old new (status.Limit n) standing tells sound met =
-    inl (full_command lines limit left before now next done at c old new n standing tells sound met)
-command_stops lines limit left left_now before now next done at c old new (status.NotYet place) standing tells sound (same, undone) = record {
+command_stops : LinesLaw → (options : ReplayOptions) (left left_now before now next : Option (List ℕ)) (done : List (ℕ × Command)) (at : ℕ) (c : Command) (old new : Work) (s : Status)
+    → Standing options before now done old → TellsFirst left (done ++ (at, c) ∷ []) → IsSound new.ledger → Stops options at c old new now next s → Ends options left left_now before next s
+command_stops lines options left left_now before now next done at c old new status.Done standing tells sound stops = absurd stops
+command_stops lines options left left_now before now next done at c old new status.Usage standing tells sound stops = absurd stops
+command_stops lines options left left_now before now next done at c old new (status.Document place) standing tells sound stops = absurd stops
+command_stops lines options left left_now before now next done at c old new status.Memory standing tells sound (inl kept) =
+    short_lines options left before now next done old standing (tells_before left done ((at, c) ∷ []) tells) kept
+command_stops lines options left left_now before now next done at c old new status.Memory standing tells sound (inr short) =
+    short_command lines options left before now next done at c old new standing tells sound short
+command_stops lines options left left_now before now next done at c old new status.Read standing tells sound stops = absurd stops
+command_stops lines options left left_now before now next done at c old new status.Write standing tells sound short =
+    short_command lines options left before now next done at c old new standing tells sound short
+command_stops lines options left left_now before now next done at c old new (status.Limit n) standing tells sound met =
+    inl (full_command lines options left before now next done at c old new n standing tells sound met)
+command_stops lines options left left_now before now next done at c old new (status.NotYet place) standing tells sound (same, undone) = record {
   done = done;
   command = c;
   script = subst (λ (k : ℕ). TellsFirst left (done ++ (k, c) ∷ [])) (sym same) tells;
@@ -140,46 +141,46 @@ command_stops lines limit left left_now before now next done at c old new (statu
 }
 
 -- a document whose commands aren't known
-unread_ends : (limit : ℕ) (left left_now before now next : Option (List ℕ)) (done : List (ℕ × Command)) (at : ℕ) (document : List ℕ) (old : Work) (s : Status)
-    → Standing limit before now done old → TellsDocument left done at document → Unread at document now next s → Ends limit left left_now before next s
-unread_ends limit left left_now before now next done at document old status.Done standing tells unread = absurd unread
-unread_ends limit left left_now before now next done at document old status.Usage standing tells unread = absurd unread
-unread_ends limit left left_now before now next done at document old (status.Document place) standing tells unread = record {
+unread_ends : (options : ReplayOptions) (left left_now before now next : Option (List ℕ)) (done : List (ℕ × Command)) (at : ℕ) (document : List ℕ) (old : Work) (s : Status)
+    → Standing options before now done old → TellsDocument left done at document → Unread at document now next s → Ends options left left_now before next s
+unread_ends options left left_now before now next done at document old status.Done standing tells unread = absurd unread
+unread_ends options left left_now before now next done at document old status.Usage standing tells unread = absurd unread
+unread_ends options left left_now before now next done at document old (status.Document place) standing tells unread = record {
   done = done;
   script = λ bytes e. let t = tells bytes e in t.1 ∙ document_is_none done at document t.0 unread.refused ∙ ap (λ (k : ℕ). record { commands = done; ending = Bad k }) (sym unread.place_is);
   history = old.ledger.entries;
   run = standing.run;
   written = appends_kept before now next (lines_from 0 old.ledger.entries) standing.printed unread.printed;
 }
-unread_ends limit left left_now before now next done at document old status.Memory standing tells kept =
-    short_lines limit left before now next done old standing (λ bytes e. let t = tells bytes e in (add_commands at (commands_of_document document) t.0, t.1)) kept
-unread_ends limit left left_now before now next done at document old status.Read standing tells unread = absurd unread
-unread_ends limit left left_now before now next done at document old status.Write standing tells unread = absurd unread
-unread_ends limit left left_now before now next done at document old (status.Limit n) standing tells unread = absurd unread
-unread_ends limit left left_now before now next done at document old (status.NotYet place) standing tells unread = absurd unread
+unread_ends options left left_now before now next done at document old status.Memory standing tells kept =
+    short_lines options left before now next done old standing (λ bytes e. let t = tells bytes e in (add_commands at (commands_of_document document) t.0, t.1)) kept
+unread_ends options left left_now before now next done at document old status.Read standing tells unread = absurd unread
+unread_ends options left left_now before now next done at document old status.Write standing tells unread = absurd unread
+unread_ends options left left_now before now next done at document old (status.Limit n) standing tells unread = absurd unread
+unread_ends options left left_now before now next done at document old (status.NotYet place) standing tells unread = absurd unread
 
 -- a document that wasn't done
-pub document_stops : LinesLaw → (limit : ℕ) (left left_now before now next : Option (List ℕ)) (done : List (ℕ × Command)) (at : ℕ) (document : List ℕ) (old new : Work) (s : Status)
-    → Standing limit before now done old → TellsDocument left done at document → IsSound new.ledger → DocumentStops at document old new now next s → Ends limit left left_now before next s
-document_stops lines limit left left_now before now next done at document old new s standing tells sound (inl unread) =
-    unread_ends limit left left_now before now next done at document old s standing tells unread
-document_stops lines limit left left_now before now next done at document old new s standing tells sound (inr (cs, is, stopped)) =
-    command_stops lines limit left left_now before stopped.between next (done ++ at_each at stopped.front) at stopped.command stopped.work new s
-    (stopped.done.standing limit before done standing)
+pub document_stops : LinesLaw → (options : ReplayOptions) (left left_now before now next : Option (List ℕ)) (done : List (ℕ × Command)) (at : ℕ) (document : List ℕ) (old new : Work) (s : Status)
+    → Standing options before now done old → TellsDocument left done at document → IsSound new.ledger → DocumentStops options at document old new now next s → Ends options left left_now before next s
+document_stops lines options left left_now before now next done at document old new s standing tells sound (inl unread) =
+    unread_ends options left left_now before now next done at document old s standing tells unread
+document_stops lines options left left_now before now next done at document old new s standing tells sound (inr (cs, is, stopped)) =
+    command_stops lines options left left_now before stopped.between next (done ++ at_each at stopped.front) at stopped.command stopped.work new s
+    (stopped.done.standing before done standing)
     (tells_up_to left done at document cs stopped.front stopped.command stopped.back tells is stopped.are) sound stopped.stops
 
 -- what the script is where a document is next
-pub tells_document : (limit : ℕ) (left before written : Option (List ℕ)) (a b : Split) (left_a left_b : Option (List ℕ)) (work : Work) (doc : Document) → (p : Progress limit left (remaining a left_a) before written a.at work)
+pub tells_document : (options : ReplayOptions) (left before written : Option (List ℕ)) (a b : Split) (left_a left_b : Option (List ℕ)) (work : Work) (doc : Document) → (p : Progress options left (remaining a left_a) before written a.at work)
     → IsNext the_limits a b left_a left_b doc → TellsDocument left p.done doc.at doc.bytes
-tells_document limit left before written a b left_a left_b work doc p n bytes e =
+tells_document options left before written a b left_a left_b work doc p n bytes e =
     let r = tells_by left (remaining a left_a) p.taken p.done (λ more. script_from true a.at more) p.consumed (λ more. p.script true more) bytes e in
     let q = rest_of (remaining a left_a) (remaining b left_b) n.taken r.0 n.consumed r.2 in
     (script_from true b.at q.0, r.1 ∙ ap (λ (l : List ℕ). prepend p.done (script_from true a.at l)) q.1 ∙ ap (prepend p.done) (next_script a b left_a left_b doc n true q.0))
 
 -- over a document
-pub over_document : (limit : ℕ) (left before was written : Option (List ℕ)) (a b : Split) (left_a left_b : Option (List ℕ)) (work work_now : Work) (doc : Document) → (p : Progress limit left (remaining a left_a) before was a.at work)
-    → IsNext the_limits a b left_a left_b doc → Moved limit before written p.done doc.at doc.bytes work work_now → Progress limit left (remaining b left_b) before written b.at work_now
-over_document limit left before was written a b left_a left_b work work_now doc p n m = record {
+pub over_document : (options : ReplayOptions) (left before was written : Option (List ℕ)) (a b : Split) (left_a left_b : Option (List ℕ)) (work work_now : Work) (doc : Document) → (p : Progress options left (remaining a left_a) before was a.at work)
+    → IsNext the_limits a b left_a left_b doc → Moved options before written p.done doc.at doc.bytes work work_now → Progress options left (remaining b left_b) before written b.at work_now
+over_document options left before was written a b left_a left_b work work_now doc p n m = record {
   taken = p.taken ++ n.taken;
   consumed = consumes_more left (remaining a left_a) (remaining b left_b) p.taken n.taken p.consumed n.consumed;
   done = m.now_done;
@@ -192,8 +193,8 @@ over_document limit left before was written a b left_a left_b work work_now doc 
 }
 
 -- want of memory between two commands
-pub memory_short : (limit : ℕ) (left now before written : Option (List ℕ)) (at : ℕ) (work : Work) → Progress limit left now before written at work → EndsShort limit left before written
-memory_short limit left now before written at work p = record {
+pub memory_short : (options : ReplayOptions) (left now before written : Option (List ℕ)) (at : ℕ) (work : Work) → Progress options left now before written at work → EndsShort options left before written
+memory_short options left now before written at work p = record {
   text = lines_from 0 work.ledger.entries;
   due = inl (record {
     done = p.done;
@@ -210,9 +211,9 @@ none_within at taken (inl e) = ap (script_by false) e
 none_within at taken (inr (place, e)) = ap (script_by false) e
 
 -- a fault of the input
-pub read_short : (limit : ℕ) (left left_now before written : Option (List ℕ)) (a : Split) (left_a : Option (List ℕ)) (work : Work) → Progress limit left (remaining a left_a) before written a.at work
-    → IsCut the_limits a left_a left_now → EndsRead limit left left_now before written
-read_short limit left left_now before written a left_a work p cut = record {
+pub read_short : (options : ReplayOptions) (left left_now before written : Option (List ℕ)) (a : Split) (left_a : Option (List ℕ)) (work : Work) → Progress options left (remaining a left_a) before written a.at work
+    → IsCut the_limits a left_a left_now → EndsRead options left left_now before written
+read_short options left left_now before written a left_a work p cut = record {
   taken = p.taken ++ cut.taken;
   consumed = consumes_more left (remaining a left_a) left_now p.taken cut.taken p.consumed cut.consumed;
   done = p.done;
@@ -223,26 +224,26 @@ read_short limit left left_now before written a left_a work p cut = record {
 }
 
 -- what the script is where there are no more documents
-pub tells_none : (limit : ℕ) (left before written : Option (List ℕ)) (a : Split) (left_a : Option (List ℕ)) (work : Work) (ending : documents.Ending) → (p : Progress limit left (remaining a left_a) before written a.at work)
+pub tells_none : (options : ReplayOptions) (left before written : Option (List ℕ)) (a : Split) (left_a : Option (List ℕ)) (work : Work) (ending : documents.Ending) → (p : Progress options left (remaining a left_a) before written a.at work)
     → HasNone the_limits a left_a ending → Tells left (record { commands = p.done; ending = ending_of true ending })
-tells_none limit left before written a left_a work ending p none bytes e =
+tells_none options left before written a left_a work ending p none bytes e =
     let t = tells_by left (remaining a left_a) p.taken p.done (λ more. script_from true a.at more) p.consumed (λ more. p.script true more) bytes e in
     t.1 ∙ ap (λ (d : Documents). prepend p.done (script_by true d)) (none t.0 t.2) ∙ prepend_nothing p.done (ending_of true ending)
 
-pub ends_at : (limit : ℕ) (left before written : Option (List ℕ)) (a : Split) (left_a : Option (List ℕ)) (work : Work) (ending : documents.Ending) → Progress limit left (remaining a left_a) before written a.at work
-    → HasNone the_limits a left_a ending → EndsAt limit (ending_of true ending) left before written
-ends_at limit left before written a left_a work ending p none = record {
+pub ends_at : (options : ReplayOptions) (left before written : Option (List ℕ)) (a : Split) (left_a : Option (List ℕ)) (work : Work) (ending : documents.Ending) → Progress options left (remaining a left_a) before written a.at work
+    → HasNone the_limits a left_a ending → EndsAt options (ending_of true ending) left before written
+ends_at options left before written a left_a work ending p none = record {
   done = p.done;
-  script = tells_none limit left before written a left_a work ending p none;
+  script = tells_none options left before written a left_a work ending p none;
   history = work.ledger.entries;
   run = p.standing.run;
   written = p.standing.printed;
 }
 
-short_text : (limit : ℕ) (left before now next : Option (List ℕ)) (done : List (ℕ × Command)) (work : Work) → Standing limit before now done work
-    → Tells left (record { commands = done; ending = Clean }) → AppendsFront now next (summary_of work.ledger.entries work.commands) → EndsShort limit left before next
+short_text : (options : ReplayOptions) (left before now next : Option (List ℕ)) (done : List (ℕ × Command)) (work : Work) → Standing options before now done work
+    → Tells left (record { commands = done; ending = Clean }) → AppendsFront now next (summary_of work.ledger.entries work.commands) → EndsShort options left before next
 unfolding text_of
-short_text limit left before now next done work standing tells printed = record {
+short_text options left before now next done work standing tells printed = record {
   text = lines_from 0 work.ledger.entries ++ summary_of work.ledger.entries work.commands;
   due = inr (inr (record {
     done = done;
@@ -255,10 +256,10 @@ short_text limit left before now next done work standing tells printed = record 
 }
 
 -- the summary after the lines
-pub summary_ends : (limit : ℕ) (left left_now before now next : Option (List ℕ)) (done : List (ℕ × Command)) (work : Work) (s : Status) → Standing limit before now done work
-    → Tells left (record { commands = done; ending = Clean }) → Summarized work now next s → Ends limit left left_now before next s
+pub summary_ends : (options : ReplayOptions) (left left_now before now next : Option (List ℕ)) (done : List (ℕ × Command)) (work : Work) (s : Status) → Standing options before now done work
+    → Tells left (record { commands = done; ending = Clean }) → Summarized work now next s → Ends options left left_now before next s
 unfolding text_of
-summary_ends limit left left_now before now next done work status.Done standing tells printed = record {
+summary_ends options left left_now before now next done work status.Done standing tells printed = record {
   done = done;
   script = tells;
   history = work.ledger.entries;
@@ -266,10 +267,10 @@ summary_ends limit left left_now before now next done work status.Done standing 
   written = subst (λ (k : ℕ). Appends before next (lines_from 0 work.ledger.entries ++ summary_of work.ledger.entries k)) standing.count_is
       (appends_more before now next (lines_from 0 work.ledger.entries) (summary_of work.ledger.entries work.commands) standing.printed printed);
 }
-summary_ends limit left left_now before now next done work status.Usage standing tells printed = absurd printed
-summary_ends limit left left_now before now next done work (status.Document at) standing tells printed = absurd printed
-summary_ends limit left left_now before now next done work status.Memory standing tells printed = short_text limit left before now next done work standing tells printed
-summary_ends limit left left_now before now next done work status.Read standing tells printed = absurd printed
-summary_ends limit left left_now before now next done work status.Write standing tells printed = short_text limit left before now next done work standing tells printed
-summary_ends limit left left_now before now next done work (status.Limit n) standing tells printed = absurd printed
-summary_ends limit left left_now before now next done work (status.NotYet at) standing tells printed = absurd printed
+summary_ends options left left_now before now next done work status.Usage standing tells printed = absurd printed
+summary_ends options left left_now before now next done work (status.Document at) standing tells printed = absurd printed
+summary_ends options left left_now before now next done work status.Memory standing tells printed = short_text options left before now next done work standing tells printed
+summary_ends options left left_now before now next done work status.Read standing tells printed = absurd printed
+summary_ends options left left_now before now next done work status.Write standing tells printed = short_text options left before now next done work standing tells printed
+summary_ends options left left_now before now next done work (status.Limit n) standing tells printed = absurd printed
+summary_ends options left left_now before now next done work (status.NotYet at) standing tells printed = absurd printed

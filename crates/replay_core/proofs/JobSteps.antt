@@ -1,14 +1,19 @@
 -- How a job's entries come to be its whole run.
-use Rattle.std.proofs.Common.{ℕ, ◌+◌, ◌≤◌, ◌<◌, List, [], ◌∷◌, ◌++◌, ◌≡◌, ◌∙◌, Bool, true, false, cond, eqb, Result, Ok, Err, length, refl, sym, ap, arith, subst, append-nil, append_assoc}
+use Rattle.std.proofs.Common.{ℕ, ◌+◌, ◌≤◌, ◌<◌, List, [], ◌∷◌, ◌++◌, ◌≡◌, ◌∙◌, Bool, true, false, cond, eqb, Result, Ok, Err, length, refl, sym, ap, arith, subst, inr, append-nil, append_assoc}
 use Rattle.std.specs.Result.{OnOk, OnErr}
 use Rattle.std.proofs.lemmas.List.{take_all}
 use Rattle.std.proofs.lemmas.List.Sums.{sum_by-cons}
 use Rattle.std.proofs.lemmas.Bool.{eq-eqb}
 use Rattle.object_fields.specs.declared.key.Key.{Key}
 use Rattle.cluster.specs.declared.plan.Plan.{Plan}
-use Rattle.alloc_rules.specs.Plans.{PlanTrue}
+use Rattle.alloc_rules.specs.Decisions.{is_idle_by, is_idle_pod}
+use Rattle.alloc_rules.specs.Plans.{IsIdle, PlanTrue}
 use Rattle.cluster.specs.Reserved.{with_reserved}
-use Rattle.cluster.specs.State.{claims_of}
+use Rattle.cluster.specs.State.{claims_of, is_idle}
+use Rattle.cluster.specs.declared.entry.Command.TheVariants.{Schedule}
+use Rattle.cluster.specs.declared.state.PodState.{PodState}
+use Rattle.ledger_core.specs.declared.ledger.Done.{Done}
+use Rattle.ledger_core.specs.Begun.{IsDenied}
 use Rattle.cluster.specs.Events.{stand_after}
 use Rattle.ledger_core.specs.GoesOn.{GoesOn}
 use Rattle.cluster.specs.declared.state.State.{State}
@@ -113,7 +118,7 @@ begun_from job c budget attempts old new d limit begun none some =
     }
 
 -- one that met the limit of the history
-pub met_from : (job : ℕ) (c : Command) (budget attempts : ℕ) (old new : History) (n : ℕ) → is_built (state_of old.entries) c ≡ true → Begun job c budget attempts old new → IsFull new n → Met job c budget attempts old new n
+pub met_from : (job : ℕ) (c : Command) (budget attempts : ℕ) (old new : History) (n : ℕ) → is_built c ≡ true → Begun job c budget attempts old new → IsFull new n → Met job c budget attempts old new n
 met_from job c budget attempts old new n built b full = record { built = built; segment = b.segment; is = b.is; begun = b.begun; count_is = full.count_is; full = full.full }
 
 fresh_goes : (job : ℕ) (h : List Entry) → stand_of h job ≡ stand.Fresh → (place : ℕ) → stand_of h job ≡ stand.Ended place → ⊥
@@ -140,10 +145,23 @@ on_err P (Err e) p = p
 
 -- an error before the first entry
 pub begun_on_err : {X E : Type 0} (r : Result X E) (job : ℕ) (c : Command) (old new : History) → new ≡ old → stand_of old.entries job ≡ stand.Fresh
-    → OnErr r ((budget attempts : ℕ) → 2 ≤ budget → 0 < attempts → Begun job c budget attempts old new)
+    → OnErr r ((budget attempts : ℕ) → 0 < attempts → Begun job c budget attempts old new)
 begun_on_err r job c old new same fresh =
-    on_err ((budget attempts : ℕ) → 2 ≤ budget → 0 < attempts → Begun job c budget attempts old new) r
-    (λ budget attempts two some. begun_at_first job c budget attempts old new same fresh some)
+    on_err ((budget attempts : ℕ) → 0 < attempts → Begun job c budget attempts old new) r
+    (λ budget attempts some. begun_at_first job c budget attempts old new same fresh some)
+
+-- the same for one budget
+pub begun_within : {X E : Type 0} (r : Result X E) (job : ℕ) (c : Command) (budget : ℕ) (old new : History) → new ≡ old → stand_of old.entries job ≡ stand.Fresh
+    → OnErr r ((attempts : ℕ) → 0 < attempts → Begun job c budget attempts old new)
+begun_within r job c budget old new same fresh =
+    on_err ((attempts : ℕ) → 0 < attempts → Begun job c budget attempts old new) r (λ attempts some. begun_at_first job c budget attempts old new same fresh some)
+
+-- and for each budget within which the searches answer so
+pub begun_if : {X E : Type 0} (P : ℕ → Type 0) (r : Result X E) (job : ℕ) (c : Command) (old new : History) → new ≡ old → stand_of old.entries job ≡ stand.Fresh
+    → OnErr r ((budget attempts : ℕ) → P budget → 0 < attempts → Begun job c budget attempts old new)
+begun_if P r job c old new same fresh =
+    on_err ((budget attempts : ℕ) → P budget → 0 < attempts → Begun job c budget attempts old new) r
+    (λ budget attempts found some. begun_at_first job c budget attempts old new same fresh some)
 
 -- a job that has reserved isn't ended
 pub reserved_goes : (job : ℕ) (h : List Entry) → stand_of h job ≡ stand.Reserved 0 → (place : ℕ) → stand_of h job ≡ stand.Ended place → ⊥
@@ -212,23 +230,33 @@ pub may_finish : (job : ℕ) (pod : Key) (plan : Plan) (old new : History) (t : 
     → MayFinish job pod (keys_at (state_of old.entries) pod) new.entries
 may_finish job pod plan old new t stands is goes =
     let s : State = with_reserved job pod plan (state_of old.entries) in
-    let goes_at : GoesOn s pod job plan.node (keys_at (state_of old.entries) pod) = subst (λ (ks : List Key). GoesOn s pod job plan.node ks) (sym (ap keys_by t.idle.there)) goes in
+    let goes_at : GoesOn s pod job plan.node (keys_at (state_of old.entries) pod) = subst (λ (ks : List Key). GoesOn s pod job plan.node ks) (sym (ap keys_by t.may_search.idle.there)) goes in
     record { stand = stands; node = plan.node; goes_on = subst (λ (x : State). GoesOn x pod job plan.node (keys_at (state_of old.entries) pod)) (sym is) goes_at }
 
 -- a job that began well and was ended was run whole
-pub ran_at_end : {X E : Type 0} (r : Result X E) (job : ℕ) (c : Command) (old mid new : History) → ((budget : ℕ) → 2 ≤ budget → Doing job c budget old.entries mid.entries) → mid.limit ≡ old.limit
+pub ran_at_end : {X E : Type 0} (P : ℕ → Type 0) (r : Result X E) (job : ℕ) (c : Command) (old mid new : History) → ((budget : ℕ) → P budget → Doing job c budget old.entries mid.entries) → mid.limit ≡ old.limit
     → StepsOn job c mid new → OnOk r ((place : ℕ) × (stand_of new.entries job ≡ stand.Ended place))
-    → OnOk r ((budget attempts : ℕ) → 2 ≤ budget → 0 < attempts → Ran job c budget attempts old new)
-ran_at_end (Ok x) job c old mid new begun limit steps ended =
-    λ budget attempts two some. ran_from job c budget attempts old new (steps.doing budget old.entries (begun budget two)) (steps.limit ∙ limit) ended some
-ran_at_end (Err e) job c old mid new begun limit steps ended = tt
+    → OnOk r ((budget attempts : ℕ) → P budget → 0 < attempts → Ran job c budget attempts old new)
+ran_at_end P (Ok x) job c old mid new begun limit steps ended =
+    λ budget attempts found some. ran_from job c budget attempts old new (steps.doing budget old.entries (begun budget found)) (steps.limit ∙ limit) ended some
+ran_at_end P (Err e) job c old mid new begun limit steps ended = tt
 
 -- one that began well and was not ended was begun
-pub begun_later : {X E : Type 0} (r : Result X E) (job : ℕ) (pod : Key) (old mid new : History)
-    → ((budget : ℕ) → 2 ≤ budget → Doing job (command.Schedule pod) budget old.entries mid.entries) → mid.limit ≡ old.limit → StepsOn job (command.Schedule pod) mid new
+pub begun_later : {X E : Type 0} (P : ℕ → Type 0) (r : Result X E) (job : ℕ) (pod : Key) (old mid new : History)
+    → ((budget : ℕ) → P budget → Doing job (command.Schedule pod) budget old.entries mid.entries) → mid.limit ≡ old.limit → StepsOn job (command.Schedule pod) mid new
     → OnErr r (stand_of new.entries job ≡ stand.Reserved 0)
-    → OnErr r ((budget attempts : ℕ) → 2 ≤ budget → 0 < attempts → Begun job (command.Schedule pod) budget attempts old new)
-begun_later (Ok x) job pod old mid new begun limit steps stands = tt
-begun_later (Err e) job pod old mid new begun limit steps stands =
-    λ budget attempts two some.
-    begun_from job (command.Schedule pod) budget attempts old new (steps.doing budget old.entries (begun budget two)) (steps.limit ∙ limit) (reserved_goes job new.entries stands) tt some
+    → OnErr r ((budget attempts : ℕ) → P budget → 0 < attempts → Begun job (command.Schedule pod) budget attempts old new)
+begun_later P (Ok x) job pod old mid new begun limit steps stands = tt
+begun_later P (Err e) job pod old mid new begun limit steps stands =
+    λ budget attempts found some.
+    begun_from job (command.Schedule pod) budget attempts old new (steps.doing budget old.entries (begun budget found)) (steps.limit ∙ limit) (reserved_goes job new.entries stands) tt some
+
+-- a Schedule that is denied was run whole
+pub ran_denied : (law : (h : List Entry) (e : Entry) (job : ℕ) → stand_of (h ++ e ∷ []) job ≡ cond (eqb e.job job) (stand_after (stand_of h job) (length h + 1) e.event) (stand_of h job))
+    → (job : ℕ) (pod : Key) (done : Done) (budget attempts : ℕ) (old new : History) → IsDenied old new job pod done → 0 < attempts → Ran job (command.Schedule pod) budget attempts old new
+ran_denied law job pod done budget attempts old new d some =
+    ran_first law job (command.Schedule pod) budget attempts old new (Denied (Schedule pod) d.refusal) d.entry (inr (d.refusal, refl)) tt refl some
+
+-- a pod of which nothing stands against its scheduling is there and Idle
+pub idle_pod : (s : State) (pod : Key) (state : PodState) → IsIdle s pod state → is_idle_pod s pod ≡ true
+idle_pod s pod state idle = ap is_idle_by idle.there ∙ ap is_idle idle.idle

@@ -7,14 +7,15 @@ use Rattle.cluster.specs.declared.entry.Entry.{Entry}
 use Rattle.cluster.specs.declared.entry.Stand.TheVariants.{Fresh, Ended}
 use Rattle.cluster.specs.Events.{stand_after}
 use Rattle.ledger_core.specs.Ledger.{History}
-use Rattle.cluster.specs.History.{state_of, stand_of}
+use Rattle.cluster.specs.History.{stand_of}
 use Rattle.journal_text.specs.Journal.{lines_from}
 use Rattle.commands.specs.declared.command.Command.{Command}
 use Rattle.replay_core.specs.declared.work.Work.{Work}
 use Rattle.replay_core.specs.Script.{at_each, commands_of}
 use Rattle.replay_core.specs.Built.{is_built}
+use Rattle.replay_core.specs.declared.options.ReplayOptions.{ReplayOptions}
 use Rattle.replay_core.specs.Jobs.{AllMade, JobRun, RunFrom, RunOf}
-use Rattle.replay_core.specs.Lines.{Did, RanNext, new_lines, search_budget, schedule_attempts}
+use Rattle.replay_core.specs.Lines.{Did, RanNext, new_lines}
 use Rattle.replay_core.specs.Replay.{IsRun}
 use Rattle.replay_core.specs.Progress.{IsReady, IsSound, Standing}
 use Rattle.replay_core.specs.Turns.{StandsOn}
@@ -29,11 +30,11 @@ abbrev pub LinesLaw : Type 0
 LinesLaw = (n : ℕ) (xs ys : List Entry) → lines_from n (xs ++ ys) ≡ lines_from n xs ++ lines_from (n + length xs) ys
 
 RunFrom-more : (b a n : ℕ) (before : List Entry) (cs : List Command) (mid : List Entry) (c : Command) (seg : List Entry)
-    → RunFrom b a n before cs mid → is_built (state_of mid) c ≡ true → JobRun (n + length cs + 1) c b a mid seg → RunFrom b a n before (cs ++ c ∷ []) (mid ++ seg)
+    → RunFrom b a n before cs mid → is_built c ≡ true → JobRun (n + length cs + 1) c b a mid seg → RunFrom b a n before (cs ++ c ∷ []) (mid ++ seg)
 unfolding RunFrom
 RunFrom-more b a n before [] mid c seg is built run =
     let eq : n + 0 + 1 ≡ n + 1 = omega arith in
-    (seg, subst (λ (h : List Entry). is_built (state_of h) c ≡ true) is built, subst (λ (h : List Entry). JobRun (n + 1) c b a h seg) is (subst (λ (k : ℕ). JobRun k c b a mid seg) eq run), ap (λ (h : List Entry). h ++ seg) is)
+    (seg, built, subst (λ (h : List Entry). JobRun (n + 1) c b a h seg) is (subst (λ (k : ℕ). JobRun k c b a mid seg) eq run), ap (λ (h : List Entry). h ++ seg) is)
 RunFrom-more b a n before (d ∷ ds) mid c seg r built run =
     let eq : n + length (d ∷ ds) + 1 ≡ n + 1 + length ds + 1 = omega arith in
     (r.0, r.1, r.2, RunFrom-more b a (n + 1) (before ++ r.0) ds mid c seg r.3 built (subst (λ (k : ℕ). JobRun k c b a mid seg) eq run))
@@ -48,7 +49,7 @@ commands_more (d ∷ ds) at c = ap (λ (l : List Command). d.1 ∷ l) (commands_
 
 -- the run of one command more
 pub RunOf-more : (b a : ℕ) (done : List (ℕ × Command)) (mid : List Entry) (at : ℕ) (c : Command) (seg : List Entry) (n : ℕ) → n ≡ length done
-    → RunOf b a (commands_of done) mid → is_built (state_of mid) c ≡ true → JobRun (n + 1) c b a mid seg → RunOf b a (commands_of (done ++ (at, c) ∷ [])) (mid ++ seg)
+    → RunOf b a (commands_of done) mid → is_built c ≡ true → JobRun (n + 1) c b a mid seg → RunOf b a (commands_of (done ++ (at, c) ∷ [])) (mid ++ seg)
 unfolding RunOf
 RunOf-more b a done mid at c seg n is run built job =
     let eq : n + 1 ≡ 0 + length (commands_of done) + 1 = omega (arith, commands_len done) in
@@ -82,16 +83,16 @@ lines_more law old new seg is =
     ∙ ap (λ (l : List Entry). lines_from 0 old.entries ++ lines_from (length old.entries) l) (sym rest)
 
 -- the history of one command more
-pub run_more : (limit : ℕ) (done : List (ℕ × Command)) (at : ℕ) (c : Command) (old new : Work) → IsRun limit done old.ledger.entries → old.commands ≡ length done → old.ledger.limit ≡ limit → IsSound new.ledger
-    → is_built (state_of old.ledger.entries) c ≡ true → RanNext c old new → IsRun limit (done ++ (at, c) ∷ []) new.ledger.entries
-run_more limit done at c old new run count same sound built ran =
+pub run_more : (options : ReplayOptions) (done : List (ℕ × Command)) (at : ℕ) (c : Command) (old new : Work) → IsRun options done old.ledger.entries → old.commands ≡ length done → old.ledger.limit ≡ options.entries → IsSound new.ledger
+    → is_built c ≡ true → RanNext options c old new → IsRun options (done ++ (at, c) ∷ []) new.ledger.entries
+run_more options done at c old new run count same sound built ran =
     let grown : new.ledger.entries ≡ old.ledger.entries ++ ran.segment = ap (λ (h : History). h.entries) ran.is in
     let kept : new.ledger.limit ≡ old.ledger.limit = ap (λ (h : History). h.limit) ran.is in
     record {
       within = omega (arith, kept, same, sound.within);
       legal = sound.legal;
-      run = subst (λ (h : List Entry). RunOf search_budget schedule_attempts (commands_of (done ++ (at, c) ∷ [])) h) (sym grown)
-          (RunOf-more search_budget schedule_attempts done old.ledger.entries at c ran.segment old.commands count run.run built ran.run);
+      run = subst (λ (h : List Entry). RunOf options.budget options.attempts (commands_of (done ++ (at, c) ∷ [])) h) (sym grown)
+          (RunOf-more options.budget options.attempts done old.ledger.entries at c ran.segment old.commands count run.run built ran.run);
     }
 
 -- a job that had no entry and has ended has one
@@ -102,8 +103,8 @@ has_entry before [] job place fresh ended =
 has_entry before (e ∷ es) job place fresh ended = omega arith
 
 -- after a command the next may be done
-pub ready_more : StandLaw → (c : Command) (old new : Work) (before after : Option (List ℕ)) → IsReady old → Did c old new before after → IsReady new
-ready_more stands c old new before after r did =
+pub ready_more : StandLaw → (options : ReplayOptions) (c : Command) (old new : Work) (before after : Option (List ℕ)) → IsReady old → Did options c old new before after → IsReady new
+ready_more stands options c old new before after r did =
     let ran = did.ran in
     let grown : new.ledger.entries ≡ old.ledger.entries ++ ran.segment = ap (λ (h : History). h.entries) ran.is in
     let same : new.ledger.limit ≡ old.ledger.limit = ap (λ (h : History). h.limit) ran.is in
@@ -114,40 +115,40 @@ ready_more stands c old new before after r did =
           let past : old.commands < job = omega (arith, did.counted) in
           let apart : old.commands + 1 ≡ job → ⊥ = λ e. omega (arith, did.counted) in
           ap (λ (h : List Entry). stand_of h job) grown
-          ∙ own_only stands (old.commands + 1) c (length old.ledger.entries) search_budget old.ledger.entries ran.segment job ran.run.made apart
+          ∙ own_only stands (old.commands + 1) c (length old.ledger.entries) options.budget old.ledger.entries ran.segment job ran.run.made apart
           ∙ r.fresh job past;
       few = omega (arith, did.counted, r.few, some, longer);
       small = subst (λ (n : ℕ). n < 2 ^ 48) (sym same) r.small;
     }
 
 -- one command more was done
-pub standing_more : StandLaw → LinesLaw → (limit : ℕ) (before now next : Option (List ℕ)) (done : List (ℕ × Command)) (at : ℕ) (c : Command) (old new : Work)
-    → Standing limit before now done old → Did c old new now next → IsSound new.ledger → Standing limit before next (done ++ (at, c) ∷ []) new
-standing_more stands lines limit before now next done at c old new s did sound =
+pub standing_more : StandLaw → LinesLaw → (options : ReplayOptions) (before now next : Option (List ℕ)) (done : List (ℕ × Command)) (at : ℕ) (c : Command) (old new : Work)
+    → Standing options before now done old → Did options c old new now next → IsSound new.ledger → Standing options before next (done ++ (at, c) ∷ []) new
+standing_more stands lines options before now next done at c old new s did sound =
     let ran = did.ran in
     let same : new.ledger.limit ≡ old.ledger.limit = ap (λ (h : History). h.limit) ran.is in
     record {
-      run = run_more limit done at c old new s.run s.count_is s.limit_is sound did.built ran;
+      run = run_more options done at c old new s.run s.count_is s.limit_is sound did.built ran;
       count_is = omega (arith, did.counted, s.count_is, length-append done ((at, c) ∷ []));
-      ready = ready_more stands c old new now next s.ready did;
+      ready = ready_more stands options c old new now next s.ready did;
       printed = subst (λ (t : List ℕ). Appends before next t) (sym (lines_more lines old.ledger new.ledger ran.segment ran.is))
           (appends_more before now next (lines_from 0 old.ledger.entries) (new_lines old.ledger new.ledger) s.printed did.printed);
       limit_is = same ∙ s.limit_is;
     }
 
 -- nothing was done yet
-pub stands_first : (old : Work) (before : Option (List ℕ)) → StandsOn [] old old before before
-stands_first old before = record {
-  standing = λ limit start done s. subst (λ (l : List (ℕ × Command)). Standing limit start before l old) (sym (append-nil done)) s;
+pub stands_first : (options : ReplayOptions) (old : Work) (before : Option (List ℕ)) → StandsOn options [] old old before before
+stands_first options old before = record {
+  standing = λ start done s. subst (λ (l : List (ℕ × Command)). Standing options start before l old) (sym (append-nil done)) s;
 }
 
 -- and then one command more
-pub stands_more : StandLaw → LinesLaw → (at : ℕ) (front : List Command) (c : Command) (old mid new : Work) (before now next : Option (List ℕ))
-    → StandsOn (at_each at front) old mid before now → Did c mid new now next → IsSound new.ledger → StandsOn (at_each at (front ++ c ∷ [])) old new before next
-stands_more stands lines at front c old mid new before now next on did sound = record {
-  standing = λ limit start done s.
+pub stands_more : StandLaw → LinesLaw → (options : ReplayOptions) (at : ℕ) (front : List Command) (c : Command) (old mid new : Work) (before now next : Option (List ℕ))
+    → StandsOn options (at_each at front) old mid before now → Did options c mid new now next → IsSound new.ledger → StandsOn options (at_each at (front ++ c ∷ [])) old new before next
+stands_more stands lines options at front c old mid new before now next on did sound = record {
+  standing = λ start done s.
       let joined : (done ++ at_each at front) ++ (at, c) ∷ [] ≡ done ++ at_each at (front ++ c ∷ []) =
       append_assoc done (at_each at front) ((at, c) ∷ []) ∙ ap (λ (l : List (ℕ × Command)). done ++ l) (sym (at_each_joined at front (c ∷ []))) in
-      subst (λ (l : List (ℕ × Command)). Standing limit start next l new) joined
-      (standing_more stands lines limit start now next (done ++ at_each at front) at c mid new (on.standing limit start done s) did sound);
+      subst (λ (l : List (ℕ × Command)). Standing options start next l new) joined
+      (standing_more stands lines options start now next (done ++ at_each at front) at c mid new (on.standing start done s) did sound);
 }

@@ -15,6 +15,7 @@ use Rattle.ledger_core.specs.Ledger.{History}
 use Rattle.ledger_core.specs.Legal.{Legal, LegalAfter}
 use Rattle.cluster.specs.History.{stand_of}
 use Rattle.journal_text.specs.Journal.{lines_from}
+use Rattle.replay_core.specs.declared.options.ReplayOptions.{ReplayOptions}
 use Rattle.replay_core.specs.declared.status.Status.{Status}
 use Rattle.replay_core.specs.declared.work.Work.{Work}
 use Rattle.replay_core.specs.Script.{script_of}
@@ -34,44 +35,44 @@ left_at_end [] (Some xs) end = end
 left_at_end (b ∷ bs) (Some xs) end = absurd (cc)
 
 -- a document was next, and was done
-pub step_on : (limit : ℕ) (left before was written : Option (List ℕ)) (a b : Split) (left_a left_b : Option (List ℕ)) (work work_now : Work) (o : Option Doc) (d : Doc) → o ≡ Some d
-    → Answers the_limits a b left_a left_b (Ok o) → DocumentDid d.at d.bytes.items work work_now was written → Progress limit left (remaining a left_a) before was a.at work
-    → Progress limit left (remaining b left_b) before written b.at work_now
-step_on limit left before was written a b left_a left_b work work_now o d e answers did p =
+pub step_on : (options : ReplayOptions) (left before was written : Option (List ℕ)) (a b : Split) (left_a left_b : Option (List ℕ)) (work work_now : Work) (o : Option Doc) (d : Doc) → o ≡ Some d
+    → Answers the_limits a b left_a left_b (Ok o) → DocumentDid options d.at d.bytes.items work work_now was written → Progress options left (remaining a left_a) before was a.at work
+    → Progress options left (remaining b left_b) before written b.at work_now
+step_on options left before was written a b left_a left_b work work_now o d e answers did p =
     let n : IsNext the_limits a b left_a left_b (document_of d) = subst (λ (x : Option Doc). Answers the_limits a b left_a left_b (Ok x)) e answers in
-    over_document limit left before was written a b left_a left_b work work_now (document_of d) p n
-    (document_moves limit before was written p.done d.at d.bytes.items work work_now p.standing did)
+    over_document options left before was written a b left_a left_b work work_now (document_of d) p n
+    (document_moves options before was written p.done d.at d.bytes.items work work_now p.standing did)
 
 -- it wasn't
-pub step_ends : LinesLaw → (limit : ℕ) (left before was written : Option (List ℕ)) (a b : Split) (left_a left_b : Option (List ℕ)) (work work_now : Work) (o : Option Doc) (d : Doc) (s : Status) → o ≡ Some d
-    → Answers the_limits a b left_a left_b (Ok o) → DocumentStops d.at d.bytes.items work work_now was written s → IsSound work_now.ledger → Progress limit left (remaining a left_a) before was a.at work
-    → Ends limit left left_b before written s
-step_ends lines limit left before was written a b left_a left_b work work_now o d s e answers stops sound p =
+pub step_ends : LinesLaw → (options : ReplayOptions) (left before was written : Option (List ℕ)) (a b : Split) (left_a left_b : Option (List ℕ)) (work work_now : Work) (o : Option Doc) (d : Doc) (s : Status) → o ≡ Some d
+    → Answers the_limits a b left_a left_b (Ok o) → DocumentStops options d.at d.bytes.items work work_now was written s → IsSound work_now.ledger → Progress options left (remaining a left_a) before was a.at work
+    → Ends options left left_b before written s
+step_ends lines options left before was written a b left_a left_b work work_now o d s e answers stops sound p =
     let n : IsNext the_limits a b left_a left_b (document_of d) = subst (λ (x : Option Doc). Answers the_limits a b left_a left_b (Ok x)) e answers in
-    document_stops lines limit left left_b before was written p.done d.at d.bytes.items work work_now s p.standing
-    (tells_document limit left before was a b left_a left_b work (document_of d) p n) sound stops
+    document_stops lines options left left_b before was written p.done d.at d.bytes.items work work_now s p.standing
+    (tells_document options left before was a b left_a left_b work (document_of d) p n) sound stops
 
 -- there was none, to the end
 pub end_of : (a b : Split) (left_a left_b : Option (List ℕ)) (o : Option Doc) → o ≡ None → Answers the_limits a b left_a left_b (Ok o) → EndsSo the_limits a b left_a left_b documents.Clean
 end_of a b left_a left_b o e answers = subst (λ (x : Option Doc). Answers the_limits a b left_a left_b (Ok x)) e answers
 
-pub end_ends : (limit : ℕ) (left before was written : Option (List ℕ)) (a b : Split) (left_a left_b : Option (List ℕ)) (work : Work) (o : Option Doc) (s : Status) → o ≡ None
-    → Answers the_limits a b left_a left_b (Ok o) → Summarized work was written s → Progress limit left (remaining a left_a) before was a.at work → Ends limit left left_b before written s
-end_ends limit left before was written a b left_a left_b work o s e answers printed p =
+pub end_ends : (options : ReplayOptions) (left before was written : Option (List ℕ)) (a b : Split) (left_a left_b : Option (List ℕ)) (work : Work) (o : Option Doc) (s : Status) → o ≡ None
+    → Answers the_limits a b left_a left_b (Ok o) → Summarized work was written s → Progress options left (remaining a left_a) before was a.at work → Ends options left left_b before written s
+end_ends options left before was written a b left_a left_b work o s e answers printed p =
     let n = end_of a b left_a left_b o e answers in
-    summary_ends limit left left_b before was written p.done work s p.standing (tells_none limit left before was a left_a work documents.Clean p n.none) printed
+    summary_ends options left left_b before was written p.done work s p.standing (tells_none options left before was a left_a work documents.Clean p n.none) printed
 
 -- there is no next document
-pub none_ends : (limit : ℕ) (left before written : Option (List ℕ)) (a b : Split) (left_a left_b : Option (List ℕ)) (work : Work) (e : DocError) → Progress limit left (remaining a left_a) before written a.at work
-    → Answers the_limits a b left_a left_b (Err e) → Ends limit left left_b before written (input_status e)
-none_ends limit left before written a b left_a left_b work doc.ReadFault p n = read_short limit left left_b before written a left_a work p n
-none_ends limit left before written a b left_a left_b work (doc.Unclosed at) p n = ends_at limit left before written a left_a work (documents.Unclosed at) p n.none
-none_ends limit left before written a b left_a left_b work (doc.Stray at) p n = ends_at limit left before written a left_a work (documents.Stray at) p n
-none_ends limit left before written a b left_a left_b work (doc.TooLong at) p n = ends_at limit left before written a left_a work (documents.TooLong at) p n
-none_ends limit left before written a b left_a left_b work doc.Memory p n = memory_short limit left (remaining a left_a) before written a.at work p
-none_ends limit left before written a b left_a left_b work doc.Input p n = inr (refl, ends_at limit left before written a left_a work documents.Long p n)
+pub none_ends : (options : ReplayOptions) (left before written : Option (List ℕ)) (a b : Split) (left_a left_b : Option (List ℕ)) (work : Work) (e : DocError) → Progress options left (remaining a left_a) before written a.at work
+    → Answers the_limits a b left_a left_b (Err e) → Ends options left left_b before written (input_status e)
+none_ends options left before written a b left_a left_b work doc.ReadFault p n = read_short options left left_b before written a left_a work p n
+none_ends options left before written a b left_a left_b work (doc.Unclosed at) p n = ends_at options left before written a left_a work (documents.Unclosed at) p n.none
+none_ends options left before written a b left_a left_b work (doc.Stray at) p n = ends_at options left before written a left_a work (documents.Stray at) p n
+none_ends options left before written a b left_a left_b work (doc.TooLong at) p n = ends_at options left before written a left_a work (documents.TooLong at) p n
+none_ends options left before written a b left_a left_b work doc.Memory p n = memory_short options left (remaining a left_a) before written a.at work p
+none_ends options left before written a b left_a left_b work doc.Input p n = inr (refl, ends_at options left before written a left_a work documents.Long p n)
 
-empty_run : (limit : ℕ) → IsRun limit [] []
+empty_run : (options : ReplayOptions) → IsRun options [] []
 unfolding Legal LegalAfter RunOf RunFrom
 empty_run limit = record { within = omega arith; legal = tt; run = refl }
 
@@ -84,9 +85,9 @@ begins_with None = tt
 begins_with (Some xs) = refl
 
 -- nothing was taken, and nothing done
-pub progress_begins : (limit : ℕ) (left before : Option (List ℕ)) (work : Work) → limit < 2 ^ 48 → ((job : ℕ) → stand_of [] job ≡ Fresh) → work.commands ≡ 0
-    → work.ledger ≡ record { entries = []; limit = limit } → Progress limit left (prepend_known [] left) before before 0 work
-progress_begins limit left before work small law none ledger =
+pub progress_begins : (options : ReplayOptions) (left before : Option (List ℕ)) (work : Work) → options.entries < 2 ^ 48 → ((job : ℕ) → stand_of [] job ≡ Fresh) → work.commands ≡ 0
+    → work.ledger ≡ record { entries = []; limit = options.entries } → Progress options left (prepend_known [] left) before before 0 work
+progress_begins options left before work small law none ledger =
     let entries : work.ledger.entries ≡ [] = ap (λ (h : History). h.entries) ledger in
     record {
       taken = [];
@@ -94,7 +95,7 @@ progress_begins limit left before work small law none ledger =
       done = [];
       script = λ ended more. refl;
       standing = record {
-        run = subst (λ (h : List Entry). IsRun limit [] h) (sym entries) (empty_run limit);
+        run = subst (λ (h : List Entry). IsRun options [] h) (sym entries) (empty_run options);
         count_is = none;
         ready = record {
           fresh = λ job above. ap (λ (h : List Entry). stand_of h job) entries ∙ law job;
@@ -107,9 +108,9 @@ progress_begins limit left before work small law none ledger =
     }
 
 -- nothing was done, and nothing written
-pub nothing_done : (limit : ℕ) (left before : Option (List ℕ)) → EndsShort limit left before before
-nothing_done limit left before = record {
+pub nothing_done : (options : ReplayOptions) (left before : Option (List ℕ)) → EndsShort options left before before
+nothing_done options left before = record {
   text = [];
-  due = inl (record { done = []; script = λ bytes e. (script_of bytes, refl); history = []; run = empty_run limit; is = sym no_lines });
+  due = inl (record { done = []; script = λ bytes e. (script_of bytes, refl); history = []; run = empty_run options; is = sym no_lines });
   written = (0, appends_none before);
 }

@@ -29,9 +29,9 @@ pub record Begun (job : ℕ) (c : Command) (budget attempts : ℕ) (old new : Hi
   pub is : new ≡ record old { entries = old.entries ++ segment }
   pub begun : JobBegun job c budget attempts old.entries segment
 
--- the job of a command that is of a form that is done was begun, and met the limit of the history
+-- the job of a command of a supported form was begun, and met the limit of the history
 pub record Met (job : ℕ) (c : Command) (budget attempts : ℕ) (old new : History) (count : ℕ) : Type 0 where
-  pub built : is_built (state_of old.entries) c ≡ true
+  pub built : is_built c ≡ true
   pub segment : List Entry
   pub is : new ≡ record old { entries = old.entries ++ segment }
   pub begun : JobBegun job c budget attempts old.entries segment

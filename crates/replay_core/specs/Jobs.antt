@@ -2,7 +2,7 @@
 use Rattle.std.specs.Prelude.{ℕ, ◌≡◌, ◌≤◌, ◌<◌, ◌+◌, ◌==◌, ◌⊎◌, Bool, true, false, List, [], ◌∷◌, ◌++◌, Option, None, Some, length, count_by, if◌then◌else◌}
 use Rattle.object_fields.specs.declared.key.Key.{Key}
 use Rattle.alloc_rules.specs.Plans.{PlanBy, VerdictBy}
-use Rattle.cluster.specs.declared.entry.Command.TheVariants.{Apply, Delete, Invalid}
+use Rattle.cluster.specs.declared.entry.Command.TheVariants.{Apply, Delete, Invalid, Schedule}
 use Rattle.cluster.specs.declared.entry.Mode.TheVariants as mode
 use Rattle.cluster.specs.declared.entry.Refusal.{Refusal}
 use Rattle.cluster.specs.declared.entry.Refusal.TheVariants as refusal
@@ -10,7 +10,7 @@ use Rattle.cluster.specs.declared.entry.Entry.{Entry}
 use Rattle.cluster.specs.declared.entry.Event.{Event}
 use Rattle.cluster.specs.declared.entry.Event.TheVariants.{Applied, Deleted, Reserved, Wrote, Bound, Judged, Denied}
 use Rattle.cluster.specs.declared.entry.Stand.TheVariants.{Ended}
-use Rattle.cluster.specs.History.{state_at, state_of, stand_of}
+use Rattle.cluster.specs.History.{state_at, stand_of}
 use Rattle.commands.specs.declared.command.Command.{Command}
 use Rattle.commands.specs.declared.command.Command.TheVariants as command
 use Rattle.replay_core.specs.Built.{is_built}
@@ -31,7 +31,7 @@ abbrev pub IsOf : Command → Event → Type 0
 IsOf (command.Apply object) event = (event ≡ Applied object mode.Apply) ⊎ ((r : Refusal) × (event ≡ Denied (Apply object mode.Apply) r))
 IsOf (command.Delete target) event = (event ≡ Deleted target) ⊎ ((r : Refusal) × (event ≡ Denied (Delete target) r))
 IsOf (command.Invalid error) event = event ≡ Denied (Invalid error) refusal.Invalid
-IsOf (command.Schedule pod) event = pod_of event ≡ Some pod
+IsOf (command.Schedule pod) event = (pod_of event ≡ Some pod) ⊎ ((r : Refusal) × (event ≡ Denied (Schedule pod) r))
 IsOf command.NotBuilt event = ⊥
 
 -- the place of the job's last entry among those that follow n others, or the one before
@@ -105,11 +105,11 @@ pub record JobBegun (job : ℕ) (c : Command) (budget attempts : ℕ) (before se
   pub attempted : failures segment < attempts
 
 -- The jobs of the commands, numbered on from n, lead from one history to the next. Each command is of
--- a form that is done, in the state before its job.
+-- a supported form.
 unfoldable pub RunFrom : ℕ → ℕ → ℕ → List Entry → List Command → List Entry → Type 0
 RunFrom budget attempts n before [] after = after ≡ before
 RunFrom budget attempts n before (c ∷ cs) after =
-    (segment : List Entry) × (is_built (state_of before) c ≡ true) × JobRun (n + 1) c budget attempts before segment × RunFrom budget attempts (n + 1) (before ++ segment) cs after
+    (segment : List Entry) × (is_built c ≡ true) × JobRun (n + 1) c budget attempts before segment × RunFrom budget attempts (n + 1) (before ++ segment) cs after
 
 -- the history is the run of the commands
 unfoldable pub RunOf : ℕ → ℕ → List Command → List Entry → Type 0

@@ -7,22 +7,15 @@ use Rattle.dra_ports.specs.declared.error.PortError.TheVariants as port
 use Rattle.doc_split.specs.declared.error.DocError.{DocError}
 use Rattle.doc_split.specs.declared.error.DocError.TheVariants as doc
 use Rattle.ledger_core.specs.Ledger.{History}
-use Rattle.cluster.specs.History.{state_of}
 use Rattle.journal_text.specs.Journal.{lines_from, summary_of}
 use Rattle.commands.specs.declared.command.Command.{Command}
+use Rattle.replay_core.specs.declared.options.ReplayOptions.{ReplayOptions}
 use Rattle.replay_core.specs.declared.status.Status.{Status}
 use Rattle.replay_core.specs.declared.status.Status.TheVariants as status
 use Rattle.replay_core.specs.declared.work.Work.{Work}
 use Rattle.replay_core.specs.Built.{is_built}
 use Rattle.replay_core.specs.Script.{most_input}
 use Rattle.replay_core.specs.Doing.{Ran, Met}
-
--- the search budget, and the attempts to schedule a pod
-abbrev pub search_budget : ℕ
-search_budget = 100000
-
-abbrev pub schedule_attempts : ℕ
-schedule_attempts = 32
 
 -- the status for a fault of the output
 abbrev pub output_status : PortError → Status
@@ -43,54 +36,54 @@ abbrev pub new_lines : History → History → List ℕ
 new_lines old new = lines_from (length old.entries) (drop (length old.entries) new.entries)
 
 -- the command was done as the next job
-abbrev pub RanNext : Command → Work → Work → Type 0
-RanNext c old new = Ran (old.commands + 1) c search_budget schedule_attempts old.ledger new.ledger
+abbrev pub RanNext : ReplayOptions → Command → Work → Work → Type 0
+RanNext o c old new = Ran (old.commands + 1) c o.budget o.attempts old.ledger new.ledger
 
 -- the command met the limit
-abbrev pub MetNext : Command → Work → Work → ℕ → Type 0
-MetNext c old new n = Met (old.commands + 1) c search_budget schedule_attempts old.ledger new.ledger n
+abbrev pub MetNext : ReplayOptions → Command → Work → Work → ℕ → Type 0
+MetNext o c old new n = Met (old.commands + 1) c o.budget o.attempts old.ledger new.ledger n
 
 -- the command was done, and its lines are printed
-pub record Did (c : Command) (old new : Work) (before after : Option (List ℕ)) : Type 0 where
-  pub built : is_built (state_of old.ledger.entries) c ≡ true
-  pub ran : RanNext c old new
+pub record Did (options : ReplayOptions) (c : Command) (old new : Work) (before after : Option (List ℕ)) : Type 0 where
+  pub built : is_built c ≡ true
+  pub ran : RanNext options c old new
   pub counted : new.commands ≡ old.commands + 1
   pub printed : Appends before after (new_lines old.ledger new.ledger)
 
--- the command isn't done, for its form isn't
+-- the command wasn't done, for its form isn't supported
 pub record Undone (c : Command) (old : Work) (before after : Option (List ℕ)) : Type 0 where
-  pub unbuilt : is_built (state_of old.ledger.entries) c ≡ false
+  pub unbuilt : is_built c ≡ false
   pub printed : Appends before after []
 
 -- the command met the limit, and its lines are printed
-pub record MetPrinted (c : Command) (old new : Work) (before after : Option (List ℕ)) (n : ℕ) : Type 0 where
-  pub met : MetNext c old new n
+pub record MetPrinted (options : ReplayOptions) (c : Command) (old new : Work) (before after : Option (List ℕ)) (n : ℕ) : Type 0 where
+  pub met : MetNext options c old new n
   pub printed : Appends before after (new_lines old.ledger new.ledger)
 
 -- a front of the command's lines is printed
-pub record RanShort (c : Command) (old new : Work) (before after : Option (List ℕ)) : Type 0 where
-  pub built : is_built (state_of old.ledger.entries) c ≡ true
-  pub ran : RanNext c old new
+pub record RanShort (options : ReplayOptions) (c : Command) (old new : Work) (before after : Option (List ℕ)) : Type 0 where
+  pub built : is_built c ≡ true
+  pub ran : RanNext options c old new
   pub printed : AppendsFront before after (new_lines old.ledger new.ledger)
 
-pub record MetShort (c : Command) (old new : Work) (before after : Option (List ℕ)) : Type 0 where
+pub record MetShort (options : ReplayOptions) (c : Command) (old new : Work) (before after : Option (List ℕ)) : Type 0 where
   pub count : ℕ
-  pub met : MetNext c old new count
+  pub met : MetNext options c old new count
   pub printed : AppendsFront before after (new_lines old.ledger new.ledger)
 
-abbrev pub PrintedShort : Command → Work → Work → Option (List ℕ) → Option (List ℕ) → Type 0
-PrintedShort c old new before after = RanShort c old new before after ⊎ MetShort c old new before after
+abbrev pub PrintedShort : ReplayOptions → Command → Work → Work → Option (List ℕ) → Option (List ℕ) → Type 0
+PrintedShort o c old new before after = RanShort o c old new before after ⊎ MetShort o c old new before after
 
 -- why a command that stands at an offset wasn't done
-abbrev pub Stops : ℕ → Command → Work → Work → Option (List ℕ) → Option (List ℕ) → Status → Type 0
-Stops at c old new before after status.Done = ⊥
-Stops at c old new before after status.Usage = ⊥
-Stops at c old new before after (status.Document place) = ⊥
-Stops at c old new before after status.Memory = Appends before after [] ⊎ PrintedShort c old new before after
-Stops at c old new before after status.Read = ⊥
-Stops at c old new before after status.Write = PrintedShort c old new before after
-Stops at c old new before after (status.Limit n) = MetPrinted c old new before after n
-Stops at c old new before after (status.NotYet place) = (place ≡ at) × Undone c old before after
+abbrev pub Stops : ReplayOptions → ℕ → Command → Work → Work → Option (List ℕ) → Option (List ℕ) → Status → Type 0
+Stops o at c old new before after status.Done = ⊥
+Stops o at c old new before after status.Usage = ⊥
+Stops o at c old new before after (status.Document place) = ⊥
+Stops o at c old new before after status.Memory = Appends before after [] ⊎ PrintedShort o c old new before after
+Stops o at c old new before after status.Read = ⊥
+Stops o at c old new before after status.Write = PrintedShort o c old new before after
+Stops o at c old new before after (status.Limit n) = MetPrinted o c old new before after n
+Stops o at c old new before after (status.NotYet place) = (place ≡ at) × Undone c old before after
 
 -- how printing the summary ends
 abbrev pub Summarized : Work → Option (List ℕ) → Option (List ℕ) → Status → Type 0

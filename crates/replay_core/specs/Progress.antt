@@ -7,6 +7,7 @@ use Rattle.ledger_core.specs.Legal.{Legal}
 use Rattle.ledger_core.specs.Ledger.{History}
 use Rattle.journal_text.specs.Journal.{lines_from}
 use Rattle.commands.specs.declared.command.Command.{Command}
+use Rattle.replay_core.specs.declared.options.ReplayOptions.{ReplayOptions}
 use Rattle.replay_core.specs.declared.work.Work.{Work}
 use Rattle.replay_core.specs.Script.{prepend, script_from}
 use Rattle.replay_core.specs.Replay.{IsRun}
@@ -23,18 +24,18 @@ pub record IsSound (h : History) : Type 0 where
   pub within : length h.entries ≤ h.limit
 
 -- these commands were done, and their lines are printed
-pub record Standing (limit : ℕ) (before now : Option (List ℕ)) (done : List (ℕ × Command)) (work : Work) : Type 0 where
-  pub run : IsRun limit done work.ledger.entries
+pub record Standing (options : ReplayOptions) (before now : Option (List ℕ)) (done : List (ℕ × Command)) (work : Work) : Type 0 where
+  pub run : IsRun options done work.ledger.entries
   pub count_is : work.commands ≡ length done
   pub ready : IsReady work
   pub printed : Appends before now (lines_from 0 work.ledger.entries)
-  pub limit_is : work.ledger.limit ≡ limit
+  pub limit_is : work.ledger.limit ≡ options.entries
 
 -- What was taken of the input up to an offset, and what was done of it: whatever follows, the script
 -- is the commands done and those of what follows.
-pub record Progress (limit : ℕ) (left left_now before now : Option (List ℕ)) (at : ℕ) (work : Work) : Type 0 where
+pub record Progress (options : ReplayOptions) (left left_now before now : Option (List ℕ)) (at : ℕ) (work : Work) : Type 0 where
   pub taken : List ℕ
   pub consumed : Consumes left left_now taken
   pub done : List (ℕ × Command)
   pub script : (ended : Bool) (more : List ℕ) → script_from ended 0 (taken ++ more) ≡ prepend done (script_from ended at more)
-  pub standing : Standing limit before now done work
+  pub standing : Standing options before now done work

@@ -4,33 +4,32 @@ use Rattle.std.specs.Io.KnownBytes.{Appends, Consumes}
 use Rattle.dra_ports.specs.Fronts.{AppendsFront}
 use Rattle.cluster.specs.declared.entry.Entry.{Entry}
 use Rattle.ledger_core.specs.Legal.{Legal}
-use Rattle.cluster.specs.History.{state_of}
 use Rattle.journal_text.specs.Journal.{lines_from, text_of}
 use Rattle.commands.specs.declared.command.Command.{Command}
+use Rattle.replay_core.specs.declared.options.ReplayOptions.{ReplayOptions}
 use Rattle.replay_core.specs.declared.status.Status.{Status}
 use Rattle.replay_core.specs.declared.status.Status.TheVariants as status
 use Rattle.replay_core.specs.Script.{Ending, Clean, Cut, Bad, Long, Script, commands_of, most_input, prepend, script_of, script_within}
 use Rattle.replay_core.specs.Jobs.{JobBegun, RunOf}
 use Rattle.replay_core.specs.Built.{is_built}
-use Rattle.replay_core.specs.Lines.{search_budget, schedule_attempts}
 
 -- the history is legal, the run of the commands, and has at most so many entries
-pub record IsRun (limit : ℕ) (done : List (ℕ × Command)) (h : List Entry) : Type 0 where
-  pub within : length h ≤ limit
+pub record IsRun (options : ReplayOptions) (done : List (ℕ × Command)) (h : List Entry) : Type 0 where
+  pub within : length h ≤ options.entries
   pub legal : Legal h
-  pub run : RunOf search_budget schedule_attempts (commands_of done) h
+  pub run : RunOf options.budget options.attempts (commands_of done) h
 
--- The history is legal, and the run of the commands and then of a part of one more, which is of a form
--- that is done and isn't ended. It has exactly as many entries as it may have.
-pub record IsPart (done : List (ℕ × Command)) (c : Command) (limit : ℕ) (h : List Entry) : Type 0 where
+-- The history is legal, and the run of the commands and then of a part of one more, which is of a
+-- supported form and isn't ended. It has exactly as many entries as it may have.
+pub record IsPart (options : ReplayOptions) (done : List (ℕ × Command)) (c : Command) (h : List Entry) : Type 0 where
   pub before : List Entry
   pub segment : List Entry
   pub is : h ≡ before ++ segment
   pub legal : Legal h
-  pub run : RunOf search_budget schedule_attempts (commands_of done) before
-  pub built : is_built (state_of before) c ≡ true
-  pub begun : JobBegun (length done + 1) c search_budget schedule_attempts before segment
-  pub full : limit ≡ length h
+  pub run : RunOf options.budget options.attempts (commands_of done) before
+  pub built : is_built c ≡ true
+  pub begun : JobBegun (length done + 1) c options.budget options.attempts before segment
+  pub full : options.entries ≡ length h
 
 -- what the script is, where the input tells its bytes
 abbrev pub Tells : Option (List ℕ) → Script → Type 0
@@ -41,91 +40,91 @@ abbrev pub TellsFirst : Option (List ℕ) → List (ℕ × Command) → Type 0
 TellsFirst left done = (bytes : List ℕ) → left ≡ Some bytes → (rest : Script) × (script_of bytes ≡ prepend done rest)
 
 -- all commands of the script were done, and what was written is the whole text of their history
-pub record EndsDone (limit : ℕ) (left before after : Option (List ℕ)) : Type 0 where
+pub record EndsDone (options : ReplayOptions) (left before after : Option (List ℕ)) : Type 0 where
   pub done : List (ℕ × Command)
   pub script : Tells left (record { commands = done; ending = Clean })
   pub history : List Entry
-  pub run : IsRun limit done history
+  pub run : IsRun options done history
   pub written : Appends before after (text_of history (length done))
 
 -- all commands of the script were done, which ends otherwise, and their lines were written
-pub record EndsAt (limit : ℕ) (ending : Ending) (left before after : Option (List ℕ)) : Type 0 where
+pub record EndsAt (options : ReplayOptions) (ending : Ending) (left before after : Option (List ℕ)) : Type 0 where
   pub done : List (ℕ × Command)
   pub script : Tells left (record { commands = done; ending = ending })
   pub history : List Entry
-  pub run : IsRun limit done history
+  pub run : IsRun options done history
   pub written : Appends before after (lines_from 0 history)
 
--- the commands before the one at an offset were done, which is of a form that isn't
-pub record EndsNotYet (limit at : ℕ) (left before after : Option (List ℕ)) : Type 0 where
+-- the commands before the one at an offset were done, whose form isn't supported
+pub record EndsNotYet (options : ReplayOptions) (at : ℕ) (left before after : Option (List ℕ)) : Type 0 where
   pub done : List (ℕ × Command)
   pub command : Command
   pub script : TellsFirst left (done ++ (at, command) ∷ [])
   pub history : List Entry
-  pub run : IsRun limit done history
-  pub unbuilt : is_built (state_of history) command ≡ false
+  pub run : IsRun options done history
+  pub unbuilt : is_built command ≡ false
   pub written : Appends before after (lines_from 0 history)
 
 -- the commands before one that met the limit were done, and a part of that one
-pub record EndsFull (limit count : ℕ) (left before after : Option (List ℕ)) : Type 0 where
+pub record EndsFull (options : ReplayOptions) (count : ℕ) (left before after : Option (List ℕ)) : Type 0 where
   pub done : List (ℕ × Command)
   pub at : ℕ
   pub command : Command
   pub script : TellsFirst left (done ++ (at, command) ∷ [])
   pub history : List Entry
-  pub part : IsPart done command limit history
+  pub part : IsPart options done command history
   pub count_is : count ≡ length history
   pub written : Appends before after (lines_from 0 history)
 
 -- the commands of the documents that stand whole in what was taken were done
-pub record EndsRead (limit : ℕ) (left left_now before after : Option (List ℕ)) : Type 0 where
+pub record EndsRead (options : ReplayOptions) (left left_now before after : Option (List ℕ)) : Type 0 where
   pub taken : List ℕ
   pub consumed : Consumes left left_now taken
   pub done : List (ℕ × Command)
   pub script : script_within taken ≡ record { commands = done; ending = Cut }
   pub history : List Entry
-  pub run : IsRun limit done history
+  pub run : IsRun options done history
   pub written : Appends before after (lines_from 0 history)
 
 -- the lines of the first commands of the script
-pub record IsLines (limit : ℕ) (left : Option (List ℕ)) (text : List ℕ) : Type 0 where
+pub record IsLines (options : ReplayOptions) (left : Option (List ℕ)) (text : List ℕ) : Type 0 where
   pub done : List (ℕ × Command)
   pub script : TellsFirst left done
   pub history : List Entry
-  pub run : IsRun limit done history
+  pub run : IsRun options done history
   pub is : text ≡ lines_from 0 history
 
 -- the same, with those of a part of the next command, which met the limit
-pub record IsPartLines (limit : ℕ) (left : Option (List ℕ)) (text : List ℕ) : Type 0 where
+pub record IsPartLines (options : ReplayOptions) (left : Option (List ℕ)) (text : List ℕ) : Type 0 where
   pub done : List (ℕ × Command)
   pub at : ℕ
   pub command : Command
   pub script : TellsFirst left (done ++ (at, command) ∷ [])
   pub history : List Entry
-  pub part : IsPart done command limit history
+  pub part : IsPart options done command history
   pub is : text ≡ lines_from 0 history
 
 -- the whole text
-pub record IsText (limit : ℕ) (left : Option (List ℕ)) (text : List ℕ) : Type 0 where
+pub record IsText (options : ReplayOptions) (left : Option (List ℕ)) (text : List ℕ) : Type 0 where
   pub done : List (ℕ × Command)
   pub script : Tells left (record { commands = done; ending = Clean })
   pub history : List Entry
-  pub run : IsRun limit done history
+  pub run : IsRun options done history
   pub is : text ≡ text_of history (length done)
 
 -- what was written is a front of such lines, or of the whole text
-pub record EndsShort (limit : ℕ) (left before after : Option (List ℕ)) : Type 0 where
+pub record EndsShort (options : ReplayOptions) (left before after : Option (List ℕ)) : Type 0 where
   pub text : List ℕ
-  pub due : IsLines limit left text ⊎ (IsPartLines limit left text ⊎ IsText limit left text)
+  pub due : IsLines options left text ⊎ (IsPartLines options left text ⊎ IsText options left text)
   pub written : AppendsFront before after text
 
 -- how a replay ends: what the script is, what was done of it, and what was written
-abbrev pub Ends : ℕ → Option (List ℕ) → Option (List ℕ) → Option (List ℕ) → Option (List ℕ) → Status → Type 0
-Ends limit left left_now before after status.Done = EndsDone limit left before after
-Ends limit left left_now before after status.Usage = ⊥
-Ends limit left left_now before after (status.Document at) = EndsAt limit (Bad at) left before after
-Ends limit left left_now before after status.Memory = EndsShort limit left before after
-Ends limit left left_now before after status.Read = EndsRead limit left left_now before after
-Ends limit left left_now before after status.Write = EndsShort limit left before after
-Ends limit left left_now before after (status.Limit count) = EndsFull limit count left before after ⊎ ((count ≡ most_input) × EndsAt limit Long left before after)
-Ends limit left left_now before after (status.NotYet at) = EndsNotYet limit at left before after
+abbrev pub Ends : ReplayOptions → Option (List ℕ) → Option (List ℕ) → Option (List ℕ) → Option (List ℕ) → Status → Type 0
+Ends options left left_now before after status.Done = EndsDone options left before after
+Ends options left left_now before after status.Usage = ⊥
+Ends options left left_now before after (status.Document at) = EndsAt options (Bad at) left before after
+Ends options left left_now before after status.Memory = EndsShort options left before after
+Ends options left left_now before after status.Read = EndsRead options left left_now before after
+Ends options left left_now before after status.Write = EndsShort options left before after
+Ends options left left_now before after (status.Limit count) = EndsFull options count left before after ⊎ ((count ≡ most_input) × EndsAt options Long left before after)
+Ends options left left_now before after (status.NotYet at) = EndsNotYet options at left before after

@@ -3,6 +3,7 @@ use Rattle.std.specs.Prelude.{ℕ, ◌≡◌, ◌⊎◌, List, [], ◌∷◌, �
 use Rattle.std.specs.Io.KnownBytes.{Appends}
 use Rattle.commands.specs.declared.command.Command.{Command}
 use Rattle.commands.specs.Commands.{commands_of_document}
+use Rattle.replay_core.specs.declared.options.ReplayOptions.{ReplayOptions}
 use Rattle.replay_core.specs.declared.status.Status.{Status}
 use Rattle.replay_core.specs.declared.status.Status.TheVariants as status
 use Rattle.replay_core.specs.declared.work.Work.{Work}
@@ -11,24 +12,24 @@ use Rattle.replay_core.specs.Lines.{Stops}
 use Rattle.replay_core.specs.Progress.{Standing}
 
 -- these commands were done: whatever was done before them, they were done after it
-pub record StandsOn (commands : List (ℕ × Command)) (old new : Work) (before after : Option (List ℕ)) : Type 0 where
-  pub standing : (limit : ℕ) (start : Option (List ℕ)) (done : List (ℕ × Command)) → Standing limit start before done old → Standing limit start after (done ++ commands) new
+pub record StandsOn (options : ReplayOptions) (commands : List (ℕ × Command)) (old new : Work) (before after : Option (List ℕ)) : Type 0 where
+  pub standing : (start : Option (List ℕ)) (done : List (ℕ × Command)) → Standing options start before done old → Standing options start after (done ++ commands) new
 
 -- of the commands at an offset those before one were done, and why that one wasn't
-pub record StoppedAmong (at : ℕ) (commands : List Command) (old new : Work) (before after : Option (List ℕ)) (s : Status) : Type 0 where
+pub record StoppedAmong (options : ReplayOptions) (at : ℕ) (commands : List Command) (old new : Work) (before after : Option (List ℕ)) (s : Status) : Type 0 where
   pub front : List Command
   pub command : Command
   pub back : List Command
   pub are : commands ≡ front ++ command ∷ back
   pub work : Work
   pub between : Option (List ℕ)
-  pub done : StandsOn (at_each at front) old work before between
-  pub stops : Stops at command work new between after s
+  pub done : StandsOn options (at_each at front) old work before between
+  pub stops : Stops options at command work new between after s
 
 -- all commands of a document were done
-abbrev pub DocumentDid : ℕ → List ℕ → Work → Work → Option (List ℕ) → Option (List ℕ) → Type 0
-DocumentDid at document old new before after =
-    (cs : List Command) × (commands_of_document document ≡ Some cs) × StandsOn (at_each at cs) old new before after
+abbrev pub DocumentDid : ReplayOptions → ℕ → List ℕ → Work → Work → Option (List ℕ) → Option (List ℕ) → Type 0
+DocumentDid o at document old new before after =
+    (cs : List Command) × (commands_of_document document ≡ Some cs) × StandsOn o (at_each at cs) old new before after
 
 -- the document isn't commands
 pub record IsRefused (at place : ℕ) (document : List ℕ) (before after : Option (List ℕ)) : Type 0 where
@@ -48,7 +49,7 @@ Unread at document before after (status.Limit n) = ⊥
 Unread at document before after (status.NotYet place) = ⊥
 
 -- why a document wasn't done
-abbrev pub DocumentStops : ℕ → List ℕ → Work → Work → Option (List ℕ) → Option (List ℕ) → Status → Type 0
-DocumentStops at document old new before after s =
+abbrev pub DocumentStops : ReplayOptions → ℕ → List ℕ → Work → Work → Option (List ℕ) → Option (List ℕ) → Status → Type 0
+DocumentStops o at document old new before after s =
     Unread at document before after s
-    ⊎ ((cs : List Command) × (commands_of_document document ≡ Some cs) × StoppedAmong at cs old new before after s)
+    ⊎ ((cs : List Command) × (commands_of_document document ≡ Some cs) × StoppedAmong o at cs old new before after s)

@@ -1,7 +1,6 @@
-ghost use Rattle.std.specs.Prelude.{◌≡◌, ◌≤◌, ◌<◌, ◌∷◌, [], ℕ, List, true, false, length, IfOk, OnOk, OnErr, IsErrOf};
-ghost use Rattle.cluster.specs.Claims.{claim_keys, first_places};
-ghost use Rattle.alloc_rules.specs.Claims.{claims_built, schedule_built};
-ghost use Rattle.alloc_rules.specs.Decisions.{IsReserve, IsJudge};
+ghost use Rattle.std.specs.Prelude.{◌≡◌, ◌<◌, ◌∷◌, [], ℕ, List, true, false, length, OnOk, OnErr, IsErrOf};
+ghost use Rattle.alloc_rules.specs.Plans.{PlanBy, PlanTrue, VerdictBy, VerdictTrue};
+ghost use Rattle.alloc_rules.specs.Decisions.{is_idle_pod};
 ghost use Rattle.object_fields.specs.declared.key.Key.{Key};
 ghost use Rattle.cluster.specs.declared.entry.Stand.TheVariants.{Fresh, Reserved, Ended};
 ghost use Rattle.cluster.specs.History.{state_of, stand_of};
@@ -12,71 +11,71 @@ ghost use Rattle.replay_core.specs.Claims.{keys_at};
 
 use crate::Stop;
 use crate::built::is_built;
+use crate::claims::claims_of_pod;
 use alloc_rules::{Decision, decide};
-use api_cluster::{Pod, PodResourceClaim};
-use cluster::{Mode, Plan, Ready, State, Target, Verdict};
+use cluster::{Mode, Plan, Ready, Target, Verdict};
 use commands::Command;
-use dra_values::Seq;
-use ledger_core::{Ledger, LedgerError, histories_grow, reserved_goes_on};
+use ledger_core::{Ledger, LedgerError, Start, histories_grow, reserved_goes_on};
 use object_fields::{FieldError, Key};
-use std::alloc::{AllocError, Global};
+use std::alloc::Global;
 
-/// Does a command as a job that has no entry yet. An Apply has one entry, which creates or updates the
-/// object, a Delete one, which takes the object away, and either may be a denial; an Invalid has one,
-/// which refuses it with its error; a Schedule has one for the reservation, one for each claim of the
-/// pod and one for the binding, or one for the verdict. `Stop::NotBuilt` comes if the command is of a
-/// form that isn't supported yet, and the ledger stays as it was. `Stop::Full` comes if the history has as
-/// many entries as it may have and one more is due, and `Stop::Memory` only if memory runs out: the
-/// entries that were made before stay.
+/// Does a command as a job that has no entry yet, with searches within the budget. An Apply has one
+/// entry, which creates or updates the object, a Delete one, which takes the object away; an Invalid
+/// has one, which refuses it with its error; a Schedule has one for the reservation, one for each claim
+/// of the pod in order and one for the binding, or one for the verdict. Where a refusal of the command
+/// holds, its one entry is the denial. `Stop::NotBuilt` comes if the command is of a form that isn't
+/// supported yet, and the ledger stays as it was. `Stop::Full` comes if the history has as many entries
+/// as it may have and one more is due, and `Stop::Memory` only if memory runs out: the entries that were
+/// made before stay.
 pub fn do_command(
     alloc: Global,
     ledger: &mut Ledger,
     job: u64,
     command: Command,
+    budget: u64,
 ) -> Result<(), Stop>
     requires { stand_of ledger.old.entries job ≡ Fresh }
-    ensures ran { OnOk result ((budget attempts : ℕ) → 2 ≤ budget → 0 < attempts → Ran job command budget attempts ledger.old ledger.new) }
-    ensures begun { OnErr result ((budget attempts : ℕ) → 2 ≤ budget → 0 < attempts → Begun job command budget attempts ledger.old ledger.new) }
-    ensures built { OnOk result (is_built (state_of ledger.old.entries) command ≡ true) }
-    ensures not_built { IsErrOf result Stop.NotBuilt → (is_built (state_of ledger.old.entries) command ≡ false) × (ledger.new ≡ ledger.old) }
-    ensures full { (n : ℕ) → IsErrOf result (Stop.Full n) → (budget attempts : ℕ) → 2 ≤ budget → 0 < attempts → Met job command budget attempts ledger.old ledger.new n }
+    ensures ran { OnOk result ((attempts : ℕ) → 0 < attempts → Ran job command budget attempts ledger.old ledger.new) }
+    ensures begun { OnErr result ((attempts : ℕ) → 0 < attempts → Begun job command budget attempts ledger.old ledger.new) }
+    ensures built { OnOk result (is_built command ≡ true) }
+    ensures not_built { IsErrOf result Stop.NotBuilt → (is_built command ≡ false) × (ledger.new ≡ ledger.old) }
+    ensures full { (n : ℕ) → IsErrOf result (Stop.Full n) → (attempts : ℕ) → 0 < attempts → Met job command budget attempts ledger.old ledger.new n }
 {
-    if !is_built(alloc, ledger.state(), &command)? {
+    if !is_built(&command) {
         return Err(Stop::NotBuilt);
     }
-    do_built(alloc, ledger, job, command)?;
+    do_built(alloc, ledger, job, command, budget)?;
     Ok(())
 }
 
-/// Does a command that is of a form that is done.
-#[tactic(auto, unfolding(crate::specs::Built::is_built))]
+/// Does a command of a supported form.
 fn do_built(
     alloc: Global,
     ledger: &mut Ledger,
     job: u64,
     command: Command,
+    budget: u64,
 ) -> Result<(), LedgerError>
     requires fresh { stand_of ledger.old.entries job ≡ Fresh }
-    requires built { is_built (state_of ledger.old.entries) command ≡ true }
-    ensures ran { OnOk result ((budget attempts : ℕ) → 2 ≤ budget → 0 < attempts → Ran job command budget attempts ledger.old ledger.new) }
-    ensures begun { OnErr result ((budget attempts : ℕ) → 2 ≤ budget → 0 < attempts → Begun job command budget attempts ledger.old ledger.new) }
+    requires built { is_built command ≡ true }
+    ensures ran { OnOk result ((attempts : ℕ) → 0 < attempts → Ran job command budget attempts ledger.old ledger.new) }
+    ensures begun { OnErr result ((attempts : ℕ) → 0 < attempts → Begun job command budget attempts ledger.old ledger.new) }
     ensures full { (n : ℕ) → IsErrOf result (LedgerError.Full n) → IsFull ledger.new n }
 {
     match command {
         Command::Apply(ready) => apply(alloc, ledger, job, ready),
         Command::Invalid(error) => deny(ledger, job, error),
         Command::Delete(target) => delete(alloc, ledger, job, &target),
-        Command::Schedule(pod) => schedule(alloc, ledger, job, &pod),
+        Command::Schedule(pod) => schedule(alloc, ledger, job, &pod, budget),
         Command::NotBuilt => unreachable!(),
     }
 }
 
-/// Applies an object that is of a form that is done.
+/// Creates or updates an object.
 fn apply(alloc: Global, ledger: &mut Ledger, job: u64, ready: Ready) -> Result<(), LedgerError>
-    requires fresh { stand_of ledger.old.entries job ≡ Fresh }
-    requires built { is_built (state_of ledger.old.entries) (Apply ready) ≡ true }
-    ensures ran { OnOk result ((budget attempts : ℕ) → 2 ≤ budget → 0 < attempts → Ran job (Apply ready) budget attempts ledger.old ledger.new) }
-    ensures begun { OnErr result ((budget attempts : ℕ) → 2 ≤ budget → 0 < attempts → Begun job (Apply ready) budget attempts ledger.old ledger.new) }
+    requires { stand_of ledger.old.entries job ≡ Fresh }
+    ensures ran { OnOk result ((budget attempts : ℕ) → 0 < attempts → Ran job (Apply ready) budget attempts ledger.old ledger.new) }
+    ensures begun { OnErr result ((budget attempts : ℕ) → 0 < attempts → Begun job (Apply ready) budget attempts ledger.old ledger.new) }
     ensures full { (n : ℕ) → IsErrOf result (LedgerError.Full n) → IsFull ledger.new n }
 {
     histories_grow();
@@ -87,8 +86,8 @@ fn apply(alloc: Global, ledger: &mut Ledger, job: u64, ready: Ready) -> Result<(
 /// Refuses an object whose fields have this first error.
 fn deny(ledger: &mut Ledger, job: u64, error: FieldError) -> Result<(), LedgerError>
     requires { stand_of ledger.old.entries job ≡ Fresh }
-    ensures ran { OnOk result ((budget attempts : ℕ) → 2 ≤ budget → 0 < attempts → Ran job (Invalid error) budget attempts ledger.old ledger.new) }
-    ensures begun { OnErr result ((budget attempts : ℕ) → 2 ≤ budget → 0 < attempts → Begun job (Invalid error) budget attempts ledger.old ledger.new) }
+    ensures ran { OnOk result ((budget attempts : ℕ) → 0 < attempts → Ran job (Invalid error) budget attempts ledger.old ledger.new) }
+    ensures begun { OnErr result ((budget attempts : ℕ) → 0 < attempts → Begun job (Invalid error) budget attempts ledger.old ledger.new) }
     ensures full { (n : ℕ) → IsErrOf result (LedgerError.Full n) → IsFull ledger.new n }
 {
     histories_grow();
@@ -99,8 +98,8 @@ fn deny(ledger: &mut Ledger, job: u64, error: FieldError) -> Result<(), LedgerEr
 /// Takes an object away.
 fn delete(alloc: Global, ledger: &mut Ledger, job: u64, target: &Target) -> Result<(), LedgerError>
     requires { stand_of ledger.old.entries job ≡ Fresh }
-    ensures ran { OnOk result ((budget attempts : ℕ) → 2 ≤ budget → 0 < attempts → Ran job (Delete target.now) budget attempts ledger.old ledger.new) }
-    ensures begun { OnErr result ((budget attempts : ℕ) → 2 ≤ budget → 0 < attempts → Begun job (Delete target.now) budget attempts ledger.old ledger.new) }
+    ensures ran { OnOk result ((budget attempts : ℕ) → 0 < attempts → Ran job (Delete target.now) budget attempts ledger.old ledger.new) }
+    ensures begun { OnErr result ((budget attempts : ℕ) → 0 < attempts → Begun job (Delete target.now) budget attempts ledger.old ledger.new) }
     ensures full { (n : ℕ) → IsErrOf result (LedgerError.Full n) → IsFull ledger.new n }
 {
     histories_grow();
@@ -108,16 +107,44 @@ fn delete(alloc: Global, ledger: &mut Ledger, job: u64, target: &Target) -> Resu
     Ok(())
 }
 
-/// Schedules a pod of a form that is done.
-fn schedule(alloc: Global, ledger: &mut Ledger, job: u64, pod: &Key) -> Result<(), LedgerError>
-    requires fresh { stand_of ledger.old.entries job ≡ Fresh }
-    requires built { schedule_built (state_of ledger.old.entries) pod.now ≡ true }
-    ensures ran { OnOk result ((budget attempts : ℕ) → 2 ≤ budget → 0 < attempts → Ran job (Schedule pod.now) budget attempts ledger.old ledger.new) }
-    ensures begun { OnErr result ((budget attempts : ℕ) → 2 ≤ budget → 0 < attempts → Begun job (Schedule pod.now) budget attempts ledger.old ledger.new) }
+/// Schedules a pod, or refuses to: a pod that isn't there, is taken by a job or is bound.
+fn schedule(
+    alloc: Global,
+    ledger: &mut Ledger,
+    job: u64,
+    pod: &Key,
+    budget: u64,
+) -> Result<(), LedgerError>
+    requires { stand_of ledger.old.entries job ≡ Fresh }
+    ensures ran { OnOk result ((attempts : ℕ) → 0 < attempts → Ran job (Schedule pod.now) budget attempts ledger.old ledger.new) }
+    ensures begun { OnErr result ((attempts : ℕ) → 0 < attempts → Begun job (Schedule pod.now) budget attempts ledger.old ledger.new) }
     ensures full { (n : ℕ) → IsErrOf result (LedgerError.Full n) → IsFull ledger.new n }
 {
-    let at = ledger.len();
-    match decide(alloc, ledger.state(), pod, at)? {
+    histories_grow();
+    match ledger.begin(alloc, job, pod)? {
+        Start::Denied(_) => Ok(()),
+        Start::Seen(at) => search(alloc, ledger, job, pod, at, budget),
+    }
+}
+
+/// Schedules a pod that is there and Idle, after so many entries: searches within the budget, and
+/// carries out what was found.
+fn search(
+    alloc: Global,
+    ledger: &mut Ledger,
+    job: u64,
+    pod: &Key,
+    at: u64,
+    budget: u64,
+) -> Result<(), LedgerError>
+    requires fresh { stand_of ledger.old.entries job ≡ Fresh }
+    requires idle { is_idle_pod (state_of ledger.old.entries) pod.now ≡ true }
+    requires place { at ≡ length ledger.old.entries }
+    ensures ran { OnOk result ((attempts : ℕ) → 0 < attempts → Ran job (Schedule pod.now) budget attempts ledger.old ledger.new) }
+    ensures begun { OnErr result ((attempts : ℕ) → 0 < attempts → Begun job (Schedule pod.now) budget attempts ledger.old ledger.new) }
+    ensures full { (n : ℕ) → IsErrOf result (LedgerError.Full n) → IsFull ledger.new n }
+{
+    match decide(alloc, ledger.state(), pod, at, budget)? {
         Decision::Reserve(plan) => carry_out(alloc, ledger, job, pod, &plan),
         Decision::Judge(verdict) => judge(alloc, ledger, job, pod, verdict),
     }
@@ -132,9 +159,10 @@ fn judge(
     verdict: Verdict,
 ) -> Result<(), LedgerError>
     requires fresh { stand_of ledger.old.entries job ≡ Fresh }
-    requires verdict { IsJudge (state_of ledger.old.entries) pod.now (length ledger.old.entries) verdict }
-    ensures ran { OnOk result ((budget attempts : ℕ) → 2 ≤ budget → 0 < attempts → Ran job (Schedule pod.now) budget attempts ledger.old ledger.new) }
-    ensures begun { OnErr result ((budget attempts : ℕ) → 2 ≤ budget → 0 < attempts → Begun job (Schedule pod.now) budget attempts ledger.old ledger.new) }
+    requires place { verdict.at ≡ length ledger.old.entries }
+    requires holds { VerdictTrue (state_of ledger.old.entries) pod.now verdict }
+    ensures ran { OnOk result ((budget attempts : ℕ) → VerdictBy (state_of ledger.old.entries) pod.now budget verdict → 0 < attempts → Ran job (Schedule pod.now) budget attempts ledger.old ledger.new) }
+    ensures begun { OnErr result ((budget attempts : ℕ) → VerdictBy (state_of ledger.old.entries) pod.now budget verdict → 0 < attempts → Begun job (Schedule pod.now) budget attempts ledger.old ledger.new) }
     ensures full { (n : ℕ) → IsErrOf result (LedgerError.Full n) → IsFull ledger.new n }
 {
     histories_grow();
@@ -151,18 +179,19 @@ fn carry_out(
     plan: &Plan,
 ) -> Result<(), LedgerError>
     requires fresh { stand_of ledger.old.entries job ≡ Fresh }
-    requires plan { IsReserve (state_of ledger.old.entries) pod.now (length ledger.old.entries) plan.now }
-    ensures ran { OnOk result ((budget attempts : ℕ) → 2 ≤ budget → 0 < attempts → Ran job (Schedule pod.now) budget attempts ledger.old ledger.new) }
-    ensures begun { OnErr result ((budget attempts : ℕ) → 2 ≤ budget → 0 < attempts → Begun job (Schedule pod.now) budget attempts ledger.old ledger.new) }
+    requires place { plan.now.at ≡ length ledger.old.entries }
+    requires holds { PlanTrue (state_of ledger.old.entries) pod.now plan.now }
+    ensures ran { OnOk result ((budget attempts : ℕ) → PlanBy (state_of ledger.old.entries) pod.now budget plan.now → 0 < attempts → Ran job (Schedule pod.now) budget attempts ledger.old ledger.new) }
+    ensures begun { OnErr result ((budget attempts : ℕ) → PlanBy (state_of ledger.old.entries) pod.now budget plan.now → 0 < attempts → Begun job (Schedule pod.now) budget attempts ledger.old ledger.new) }
     ensures full { (n : ℕ) → IsErrOf result (LedgerError.Full n) → IsFull ledger.new n }
 {
     let claims = claims_of_pod(alloc, ledger.state(), pod)?;
-    begin(alloc, ledger, job, pod, plan)?;
+    take(alloc, ledger, job, pod, plan)?;
     finish(alloc, ledger, job, pod, claims.as_slice())
 }
 
 /// Reserves by a true plan.
-fn begin(
+fn take(
     alloc: Global,
     ledger: &mut Ledger,
     job: u64,
@@ -170,8 +199,9 @@ fn begin(
     plan: &Plan,
 ) -> Result<(), LedgerError>
     requires fresh { stand_of ledger.old.entries job ≡ Fresh }
-    requires plan { IsReserve (state_of ledger.old.entries) pod.now (length ledger.old.entries) plan.now }
-    ensures ok { OnOk result ((budget : ℕ) → 2 ≤ budget → Doing job (Schedule pod.now) budget ledger.old.entries ledger.new.entries) }
+    requires place { plan.now.at ≡ length ledger.old.entries }
+    requires holds { PlanTrue (state_of ledger.old.entries) pod.now plan.now }
+    ensures ok { OnOk result ((budget : ℕ) → PlanBy (state_of ledger.old.entries) pod.now budget plan.now → Doing job (Schedule pod.now) budget ledger.old.entries ledger.new.entries) }
     ensures may_finish { OnOk result (MayFinish job pod.now (keys_at (state_of ledger.old.entries) pod.now) ledger.new.entries) }
     ensures limit { ledger.new.limit ≡ ledger.old.limit }
     ensures err { OnErr result (ledger.new ≡ ledger.old) }
@@ -181,40 +211,6 @@ fn begin(
     reserved_goes_on();
     ledger.reserve(alloc, job, pod, plan)?;
     Ok(())
-}
-
-/// The claims of a pod of the form that is done.
-#[tactic(auto, unfolding(alloc_rules::specs::Claims::schedule_built))]
-fn claims_of_pod(alloc: Global, state: &State, pod: &Key) -> Result<Seq<Key>, AllocError>
-    requires { schedule_built state.now pod.now ≡ true }
-    ensures { IfOk result (λ claims. claims ≡ keys_at state.now pod.now) }
-{
-    match state.pods.get(pod) {
-        Some(pod) => claims_of(alloc, &pod.pod.object),
-        None => Ok(Seq::empty(alloc)),
-    }
-}
-
-/// The claims of a pod that has at most one.
-fn claims_of(alloc: Global, pod: &Pod) -> Result<Seq<Key>, AllocError>
-    requires { length (claim_keys pod.now) ≤ 1 }
-    ensures { IfOk result (λ claims. claims ≡ first_places [] (claim_keys pod.now)) }
-{
-    match pod.claims.as_slice() {
-        [] => Ok(Seq::empty(alloc)),
-        [entry, ..] => one_claim(alloc, pod, entry),
-    }
-}
-
-/// The claim that an entry of a pod names.
-fn one_claim(alloc: Global, pod: &Pod, entry: &PodResourceClaim) -> Result<Seq<Key>, AllocError>
-    ensures { IfOk result (λ claims. claims ≡ record { namespace = pod.now.key.namespace; name = entry.now.claim } ∷ []) }
-{
-    let namespace = pod.key.namespace.copy(alloc)?;
-    let name = entry.claim.copy(alloc)?;
-    let mut claims = Seq::empty(alloc);
-    claims.push(Key { namespace, name })?;
-    Ok(claims)
 }
 
 /// Writes each use of a pod that is taken, and binds it.

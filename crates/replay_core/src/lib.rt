@@ -2,12 +2,17 @@
 #![tactic(auto)]
 
 mod built;
+mod claims;
 mod jobs;
+mod laws;
+mod options;
 mod script;
 mod status;
 mod stop;
 mod work;
 
+pub use laws::runs_search_within;
+pub use options::ReplayOptions;
 pub use script::replay;
 pub use status::Status;
 pub use stop::Stop;

@@ -7,8 +7,8 @@ ghost use Rattle.replay_core.specs.Progress.{IsReady, Progress};
 ghost use Rattle.replay_core.specs.Replay.{Ends};
 ghost use Rattle.replay_core.specs.Script.{most_input};
 
-use crate::Status;
 use crate::work::{Work, do_document, print_summary};
+use crate::{ReplayOptions, Status};
 use doc_split::{DocError, Splitter};
 use dra_ports::{Sink, Source};
 use journal_text::lines_of_more;
@@ -23,14 +23,16 @@ fn step<S: Source, K: Sink>(
     alloc: Global,
     splitter: &mut Splitter,
     work: &mut Work,
+    options: ReplayOptions,
     input: &mut S,
     output: &mut K,
 ) -> Result<(), Status>
-    requires { IsReady work.old }
-    ensures ok { OnOk result ((limit : ℕ) (left before : Option (List ℕ)) → Progress limit left (remaining splitter.old (S.left input.old)) before (K.written output.old) splitter.old.at work.old → Progress limit left (remaining splitter.new (S.left input.new)) before (K.written output.new) splitter.new.at work.new) }
+    requires ready { IsReady work.old }
+    requires attempts { 0 < options.attempts }
+    ensures ok { OnOk result ((left before : Option (List ℕ)) → Progress options left (remaining splitter.old (S.left input.old)) before (K.written output.old) splitter.old.at work.old → Progress options left (remaining splitter.new (S.left input.new)) before (K.written output.new) splitter.new.at work.new) }
     ensures moves { OnOk result (splitter.old.at < splitter.new.at) }
     ensures within { OnOk result (splitter.new.at ≤ most_input) }
-    ensures ends { IfErr result (λ s. (limit : ℕ) (left before : Option (List ℕ)) → Progress limit left (remaining splitter.old (S.left input.old)) before (K.written output.old) splitter.old.at work.old → Ends limit left (S.left input.new) before (K.written output.new) s) }
+    ensures ends { IfErr result (λ s. (left before : Option (List ℕ)) → Progress options left (remaining splitter.old (S.left input.old)) before (K.written output.old) splitter.old.at work.old → Ends options left (S.left input.new) before (K.written output.new) s) }
     ensures all_read { IfErr result (λ s. s ≡ Status.Done → IsAtEnd (S.left input.new)) }
     ensures read { IfErr result (λ s. s ≡ Status.Read → Rose (S.faults input.old) (S.faults input.new)) }
     ensures write { IfErr result (λ s. s ≡ Status.Write → Rose (K.faults output.old) (K.faults output.new)) }
@@ -41,7 +43,7 @@ fn step<S: Source, K: Sink>(
 {
     lines_of_more();
     match splitter.next_document(alloc, input) {
-        Ok(Some(doc)) => match do_document(alloc, work, doc.at, &doc.bytes, output) {
+        Ok(Some(doc)) => match do_document(alloc, work, doc.at, &doc.bytes, options, output) {
             Ok(()) => Ok(()),
             Err(status) => Err(status),
         },
@@ -64,8 +66,8 @@ fn input_status(error: DocError) -> Status
     }
 }
 
-/// Does the commands of an input in order, each as a job of a ledger of at most so many entries, and
-/// prints the lines of each once it is done, and the summary at the end.
+/// Does the commands of an input in order, each as a job of a ledger of at most `entries` entries, with
+/// searches within the budget, and prints the lines of each once it is done, and the summary at the end.
 ///
 /// The status says what the script is, if the input tells its bytes, which of its commands were
 /// done, and what was written, if the output tells it (`Ends`). With `Done` that is the whole text of
@@ -73,17 +75,19 @@ fn input_status(error: DocError) -> Status
 /// some first commands or of the whole text, perhaps all of it; with every other status none of the
 /// summary was written. What the entries of a legal history mean is the laws of `ledger_core`.
 ///
-/// Each command that was done, or begun, is of a supported form in the state before it. With each
-/// status the history has at most so many entries, and where one more was expected it has exactly so
-/// many.
+/// Each command that was done, or begun, is of a supported form in the state before it. Each plan and
+/// each verdict is what searches of the nodes within the budget of the options give, at its place. With
+/// each status the history has at most `entries` entries, and where one more was expected it has
+/// exactly so many.
 pub fn replay<S: Source, K: Sink>(
     alloc: Global,
-    entries: u64,
+    options: ReplayOptions,
     input: &mut S,
     output: &mut K,
 ) -> Status
-    requires { entries < 2 ^ 48 }
-    ensures ends { Ends entries (S.left input.old) (S.left input.new) (K.written output.old) (K.written output.new) result }
+    requires entries { options.entries < 2 ^ 48 }
+    requires attempts { 0 < options.attempts }
+    ensures ends { Ends options (S.left input.old) (S.left input.new) (K.written output.old) (K.written output.new) result }
     ensures all_read { result ≡ Status.Done → IsAtEnd (S.left input.new) }
     ensures read { result ≡ Status.Read → Rose (S.faults input.old) (S.faults input.new) }
     ensures faultless_input { (result ≡ Status.Read → ⊥) → S.faults input.new ≡ S.faults input.old }
@@ -91,7 +95,7 @@ pub fn replay<S: Source, K: Sink>(
     ensures faultless_output { (result ≡ Status.Write → ⊥) → K.faults output.new ≡ K.faults output.old }
 {
     histories_grow();
-    let Ok(ledger) = Ledger::new(alloc, entries) else {
+    let Ok(ledger) = Ledger::new(alloc, options.entries) else {
         return Status::Memory;
     };
     let mut splitter = Splitter::new(alloc);
@@ -100,7 +104,7 @@ pub fn replay<S: Source, K: Sink>(
         commands: 0,
     };
     'documents: loop {
-        match step(alloc, &mut splitter, &mut work, input, output) {
+        match step(alloc, &mut splitter, &mut work, options, input, output) {
             Ok(()) => {}
             Err(status) => return status,
         }

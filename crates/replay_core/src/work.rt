@@ -1,4 +1,4 @@
-ghost use Rattle.std.specs.Prelude.{◌≡◌, ◌≤◌, IfErr, OnOk, OnErr, drop};
+ghost use Rattle.std.specs.Prelude.{◌≡◌, ◌≤◌, ◌<◌, IfErr, OnOk, OnErr, drop};
 ghost use Rattle.std.specs.Io.KnownBytes.{Appends};
 ghost use Rattle.dra_ports.specs.Causes.{HasCause, Rose};
 ghost use Rattle.dra_ports.specs.Fronts.{AppendsFront};
@@ -9,7 +9,7 @@ ghost use Rattle.replay_core.specs.Script.{at_each};
 ghost use Rattle.replay_core.specs.Turns.{DocumentDid, DocumentStops, StandsOn, StoppedAmong};
 
 use crate::jobs::do_command;
-use crate::{Status, Stop};
+use crate::{ReplayOptions, Status, Stop};
 use commands::{Command, read_commands};
 use dra_ports::{PortError, Sink, write_all};
 use dra_values::Seq;
@@ -55,11 +55,13 @@ pub fn do_next<K: Sink>(
     work: &mut Work,
     at: u64,
     command: Command,
+    options: ReplayOptions,
     output: &mut K,
 ) -> Result<(), Status>
-    requires { IsReady work.old }
-    ensures did { OnOk result (Did command work.old work.new (K.written output.old) (K.written output.new)) }
-    ensures stops { IfErr result (Stops at command work.old work.new (K.written output.old) (K.written output.new)) }
+    requires ready { IsReady work.old }
+    requires attempts { 0 < options.attempts }
+    ensures did { OnOk result (Did options command work.old work.new (K.written output.old) (K.written output.new)) }
+    ensures stops { IfErr result (Stops options at command work.old work.new (K.written output.old) (K.written output.new)) }
     ensures write { IfErr result (λ s. s ≡ Status.Write → Rose (K.faults output.old) (K.faults output.new)) }
     ensures later { K.faults output.old ≤ K.faults output.new }
     ensures ok_faultless { OnOk result (K.faults output.new ≡ K.faults output.old) }
@@ -68,7 +70,7 @@ pub fn do_next<K: Sink>(
 {
     let from = work.ledger.len();
     let job = work.commands + 1;
-    let done = do_command(alloc, &mut work.ledger, job, command);
+    let done = do_command(alloc, &mut work.ledger, job, command, options.budget);
     let _entries = work.ledger.len();
     match done {
         Ok(()) => {
@@ -93,11 +95,13 @@ fn do_all<K: Sink>(
     work: &mut Work,
     at: u64,
     commands: Seq<Command>,
+    options: ReplayOptions,
     output: &mut K,
 ) -> Result<(), Status>
-    requires { IsReady work.old }
-    ensures did { OnOk result (StandsOn (at_each at commands) work.old work.new (K.written output.old) (K.written output.new)) }
-    ensures stops { IfErr result (StoppedAmong at commands work.old work.new (K.written output.old) (K.written output.new)) }
+    requires ready { IsReady work.old }
+    requires attempts { 0 < options.attempts }
+    ensures did { OnOk result (StandsOn options (at_each at commands) work.old work.new (K.written output.old) (K.written output.new)) }
+    ensures stops { IfErr result (StoppedAmong options at commands work.old work.new (K.written output.old) (K.written output.new)) }
     ensures write { IfErr result (λ s. s ≡ Status.Write → Rose (K.faults output.old) (K.faults output.new)) }
     ensures later { K.faults output.old ≤ K.faults output.new }
     ensures ok_faultless { OnOk result (K.faults output.new ≡ K.faults output.old) }
@@ -108,7 +112,7 @@ fn do_all<K: Sink>(
     lines_of_more();
     let _entries = work.ledger.len();
     for command in commands.into_vec() {
-        do_next(alloc, work, at, command, output)?;
+        do_next(alloc, work, at, command, options, output)?;
     }
     Ok(())
 }
@@ -119,11 +123,13 @@ pub fn do_document<K: Sink>(
     work: &mut Work,
     at: u64,
     document: &[u8],
+    options: ReplayOptions,
     output: &mut K,
 ) -> Result<(), Status>
-    requires { IsReady work.old }
-    ensures did { OnOk result (DocumentDid at document.now work.old work.new (K.written output.old) (K.written output.new)) }
-    ensures stops { IfErr result (DocumentStops at document.now work.old work.new (K.written output.old) (K.written output.new)) }
+    requires ready { IsReady work.old }
+    requires attempts { 0 < options.attempts }
+    ensures did { OnOk result (DocumentDid options at document.now work.old work.new (K.written output.old) (K.written output.new)) }
+    ensures stops { IfErr result (DocumentStops options at document.now work.old work.new (K.written output.old) (K.written output.new)) }
     ensures write { IfErr result (λ s. s ≡ Status.Write → Rose (K.faults output.old) (K.faults output.new)) }
     ensures later { K.faults output.old ≤ K.faults output.new }
     ensures ok_faultless { OnOk result (K.faults output.new ≡ K.faults output.old) }
@@ -132,7 +138,7 @@ pub fn do_document<K: Sink>(
 {
     let _entries = work.ledger.len();
     match read_commands(alloc, document) {
-        Ok(Some(commands)) => do_all(alloc, work, at, commands, output),
+        Ok(Some(commands)) => do_all(alloc, work, at, commands, options, output),
         Ok(None) => Err(Status::Document(at)),
         Err(_) => Err(Status::Memory),
     }

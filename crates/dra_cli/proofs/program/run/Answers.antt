@@ -1,5 +1,5 @@
-use Rattle.std.proofs.Common.{ℕ, List, ◌∷◌, ◌++◌, ◌≡◌, subst}
-use Rattle.std.specs.Prelude.{Option}
+use Rattle.std.proofs.Common.{ℕ, List, ◌∷◌, ◌++◌, map, rules, subst}
+use Rattle.std.specs.Prelude.{Option, string_bytes}
 use Rattle.object_fields.specs.declared.key.Key.{Key}
 use Rattle.cluster.specs.declared.plan.Plan.{Plan}
 use Rattle.cluster.specs.declared.plan.Verdict.{Verdict}
@@ -11,11 +11,16 @@ use Rattle.cluster.specs.declared.entry.Event.TheVariants.{Reserved, Judged, Den
 use Rattle.ledger_core.specs.Legal.{Legal}
 use Rattle.ledger_core.specs.Denied.{MayDeny}
 use Rattle.cluster.specs.History.{state_at, state_of}
+use Rattle.alloc_rules.specs.Plans.{VerdictBy}
 use Rattle.ledger_core.specs.Headline.{IsGrantOf, IsVerdictOf}
 use Rattle.ledger_core.specs.Limits.{ObjectsKept}
+use Rattle.commands.specs.declared.command.Command as script
+use Rattle.replay_core.specs.declared.options.ReplayOptions.{ReplayOptions}
+use Rattle.replay_core.specs.Jobs.{RunOf}
 use Rattle.replay_core.specs.Replay.{EndsDone}
+use Rattle.replay_core.specs.Script.{commands_of}
 use Rattle.dra_cli.specs.Headline.{Replayed}
-use Rattle.dra_cli.specs.Program.{most_entries}
+use Rattle.dra_cli.proofs.Told.{asks, verdict_names}
 use Rattle.dra_cli.proofs.program.run.Goals as goal
 
 GrantLaw : Type 0
@@ -23,6 +28,10 @@ GrantLaw = (front back : List Entry) (job : ℕ) (pod : Key) (plan : Plan) → L
 
 VerdictLaw : Type 0
 VerdictLaw = (front back : List Entry) (job : ℕ) (pod : Key) (verdict : Verdict) → Legal (front ++ record { job = job; event = Judged pod verdict } ∷ back) → IsVerdictOf front pod verdict
+
+BudgetLaw : Type 0
+BudgetLaw = (budget attempts : ℕ) (commands : List script.Command) (front back : List Entry) (job : ℕ) (pod : Key) (verdict : Verdict) → RunOf budget attempts commands (front ++ record { job = job; event = Judged pod verdict } ∷ back)
+    → VerdictBy (state_at front verdict.at) pod budget verdict
 
 DenialLaw : Type 0
 DenialLaw = (front back : List Entry) (job : ℕ) (command : Command) (refusal : Refusal) → Legal (front ++ record { job = job; event = Denied command refusal } ∷ back) → MayDeny (state_of front) command refusal
@@ -33,20 +42,25 @@ HolderLaw = (h : List Entry) (place : ℕ) → Legal h → HeldOnce (state_at h 
 LimitLaw : Type 0
 LimitLaw = (h : List Entry) (place : ℕ) → Legal h → ObjectsKept (state_at h place)
 
-replayed : (left before after : Option (List ℕ)) → GrantLaw → VerdictLaw → DenialLaw → HolderLaw → LimitLaw → EndsDone most_entries left before after → Replayed left before after
-unfolding GrantLaw VerdictLaw DenialLaw HolderLaw LimitLaw
-replayed left before after grants verdicts denials holders limits d = record {
+replayed : (options : ReplayOptions) (left before after : Option (List ℕ)) → GrantLaw → VerdictLaw → BudgetLaw → DenialLaw → HolderLaw → LimitLaw → EndsDone options left before after → Replayed options left before after
+unfolding GrantLaw VerdictLaw BudgetLaw DenialLaw HolderLaw LimitLaw
+replayed options left before after grants verdicts budgets denials holders limits d = record {
   ends = d;
   history = record {
     grants = λ front back job pod plan e. grants front back job pod plan (subst (λ (h : List Entry). Legal h) e d.run.legal);
     verdicts = λ front back job pod verdict e. verdicts front back job pod verdict (subst (λ (h : List Entry). Legal h) e d.run.legal);
+    budgets = λ front back job pod verdict e.
+        verdict_names (state_at front verdict.at) pod options.budget verdict
+        (budgets options.budget options.attempts (commands_of d.done) front back job pod verdict (subst (λ (h : List Entry). RunOf options.budget options.attempts (commands_of d.done) h) e d.run.run));
     denials = λ front back job command refusal e. denials front back job command refusal (subst (λ (h : List Entry). Legal h) e d.run.legal);
     holders = λ place. holders d.history place d.run.legal;
     limits = λ place. limits d.history place d.run.legal;
   };
 }
 
-pub returns-then-is_replay-clause-done : goal.returns-then-is_replay-clause-done
-unfolding GrantLaw VerdictLaw DenialLaw HolderLaw LimitLaw
-returns-then-is_replay-clause-done g c = λ is.
-    replayed _ _ _ c.grants_are_allocations.ensures c.verdicts_are_true.ensures c.denials_change_nothing.ensures.due c.one_holder.ensures.always c.objects_keep_limits.ensures.always (rw is at c.replay.ensures.ends)
+pub returns-in-Some-clause-done : goal.returns-in-Some-clause-done
+unfolding GrantLaw VerdictLaw BudgetLaw DenialLaw HolderLaw LimitLaw
+returns-in-Some-clause-done g c = λ is.
+    asks (map string_bytes c.args.words.now.items) _ c.options_of.result c.in-Some.options (search rules) c.in-Some.is
+    (replayed c.in-Some.options _ _ _ c.grants_are_allocations.ensures c.verdicts_are_true.ensures c.runs_search_within.ensures.verdicts c.denials_change_nothing.ensures.due c.one_holder.ensures.always c.objects_keep_limits.ensures.always
+    (rw is at c.replay.ensures.ends))

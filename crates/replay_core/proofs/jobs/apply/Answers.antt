@@ -8,10 +8,10 @@ use Rattle.replay_core.proofs.JobSteps.{begun_on_err, ran_first}
 use Rattle.replay_core.proofs.jobs.apply.Goals as goal
 
 pub returns-in_err-apply-clause-begun : goal.returns-in_err-apply-clause-begun
-returns-in_err-apply-clause-begun c = begun_on_err c.from_residual.result c.args.job (Apply c.args.ready) c.args.ledger.now c.apply.new.self c.in_err-apply.ensures.err c.requires.fresh
+returns-in_err-apply-clause-begun c = begun_on_err c.from_residual.result c.args.job (Apply c.args.ready) c.args.ledger.now c.apply.new.self c.in_err-apply.ensures.err c.requires
 
 pub returns-clause-ran : goal.returns-clause-ran
-returns-clause-ran c = λ budget attempts two some.
+returns-clause-ran c = λ budget attempts some.
     let h = c.args.ledger.now.entries in
     let s = state_of h in
     let x = c.args.ready in

@@ -1,4 +1,4 @@
-use Rattle.std.proofs.Common.{◌+◌, length, refl}
+use Rattle.std.proofs.Common.{◌+◌, length, inl, refl}
 use Rattle.commands.specs.declared.command.Command.TheVariants.{Schedule}
 use Rattle.cluster.specs.declared.entry.Event.TheVariants.{Bound}
 use Rattle.cluster.specs.State.{taken_node}
@@ -9,7 +9,7 @@ use Rattle.replay_core.proofs.jobs.bind.Goals as goal
 pub returns-clause-steps : goal.returns-clause-steps
 returns-clause-steps c =
     let h = c.args.ledger.now in
-    steps_by c.bind.result c.args.job (Schedule c.args.pod.now) h c.bind.new.self (Bound c.args.pod.now (taken_node (state_of h.entries) c.args.pod.now)) c.bind.ensures.ok c.bind.ensures.err refl (λ before begun budget. tt)
+    steps_by c.bind.result c.args.job (Schedule c.args.pod.now) h c.bind.new.self (Bound c.args.pod.now (taken_node (state_of h.entries) c.args.pod.now)) c.bind.ensures.ok c.bind.ensures.err (inl refl) (λ before begun budget. tt)
 
 pub returns-clause-ended : goal.returns-clause-ended
 returns-clause-ended c =

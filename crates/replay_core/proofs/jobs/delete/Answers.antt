@@ -10,7 +10,7 @@ pub returns-in_err-delete-clause-begun : goal.returns-in_err-delete-clause-begun
 returns-in_err-delete-clause-begun c = begun_on_err c.from_residual.result c.args.job (Delete c.args.target.now) c.args.ledger.now c.delete.new.self c.in_err-delete.ensures.err c.requires
 
 pub returns-clause-ran : goal.returns-clause-ran
-returns-clause-ran c = λ budget attempts two some.
+returns-clause-ran c = λ budget attempts some.
     let h = c.args.ledger.now.entries in
     let s = state_of h in
     let t = c.args.target.now in

@@ -5,20 +5,20 @@ use Rattle.replay_core.proofs.Turns.{end_ends, end_of, left_at_end, none_ends, s
 use Rattle.replay_core.proofs.script.step.Goals as goal
 
 pub returns-in-Ok-clause-ok : goal.returns-in-Ok-clause-ok
-returns-in-Ok-clause-ok g c = λ limit left before p.
-    step_on limit left before (g.K.Sink.written c.args.output.now) (g.K.Sink.written c.do_document.new.output)
+returns-in-Ok-clause-ok g c = λ left before p.
+    step_on c.args.options left before (g.K.Sink.written c.args.output.now) (g.K.Sink.written c.do_document.new.output)
     c.args.splitter.now c.next_document.new.self (g.S.Source.left c.args.input.now) (g.S.Source.left c.next_document.new.from) c.args.work.now c.do_document.new.work
     c.in-Ok-Some.field-0 c.in-Ok-Some.doc c.in-Ok-Some.field-0-is c.in-Ok-Some.ensures.answers (rw c.deref.ensures.value at c.in-Ok.ensures.did) p
 
 pub returns-in-Ok-Some-clause-ends : goal.returns-in-Ok-Some-clause-ends
-returns-in-Ok-Some-clause-ends g c = λ limit left before p.
-    step_ends c.lines_of_more.ensures limit left before (g.K.Sink.written c.args.output.now) (g.K.Sink.written c.do_document.new.output)
+returns-in-Ok-Some-clause-ends g c = λ left before p.
+    step_ends c.lines_of_more.ensures c.args.options left before (g.K.Sink.written c.args.output.now) (g.K.Sink.written c.do_document.new.output)
     c.args.splitter.now c.next_document.new.self (g.S.Source.left c.args.input.now) (g.S.Source.left c.next_document.new.from) c.args.work.now c.do_document.new.work
     c.in-Ok-Some.field-0 c.in-Ok-Some.doc c.in-Err-do_document.status c.in-Ok-Some.field-0-is c.in-Ok-Some.ensures.answers (rw c.deref.ensures.value at c.in-Err-do_document.ensures.stops) c.in-Err-do_document.ensures.sound p
 
 pub returns-in-Ok-None-clause-ends : goal.returns-in-Ok-None-clause-ends
-returns-in-Ok-None-clause-ends g c = λ limit left before p.
-    end_ends limit left before (g.K.Sink.written c.args.output.now) (g.K.Sink.written c.print_summary.new.output)
+returns-in-Ok-None-clause-ends g c = λ left before p.
+    end_ends c.args.options left before (g.K.Sink.written c.args.output.now) (g.K.Sink.written c.print_summary.new.output)
     c.args.splitter.now c.next_document.new.self (g.S.Source.left c.args.input.now) (g.S.Source.left c.next_document.new.from) c.args.work.now
     c.in-Ok-None.field-0 c.print_summary.result c.in-Ok-None.field-0-is c.in-Ok-None.ensures.answers c.print_summary.ensures.printed p
 
@@ -28,6 +28,6 @@ returns-in-Ok-None-clause-all_read g c = λ is.
     left_at_end c.next_document.new.self.ahead (g.S.Source.left c.next_document.new.from) n.end
 
 pub returns-clause-ends : goal.returns-clause-ends
-returns-clause-ends g c = λ limit left before p.
-    subst (λ (s : Status). Ends limit left (g.S.Source.left c.next_document.new.from) before (g.K.Sink.written c.args.output.now) s) (sym c.input_status.ensures)
-    (none_ends limit left before (g.K.Sink.written c.args.output.now) c.args.splitter.now c.next_document.new.self (g.S.Source.left c.args.input.now) (g.S.Source.left c.next_document.new.from) c.args.work.now c.in-Err.error p c.in-Err.ensures.answers)
+returns-clause-ends g c = λ left before p.
+    subst (λ (s : Status). Ends c.args.options left (g.S.Source.left c.next_document.new.from) before (g.K.Sink.written c.args.output.now) s) (sym c.input_status.ensures)
+    (none_ends c.args.options left before (g.K.Sink.written c.args.output.now) c.args.splitter.now c.next_document.new.self (g.S.Source.left c.args.input.now) (g.S.Source.left c.next_document.new.from) c.args.work.now c.in-Err.error p c.in-Err.ensures.answers)

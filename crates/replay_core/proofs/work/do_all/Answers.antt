@@ -7,8 +7,8 @@ pub loop-command-init : goal.loop-command-init
 loop-command-init g c = record {
   front = [];
   are = sym (c.into_iter-command-iterator.ensures.into_iter_gives.0 ∙ c.into_vec-command-items.ensures);
-  done = stands_first c.args.work.now (g.K.Sink.written c.args.output.now);
-  ready = c.requires;
+  done = stands_first c.args.options c.args.work.now (g.K.Sink.written c.args.output.now);
+  ready = c.requires.ready;
   sound = record { legal = c.len-entries.ensures.legal; within = omega (arith, c.len-entries.ensures.length, c.len-entries.ensures.within) };
   faultless = refl;
 }
@@ -19,9 +19,9 @@ loop-command-preserved g c = record {
   are = c.loop-command.invariant.are
       ∙ ap (λ (l : List Command). c.loop-command.invariant.front ++ l) c.in-Some.ensures.steps.0
       ∙ sym (append_assoc c.loop-command.invariant.front (c.in-Some.command ∷ []) c.next.new.self.rest.items);
-  done = stands_more c.histories_grow.ensures.stand c.lines_of_more.ensures c.args.at c.loop-command.invariant.front c.in-Some.command c.args.work.now c.loop-command.work c.do_next.new.work
+  done = stands_more c.histories_grow.ensures.stand c.lines_of_more.ensures c.args.options c.args.at c.loop-command.invariant.front c.in-Some.command c.args.work.now c.loop-command.work c.do_next.new.work
       (g.K.Sink.written c.args.output.now) (g.K.Sink.written c.loop-command.output) (g.K.Sink.written c.do_next.new.output) c.loop-command.invariant.done c.in_ok-do_next.ensures.did c.in_ok-do_next.ensures.sound;
-  ready = ready_more c.histories_grow.ensures.stand c.in-Some.command c.loop-command.work c.do_next.new.work (g.K.Sink.written c.loop-command.output) (g.K.Sink.written c.do_next.new.output) c.loop-command.invariant.ready c.in_ok-do_next.ensures.did;
+  ready = ready_more c.histories_grow.ensures.stand c.args.options c.in-Some.command c.loop-command.work c.do_next.new.work (g.K.Sink.written c.loop-command.output) (g.K.Sink.written c.do_next.new.output) c.loop-command.invariant.ready c.in_ok-do_next.ensures.did;
   sound = c.in_ok-do_next.ensures.sound;
   faultless = c.in_ok-do_next.ensures.ok_faultless ∙ c.loop-command.invariant.faultless;
 }

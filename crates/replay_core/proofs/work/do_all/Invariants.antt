@@ -10,7 +10,7 @@ abbrev pub invariant-loop-command : goal.invariant-loop-command
 invariant-loop-command g l = record {
   front : List Command;
   are : l.fn.commands ≡ front ++ l.command-iterator.rest.items;
-  done : StandsOn (at_each l.at front) l.fn.work l.work (g.K.Sink.written l.fn.output) (g.K.Sink.written l.output);
+  done : StandsOn l.options (at_each l.at front) l.fn.work l.work (g.K.Sink.written l.fn.output) (g.K.Sink.written l.output);
   ready : IsReady l.work;
   sound : IsSound l.work.ledger;
   faultless : g.K.Sink.faults l.output ≡ g.K.Sink.faults l.fn.output;

@@ -1,5 +1,4 @@
-use Rattle.std.proofs.Common.{subst, sym, ap}
-use Rattle.cluster.specs.declared.state.State.{State}
+use Rattle.std.proofs.Common.{subst, sym}
 use Rattle.cluster.specs.declared.entry.Entry.{Entry}
 use Rattle.cluster.specs.declared.entry.Event.TheVariants.{Reserved}
 use Rattle.ledger_core.specs.Ledger.{History}

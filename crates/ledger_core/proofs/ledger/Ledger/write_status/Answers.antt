@@ -1,4 +1,4 @@
-use Rattle.std.proofs.Common.{◌≡◌, ◌∙◌, ◌+◌, ℕ, List, length, subst, sym, ap}
+use Rattle.std.proofs.Common.{◌≡◌, ◌∙◌, ◌+◌, ℕ, length, subst, sym, ap}
 use Rattle.cluster.specs.declared.state.State.{State}
 use Rattle.cluster.specs.Wrote.{with_written}
 use Rattle.cluster.specs.declared.entry.Entry.{Entry}

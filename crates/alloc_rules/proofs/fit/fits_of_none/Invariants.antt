@@ -1,7 +1,0 @@
-use Rattle.std.proofs.Common.{◌≡◌, ◌++◌, None, map}
-use Rattle.std.specs.Map.{keys_of}
-use Rattle.alloc_rules.specs.Fits.{node_fit}
-use Rattle.alloc_rules.proofs.fit.fits_of_none.Given as goal
-
-abbrev pub invariant-loop-name : goal.invariant-loop-name
-invariant-loop-name l = l.fits ++ map (node_fit l.state None) (keys_of l.name-iterator) ≡ map (node_fit l.state None) (keys_of l.state.inventory.nodes)

@@ -1,0 +1,105 @@
+ghost use Rattle.std.specs.Prelude.{◌≡◌, ◌++◌, [], ◌∷◌, IfOk, IsSome, OnOk};
+ghost use Rattle.std.specs.Map.{keys_of};
+ghost use Rattle.pool_view.specs.Names.{at_name};
+ghost use Rattle.allocations.specs.Claims.{keys_of_pod, wanted};
+ghost use Rattle.alloc_rules.specs.Tries.{AreTried, IsTried, tried_of};
+
+use crate::claims::first_elsewhere;
+use allocator::Outcome;
+use api_cluster::Pod;
+use cluster::{Cause, Grant, Passed, State};
+use dra_values::{Seq, Text};
+use node_search::PodSearch;
+use object_fields::Key;
+use std::alloc::{AllocError, Global};
+
+/// What a node has for a pod.
+#[derive(Drop)]
+pub enum Tried {
+    /// The grants that a search finds.
+    Found(Seq<Grant>),
+    /// Nothing, and why.
+    Passed(Cause),
+}
+
+/// The node that is taken, and what is granted there.
+#[derive(Drop)]
+pub struct Taken {
+    pub node: Text,
+    pub grants: Seq<Grant>,
+}
+
+/// What a search within the budget tells of its node.
+fn tried_of(budget: u64, outcome: Outcome) -> Tried
+    ensures { result ≡ tried_of budget outcome }
+{
+    match outcome {
+        Outcome::Found(grants) => Tried::Found(grants),
+        Outcome::Unsat => Tried::Passed(Cause::Unsat),
+        Outcome::Fault(fault) => Tried::Passed(Cause::Fault(fault)),
+        Outcome::Budget => Tried::Passed(Cause::Budget(budget)),
+    }
+}
+
+/// Searches a node for a pod, unless one of the pod's claims has its grant on another node.
+fn try_node(
+    alloc: Global,
+    state: &State,
+    pod: &Pod,
+    claims: &[Key],
+    search: &mut PodSearch,
+    node: &Text,
+    budget: u64,
+) -> Result<Tried, AllocError>
+    requires claims { claims.now ≡ keys_of_pod pod.now }
+    requires search { search.old ≡ record { state = state.now; claims = wanted state.now pod.now } }
+    requires there { IsSome (at_name state.now.inventory.nodes node.now) }
+    ensures tried { IfOk result (IsTried state.now pod.now budget node.now) }
+    ensures same { OnOk result (search.new ≡ search.old) }
+{
+    match first_elsewhere(state, node, claims) {
+        Some(claim) => Ok(Tried::Passed(Cause::Other(claim.copy(alloc)?))),
+        None => Ok(tried_of(budget, search.outcome(alloc, node, budget)?)),
+    }
+}
+
+/// Puts a node that isn't taken at the end.
+fn push_passed(
+    passed: &mut Seq<Passed>,
+    alloc: Global,
+    node: &Text,
+    cause: Cause,
+) -> Result<(), AllocError>
+    ensures { IfOk result (λ _. passed.new ≡ passed.old ++ record { node = node.now; cause = cause } ∷ []) }
+{
+    let node = node.copy(alloc)?;
+    passed.push(Passed { node, cause })
+}
+
+/// Tries the nodes in the order of their names, up to the first that may be taken, and says why each
+/// before it isn't.
+pub fn try_nodes(
+    alloc: Global,
+    state: &State,
+    pod: &Pod,
+    claims: &[Key],
+    search: &mut PodSearch,
+    budget: u64,
+    passed: &mut Seq<Passed>,
+) -> Result<Option<Taken>, AllocError>
+    requires claims { claims.now ≡ keys_of_pod pod.now }
+    requires search { search.old ≡ record { state = state.now; claims = wanted state.now pod.now } }
+    requires none { passed.old ≡ [] }
+    ensures { IfOk result (AreTried state.now pod.now budget (keys_of state.now.inventory.nodes) passed.new) }
+{
+    for (node, _) in state.inventory.nodes().as_map() {
+        match try_node(alloc, state, pod, claims, search, node, budget)? {
+            Tried::Passed(cause) => push_passed(passed, alloc, node, cause)?,
+            Tried::Found(grants) => {
+                let node = node.copy(alloc)?;
+                return Ok(Some(Taken { node, grants }));
+            }
+        }
+    }
+    Ok(None)
+}

@@ -1,0 +1,4 @@
+pub mod Claims
+pub mod Input
+pub mod Allocation
+pub mod Outcomes

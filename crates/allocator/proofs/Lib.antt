@@ -1,0 +1,13 @@
+mod Tests
+mod Equal
+mod Places
+mod Changed
+mod Flagged
+mod Placed
+mod Inputs
+mod Constraining
+mod Joining
+mod Keeping
+mod Viewed
+mod Answering
+mod Alike

@@ -1,0 +1,6 @@
+use Rattle.std.proofs.Common.{◌≡◌, ◌++◌, drop}
+use Rattle.allocator.specs.Holding.{flags_of}
+use Rattle.allocator.proofs.held.HeldDevices.of.Given as goal
+
+abbrev pub invariant-loop-device : goal.invariant-loop-device
+invariant-loop-device l = l.flags.items ++ flags_of l.holders (drop l.device-index l.devices) ≡ flags_of l.holders l.devices

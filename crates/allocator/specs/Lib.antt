@@ -1,0 +1,6 @@
+pub mod Holding
+pub mod Input
+pub mod Placing
+pub mod Agreeing
+pub mod Kept
+pub mod Answered

@@ -1,0 +1,190 @@
+ghost use Rattle.std.specs.Prelude.{◌≡◌, List, [], Some, length, IfOk, OnOk};
+ghost use Rattle.object_fields.specs.declared.key.DeviceId.{DeviceId};
+ghost use Rattle.object_fields.specs.declared.key.Key.{Key};
+ghost use Rattle.counter_sets.specs.Holding.{AreHeld};
+ghost use Rattle.walk.specs.Walk.{Faulty, Open};
+ghost use Rattle.counter_sets.specs.Draws.{CounterId};
+ghost use Rattle.counter_sets.specs.Totals.{drawn_in, keeps};
+ghost use Rattle.deep_search.specs.Progress.{told};
+ghost use Rattle.deep_search.specs.declared.answer.Answer.TheVariants as ended;
+ghost use Rattle.request_rules.specs.Problem.{shape_of};
+ghost use Rattle.request_rules.specs.Asked.{options, rules_of};
+ghost use Rattle.request_rows.specs.Wanted.{asking, input_of};
+ghost use Rattle.allocator.specs.Agreeing.{AreAgreed};
+ghost use Rattle.allocator.specs.Answered.{answer_by, answer_of};
+ghost use Rattle.allocator.specs.Kept.{board_setting};
+ghost use Rattle.allocator.specs.Input.{AreApart, AreKept, with_counters};
+
+use crate::agreements::{ClaimAgreement, agreements_of};
+use crate::board::RequestBoard;
+use crate::held::HeldDevices;
+use crate::outcome::Outcome;
+use counter_sets::{Held, Totals};
+use deep_search::Answer;
+use pool_view::{DeviceRef, PoolView};
+use request_rows::{Rows, Wants};
+use std::alloc::{AllocError, Global};
+use std::mem;
+use walk::{outcome_is_exact, walk_has_each_item};
+
+/// What the search of a board came to.
+fn outcome_of(
+    alloc: Global,
+    wants: &Wants,
+    board: &RequestBoard,
+    answer: Answer,
+) -> Result<Outcome, AllocError>
+    requires claims { wants.now.claims ≡ (board_setting board.now).input.claims }
+    requires full { answer ≡ ended.Full → shape_of (board_setting board.now).input board.now.choice ≡ Open (length board.now.positions) }
+    requires fault { answer ≡ ended.Fault → shape_of (board_setting board.now).input board.now.choice ≡ Faulty }
+    ensures { IfOk result (λ found. answer_by (board_setting board.now).input (told answer board.now.choice board.now.positions) ≡ Some found) }
+{
+    match answer {
+        Answer::Full => Ok(Outcome::Found(board.grants(alloc, &wants.claims)?)),
+        Answer::Fault => Ok(Outcome::Fault(board.fault(alloc)?)),
+        Answer::Unsat => Ok(Outcome::Unsat),
+        Answer::Budget => Ok(Outcome::Budget),
+    }
+}
+
+/// Searches the walk of a board within a budget, and leaves the board about what it was.
+fn answer_on(
+    alloc: Global,
+    wants: &Wants,
+    counts: &[usize],
+    board: &mut RequestBoard,
+    budget: u64,
+) -> Result<Outcome, AllocError>
+    requires options { counts.now ≡ options (board_setting board.old).input }
+    requires claims { wants.now.claims ≡ (board_setting board.old).input.claims }
+    ensures setting { OnOk result (board_setting board.new ≡ board_setting board.old) }
+    ensures answer { IfOk result (λ found. answer_of (board_setting board.old).input budget ≡ Some found) }
+{
+    outcome_is_exact();
+    walk_has_each_item();
+    let answer = deep_search::search(alloc, board, counts, budget)?;
+    outcome_of(alloc, wants, board, answer)
+}
+
+/// Searches the rows with these totals, and gives them back as they were.
+fn search_totals<'a>(
+    alloc: Global,
+    rows: &'a Rows<'a>,
+    held: &'a HeldDevices<'a>,
+    wants: &Wants,
+    totals: Totals,
+    agreements: Vec<ClaimAgreement<'a>>,
+    budget: u64,
+) -> Result<(Outcome, Totals), AllocError>
+    requires devices { held.now.devices ≡ (input_of rows.now).devices }
+    requires apart { AreApart (input_of rows.now).devices }
+    requires kept { AreKept totals (input_of rows.now).devices }
+    requires agreed { AreAgreed (input_of rows.now) [] (rules_of (input_of rows.now)) agreements.items }
+    requires claims { wants.now.claims ≡ (input_of rows.now).claims }
+    ensures answer { IfOk result (λ r. answer_of (with_counters (input_of rows.now) held.now.held (drawn_in totals)) budget ≡ Some r.0) }
+    ensures drawn { IfOk result (λ r. (k : CounterId) → drawn_in r.1 k ≡ drawn_in totals k) }
+    ensures keeps { IfOk result (λ r. (k : CounterId) → keeps r.1 k ≡ keeps totals k) }
+{
+    let mut board = RequestBoard::new(alloc, rows, held, totals, agreements);
+    let outcome = answer_on(alloc, wants, rows.options(), &mut board, budget)?;
+    Ok((outcome, board.into_totals()))
+}
+
+/// Searches the rows, where it is known which devices are held.
+fn search_held<'a>(
+    alloc: Global,
+    rows: &'a Rows<'a>,
+    held: &'a HeldDevices<'a>,
+    wants: &'a Wants<'a>,
+    totals: &mut Totals,
+    budget: u64,
+) -> Result<Outcome, AllocError>
+    requires devices { held.now.devices ≡ (input_of rows.now).devices }
+    requires apart { AreApart (input_of rows.now).devices }
+    requires kept { AreKept totals.old (input_of rows.now).devices }
+    requires claims { wants.now.claims ≡ (input_of rows.now).claims }
+    ensures answer { IfOk result (λ found. answer_of (with_counters (input_of rows.now) held.now.held (drawn_in totals.old)) budget ≡ Some found) }
+    ensures drawn { OnOk result ((k : CounterId) → drawn_in totals.new k ≡ drawn_in totals.old k) }
+    ensures keeps { OnOk result ((k : CounterId) → keeps totals.new k ≡ keeps totals.old k) }
+{
+    let agreements = agreements_of(alloc, &wants.claims)?;
+    let own = mem::replace(totals, Totals::new(alloc));
+    let (outcome, given) = search_totals(alloc, rows, held, wants, own, agreements, budget)?;
+    *totals = given;
+    Ok(outcome)
+}
+
+/// Searches the rows of what is wanted.
+fn search_rows<'a>(
+    alloc: Global,
+    rows: &'a Rows<'a>,
+    wants: &'a Wants<'a>,
+    holders: &'a Held,
+    totals: &mut Totals,
+    budget: u64,
+) -> Result<Outcome, AllocError>
+    requires apart { AreApart (input_of rows.now).devices }
+    requires kept { AreKept totals.old (input_of rows.now).devices }
+    requires claims { wants.now.claims ≡ (input_of rows.now).claims }
+    ensures answer { IfOk result (λ found. (pairs : List (DeviceId × Key)) → AreHeld holders.now pairs → answer_of (with_counters (input_of rows.now) pairs (drawn_in totals.old)) budget ≡ Some found) }
+    ensures drawn { OnOk result ((k : CounterId) → drawn_in totals.new k ≡ drawn_in totals.old k) }
+    ensures keeps { OnOk result ((k : CounterId) → keeps totals.new k ≡ keeps totals.old k) }
+{
+    let held = HeldDevices::of(alloc, rows.devices(), holders)?;
+    search_held(alloc, rows, &held, wants, totals, budget)
+}
+
+/// Searches the devices of a node for the least allocation of the claims, within a budget of so many
+/// items of the walk.
+///
+/// The answer is exactly the outcome of the walk of these devices and claims within the budget: the
+/// least allocation as a grant for each claim, a fault that stands before each allocation, that there
+/// is neither, or that the budget is spent before one of these is known. `holders` are the devices
+/// that claims hold; `totals` has the counters of the devices, with what the held devices draw, and is
+/// as it was after the search. `AllocError` only if memory runs out; nothing is known of the totals
+/// then.
+pub fn search_devices(
+    alloc: Global,
+    devices: &[DeviceRef],
+    broken: bool,
+    wants: &Wants,
+    holders: &Held,
+    totals: &mut Totals,
+    budget: u64,
+) -> Result<Outcome, AllocError>
+    requires apart { AreApart devices.now }
+    requires kept { AreKept totals.old devices.now }
+    ensures answer { IfOk result (λ found. (pairs : List (DeviceId × Key)) → AreHeld holders.now pairs → answer_of (with_counters (asking wants.now devices.now broken) pairs (drawn_in totals.old)) budget ≡ Some found) }
+    ensures drawn { OnOk result ((k : CounterId) → drawn_in totals.new k ≡ drawn_in totals.old k) }
+    ensures keeps { OnOk result ((k : CounterId) → keeps totals.new k ≡ keeps totals.old k) }
+{
+    let rows = Rows::of(alloc, wants, devices, broken)?;
+    search_rows(alloc, &rows, wants, holders, totals, budget)
+}
+
+/// Searches what a node sees of the pools for the least allocation of the claims, within a budget of
+/// so many items of the walk. It is `search_devices` over the devices of the view.
+pub fn search(
+    alloc: Global,
+    view: &PoolView,
+    wants: &Wants,
+    holders: &Held,
+    totals: &mut Totals,
+    budget: u64,
+) -> Result<Outcome, AllocError>
+    requires apart { AreApart view.now.devices }
+    requires kept { AreKept totals.old view.now.devices }
+    ensures answer { IfOk result (λ found. (pairs : List (DeviceId × Key)) → AreHeld holders.now pairs → answer_of (with_counters (asking wants.now view.now.devices view.now.has_broken) pairs (drawn_in totals.old)) budget ≡ Some found) }
+    ensures drawn { OnOk result ((k : CounterId) → drawn_in totals.new k ≡ drawn_in totals.old k) }
+    ensures keeps { OnOk result ((k : CounterId) → keeps totals.new k ≡ keeps totals.old k) }
+{
+    search_devices(
+        alloc,
+        view.devices(),
+        view.has_broken(),
+        wants,
+        holders,
+        totals,
+        budget,
+    )
+}

@@ -1,0 +1,34 @@
+-- What a run tells of its options.
+use Rattle.std.proofs.Common.{ℕ, ◌≡◌, ◌∙◌, List, sym, subst}
+use Rattle.std.specs.Prelude.{Option, Some}
+use Rattle.std.proofs.lemmas.List.Elements.{All-contains}
+use Rattle.object_fields.specs.declared.key.Key.{Key}
+use Rattle.api_cluster.specs.declared.types.Pod.{Pod}
+use Rattle.cluster.specs.declared.plan.Cause.{Cause}
+use Rattle.cluster.specs.declared.plan.Cause.TheVariants as cause
+use Rattle.cluster.specs.declared.plan.Passed.{Passed}
+use Rattle.cluster.specs.declared.plan.Reason.{Reason}
+use Rattle.cluster.specs.declared.plan.Reason.TheVariants as reason
+use Rattle.cluster.specs.declared.plan.Verdict.{Verdict}
+use Rattle.cluster.specs.declared.state.State.{State}
+use Rattle.alloc_rules.specs.Plans.{CauseBy, ReasonBy, VerdictBy}
+use Rattle.replay_core.specs.declared.options.ReplayOptions.{ReplayOptions}
+use Rattle.dra_cli.specs.Headline.{NamesBudget}
+use Rattle.dra_cli.specs.Program.{AsksFor}
+use Rattle.dra_cli.specs.Words.{options_of}
+
+-- the words ask for it
+pub asks : (words : List (List ℕ)) (P : ReplayOptions → Type 0) (r : Option ReplayOptions) (options : ReplayOptions) → r ≡ options_of words → r ≡ Some options → P options → AsksFor words P
+asks words P r options is some so = record { options = options; asked = sym is ∙ some; so = so }
+
+-- the steps of a search that met its budget are the budget
+cause_names : (s : State) (pod : Pod) (budget : ℕ) (node : List ℕ) (c : Cause) (steps : ℕ) → CauseBy s pod budget node c → c ≡ cause.Budget steps → steps ≡ budget
+cause_names s pod budget node c steps by is = (subst (λ (x : Cause). CauseBy s pod budget node x) is by).0
+
+reason_names : (s : State) (pod : Pod) (budget : ℕ) (r : Reason) → ReasonBy s pod budget r → NamesBudget budget r
+reason_names s pod budget (reason.Missing claim) by = tt
+reason_names s pod budget (reason.Users claim) by = tt
+reason_names s pod budget (reason.Nodes nodes) by = λ p steps among is. cause_names s pod budget p.node p.cause steps (All-contains (λ (x : Passed). CauseBy s pod budget x.node x.cause) nodes p by among) is
+
+pub verdict_names : (s : State) (pod : Key) (budget : ℕ) (verdict : Verdict) → VerdictBy s pod budget verdict → NamesBudget budget verdict.reason
+verdict_names s pod budget verdict by = reason_names s by.state.pod.object budget verdict.reason by.reason

@@ -1,0 +1,69 @@
+-- What the words of a call ask for.
+use Rattle.std.specs.Prelude.{ℕ, ◌≤◌, List, [], ◌∷◌, Bool, ◌&&◌, Option, None, Some, length, nat_le, bytes_eq, codes, if◌then◌else◌, option_map, unwrap_or, IfSome}
+use Rattle.std.specs.Option.{option_and_then}
+use Rattle.std.specs.List.{list_all}
+use Rattle.std.specs.Char.{is_ascii_digit}
+use Rattle.std.specs.Str.Parse.{digits_value}
+use Rattle.dra_cli.specs.declared.words.Given.{Given}
+use Rattle.replay_core.specs.declared.options.ReplayOptions.{ReplayOptions}
+
+abbrev pub are_digits : List ℕ → Bool
+are_digits = list_all is_ascii_digit
+
+-- one to eight decimal digits
+abbrev pub is_number : List ℕ → Bool
+is_number word = nat_le 1 (length word) && (nat_le (length word) 8 && are_digits word)
+
+-- a number from 1 to `most`
+abbrev pub in_range : ℕ → ℕ → Option ℕ
+in_range most n = if nat_le 1 n && nat_le n most then Some n else None
+
+-- the number from 1 to `most` that they write
+abbrev pub number_in : ℕ → List ℕ → Option ℕ
+number_in most word = if is_number word then in_range most (digits_value 10 word) else None
+
+-- the number of an option that wasn't given before
+abbrev pub once : Option ℕ → ℕ → List ℕ → Option ℕ
+once None most word = number_in most word
+once (Some n) most word = None
+
+-- these options, with one more
+abbrev pub with_option : Given → List ℕ → List ℕ → Option Given
+with_option g name value =
+    if bytes_eq name (codes "--budget") then option_map (λ n. record g { budget = Some n }) (once g.budget 10000000 value)
+    else if bytes_eq name (codes "--attempts") then option_map (λ n. record g { attempts = Some n }) (once g.attempts 64 value)
+    else if bytes_eq name (codes "--entries") then option_map (λ n. record g { entries = Some n }) (once g.entries 1000000 value)
+    else None
+
+abbrev pub no_options : Given
+no_options = record { budget = None; attempts = None; entries = None }
+
+-- each number that is given is in its range
+pub record IsFit (g : Given) : Type 0 where
+  pub budget : IfSome g.budget (λ n. (1 ≤ n) × (n ≤ 10000000))
+  pub attempts : IfSome g.attempts (λ n. (1 ≤ n) × (n ≤ 64))
+  pub entries : IfSome g.entries (λ n. (1 ≤ n) × (n ≤ 1000000))
+
+-- each option is in its range
+pub record AreFit (o : ReplayOptions) : Type 0 where
+  pub least_budget : 1 ≤ o.budget
+  pub most_budget : o.budget ≤ 10000000
+  pub least_attempts : 1 ≤ o.attempts
+  pub most_attempts : o.attempts ≤ 64
+  pub least_entries : 1 ≤ o.entries
+  pub most_entries : o.entries ≤ 1000000
+
+-- these options, with those that words give: each a name and its value
+abbrev pub options_from : Given → List (List ℕ) → Option Given
+options_from g [] = Some g
+options_from g (name ∷ []) = None
+options_from g (name ∷ value ∷ words) = option_and_then (λ h. options_from h words) (with_option g name value)
+
+-- an option that isn't given has its default
+abbrev pub with_defaults : Given → ReplayOptions
+with_defaults g = record { budget = unwrap_or g.budget 100000; attempts = unwrap_or g.attempts 32; entries = unwrap_or g.entries 1000000 }
+
+-- the options of a replay that the words ask for
+abbrev pub options_of : List (List ℕ) → Option ReplayOptions
+options_of [] = None
+options_of (word ∷ words) = if bytes_eq word (codes "replay") then option_map with_defaults (options_from no_options words) else None

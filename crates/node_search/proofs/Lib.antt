@@ -1,0 +1,9 @@
+pub mod Places
+pub mod Alike
+pub mod Draws
+pub mod Named
+pub mod Keeping
+pub mod Valued
+pub mod Lifted
+pub mod Held
+pub mod Keys

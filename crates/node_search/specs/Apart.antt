@@ -1,0 +1,13 @@
+-- How usable slices and the devices of a node differ.
+use Rattle.std.specs.Prelude.{◌≡◌, ℕ, List, Some, Contains, slice_get}
+use Rattle.api_slice.specs.declared.types.ResourceSlice.{ResourceSlice}
+use Rattle.pool_view.specs.Pools.{Offered}
+
+-- slices of one name are one slice
+pub record AreOne (slices : List ResourceSlice) : Type 0 where
+  pub same : (x y : ResourceSlice) → Contains slices x → Contains slices y → x.name ≡ y.name → x ≡ y
+
+-- each of the devices is one of a slice's
+pub record AreListed (devices : List Offered) (slices : List ResourceSlice) : Type 0 where
+  pub in_slices : (i : ℕ) (o : Offered) → slice_get devices i ≡ Some o → Contains slices o.slice
+  pub in_slice : (i : ℕ) (o : Offered) → slice_get devices i ≡ Some o → Contains o.slice.devices o.device

@@ -1,0 +1,30 @@
+//! How usable slices and the devices of a node differ.
+
+ghost use Rattle.pool_view.specs.Usable.{node_devices, usable_slices};
+ghost use Rattle.allocator.specs.Input.{AreApart};
+ghost use Rattle.node_search.specs.Apart.{AreListed, AreOne};
+ghost use Rattle.node_search.specs.Counting.{NamesDiffer};
+
+use dra_values::Text;
+use pool_view::{Inventory, devices_of_a_view_differ, usable_slices_differ};
+
+/// States that no two usable slices of an inventory have one name. Takes no memory.
+pub fn slices_differ(inventory: &Inventory)
+    ensures names { NamesDiffer (usable_slices inventory.now) }
+    ensures one { AreOne (usable_slices inventory.now) }
+{
+    inventory.keeps_names();
+    inventory.keeps_order();
+    usable_slices_differ();
+}
+
+/// States that no two devices that a node sees have one id, and that each is one of a usable slice's.
+/// Takes no memory.
+pub fn devices_differ(inventory: &Inventory, node: &Text)
+    ensures apart { AreApart (node_devices inventory.now node.now) }
+    ensures listed { AreListed (node_devices inventory.now node.now) (usable_slices inventory.now) }
+{
+    inventory.keeps_names();
+    inventory.keeps_order();
+    devices_of_a_view_differ();
+}

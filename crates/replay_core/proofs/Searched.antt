@@ -1,0 +1,90 @@
+-- What the entries of a run tell of searches.
+use Rattle.std.proofs.Common.{ℕ, ◌+◌, ◌≡◌, ◌∙◌, ◌⊎◌, inl, inr, List, [], ◌∷◌, ◌++◌, length, refl, sym, ap, subst, arith, append_assoc, append-nil, length-append}
+use Rattle.cluster.specs.declared.entry.Entry.{Entry}
+use Rattle.commands.specs.declared.command.Command.{Command}
+use Rattle.replay_core.specs.Jobs.{AllMade, IsMade, IsSearched, RunFrom, RunOf}
+
+-- the entry tells of a search within the budget, which began at some place
+abbrev pub TellsOf : ℕ → List Entry → Entry → Type 0
+TellsOf budget before e = (begun : ℕ) × IsSearched before e.job begun budget e.event
+
+-- an entry of a job tells so
+made_tells : (job : ℕ) (c : Command) (begun budget : ℕ) (before front : List Entry) (e : Entry) (back : List Entry) → AllMade job c begun budget before (front ++ e ∷ back) → TellsOf budget (before ++ front) e
+unfolding AllMade
+made_tells job c begun budget before [] e back all =
+    (begun, subst (λ (b : List Entry). IsSearched b e.job begun budget e.event) (sym (append-nil before)) (subst (λ (j : ℕ). IsSearched before j begun budget e.event) (sym all.0.own) all.0.searched))
+made_tells job c begun budget before (d ∷ front) e back all =
+    subst (λ (b : List Entry). TellsOf budget b e) (append_assoc before (d ∷ []) front) (made_tells job c begun budget (before ++ d ∷ []) front e back all.1)
+
+-- a run goes on from the entries before it
+pub record GoesFrom (before after : List Entry) : Type 0 where
+  pub rest : List Entry
+  pub is : after ≡ before ++ rest
+
+run_goes : (budget attempts n : ℕ) (before : List Entry) (cs : List Command) (after : List Entry) → RunFrom budget attempts n before cs after → GoesFrom before after
+unfolding RunFrom
+run_goes budget attempts n before [] after is = record { rest = []; is = is ∙ sym (append-nil before) }
+run_goes budget attempts n before (c ∷ cs) after r =
+    let more = run_goes budget attempts (n + 1) (before ++ r.0) cs after r.3 in
+    record { rest = r.0 ++ more.rest; is = more.is ∙ append_assoc before r.0 more.rest }
+
+-- where an element of two lists joined stands
+pub record InFirst (xs ys front : List Entry) (e : Entry) (back : List Entry) : Type 0 where
+  pub more : List Entry
+  pub is : xs ≡ front ++ e ∷ more
+
+pub record InSecond (xs ys front : List Entry) (e : Entry) (back : List Entry) : Type 0 where
+  pub behind : List Entry
+  pub is : front ≡ xs ++ behind
+  pub rest : ys ≡ behind ++ e ∷ back
+
+in_next : (x : Entry) (xs ys front : List Entry) (e : Entry) (back : List Entry) → InFirst xs ys front e back ⊎ InSecond xs ys front e back → InFirst (x ∷ xs) ys (x ∷ front) e back ⊎ InSecond (x ∷ xs) ys (x ∷ front) e back
+in_next x xs ys front e back (inl f) = inl (record { more = f.more; is = ap (λ (l : List Entry). x ∷ l) f.is })
+in_next x xs ys front e back (inr s) = inr (record { behind = s.behind; is = ap (λ (l : List Entry). x ∷ l) s.is; rest = s.rest })
+
+head_of : Entry → List Entry → Entry
+head_of d [] = d
+head_of d (x ∷ xs) = x
+
+tail_of : List Entry → List Entry
+tail_of [] = []
+tail_of (x ∷ xs) = xs
+
+stands_in : (xs ys front : List Entry) (e : Entry) (back : List Entry) → xs ++ ys ≡ front ++ e ∷ back → InFirst xs ys front e back ⊎ InSecond xs ys front e back
+unfolding head_of tail_of
+stands_in [] ys front e back is = inr (record { behind = front; is = refl; rest = is })
+stands_in (x ∷ xs) ys [] e back is = inl (record { more = xs; is = ap (λ (y : Entry). y ∷ xs) (ap (head_of e) is) })
+stands_in (x ∷ xs) ys (y ∷ front) e back is =
+    let same : x ≡ y = ap (head_of e) is in
+    subst (λ (z : Entry). InFirst (x ∷ xs) ys (z ∷ front) e back ⊎ InSecond (x ∷ xs) ys (z ∷ front) e back) same (in_next x xs ys front e back (stands_in xs ys front e back (ap tail_of is)))
+
+same_front : (before xs ys : List Entry) → before ++ xs ≡ before ++ ys → xs ≡ ys
+unfolding tail_of
+same_front [] xs ys is = is
+same_front (b ∷ before) xs ys is = same_front before xs ys (ap tail_of is)
+
+none_longer : (before front : List Entry) (e : Entry) (back : List Entry) → before ++ (front ++ e ∷ back) ≡ before → ⊥
+none_longer before front e back is =
+    let all : length before + length (front ++ e ∷ back) ≡ length before = sym (length-append before (front ++ e ∷ back)) ∙ ap (λ (l : List Entry). length l) is in
+    let part : length (front ++ e ∷ back) ≡ length front + length (e ∷ back) = length-append front (e ∷ back) in
+    omega (arith, all, part)
+
+-- an entry of a run tells of a search within its budget
+run_tells : (budget attempts n : ℕ) (before : List Entry) (cs : List Command) (front : List Entry) (e : Entry) (back : List Entry) → RunFrom budget attempts n before cs (before ++ (front ++ e ∷ back)) → TellsOf budget (before ++ front) e
+unfolding RunFrom
+run_tells budget attempts n before [] front e back is = absurd (none_longer before front e back is)
+run_tells budget attempts n before (c ∷ cs) front e back r =
+    let seg : List Entry = r.0 in
+    let goes : GoesFrom (before ++ seg) (before ++ (front ++ e ∷ back)) = run_goes budget attempts (n + 1) (before ++ seg) cs (before ++ (front ++ e ∷ back)) r.3 in
+    let joined : seg ++ goes.rest ≡ front ++ e ∷ back = same_front before (seg ++ goes.rest) (front ++ e ∷ back) (sym (append_assoc before seg goes.rest) ∙ sym goes.is) in
+    elim (stands_in seg goes.rest front e back joined) as (λ _. TellsOf budget (before ++ front) e) [
+      | inl f ↦ made_tells (n + 1) c (length before) budget before front e f.more (subst (λ (l : List Entry). AllMade (n + 1) c (length before) budget before l) f.is r.2.made)
+      | inr s ↦
+          subst (λ (l : List Entry). TellsOf budget l e) (append_assoc before seg s.behind ∙ ap (λ (l : List Entry). before ++ l) (sym s.is))
+          (run_tells budget attempts (n + 1) (before ++ seg) cs s.behind e back
+          (subst (λ (l : List Entry). RunFrom budget attempts (n + 1) (before ++ seg) cs l) (goes.is ∙ ap (λ (l : List Entry). (before ++ seg) ++ l) s.rest) r.3))
+    ]
+
+pub entry_tells : (budget attempts : ℕ) (cs : List Command) (front : List Entry) (e : Entry) (back : List Entry) → RunOf budget attempts cs (front ++ e ∷ back) → TellsOf budget front e
+unfolding RunOf
+entry_tells budget attempts cs front e back r = run_tells budget attempts 0 [] cs front e back r

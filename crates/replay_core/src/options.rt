@@ -1,0 +1,10 @@
+/// How a script is replayed.
+#[derive(Clone, Copy, Debug, PartialEq, Eq, Drop)]
+pub struct ReplayOptions {
+    /// How many items of a node's walk a search looks at, at most.
+    pub budget: u64,
+    /// How many attempts to schedule a pod a job makes, at most.
+    pub attempts: u64,
+    /// How many entries the history has, at most.
+    pub entries: u64,
+}
