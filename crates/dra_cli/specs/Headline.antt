@@ -16,6 +16,7 @@ use Rattle.ledger_core.specs.Denied.{MayDeny}
 use Rattle.cluster.specs.History.{state_at, state_of}
 use Rattle.ledger_core.specs.Headline.{IsGrantOf, IsVerdictOf}
 use Rattle.ledger_core.specs.Limits.{ObjectsKept}
+use Rattle.ledger_core.specs.Users.{PodsUseClaims, UsersAreBusy}
 use Rattle.replay_core.specs.declared.options.ReplayOptions.{ReplayOptions}
 use Rattle.replay_core.specs.Replay.{EndsDone}
 
@@ -30,7 +31,8 @@ NamesBudget budget (reason.Nodes nodes) = (p : Passed) (steps : ℕ) → Contain
 -- first items of its walk, as many as the budget, are neither an allocation nor a fault, and there are
 -- more. Each denial carries the first refusal of its command that holds in the state before it, and
 -- none is because memory ran out. At no place does a device have two holders, and at each the objects
--- keep their limits.
+-- keep their limits, each user of a claim is a pod that is taken or bound, and such a pod uses each of
+-- its claims.
 pub record IsTrueHistory (budget : ℕ) (h : List Entry) : Type 0 where
   pub grants : (front back : List Entry) (job : ℕ) (pod : Key) (plan : Plan) → h ≡ front ++ record { job = job; event = Reserved pod plan } ∷ back → IsGrantOf front pod plan
   pub verdicts : (front back : List Entry) (job : ℕ) (pod : Key) (verdict : Verdict) → h ≡ front ++ record { job = job; event = Judged pod verdict } ∷ back → IsVerdictOf front pod verdict
@@ -39,6 +41,8 @@ pub record IsTrueHistory (budget : ℕ) (h : List Entry) : Type 0 where
   pub denials : (front back : List Entry) (job : ℕ) (command : Command) (refusal : Refusal) → h ≡ front ++ record { job = job; event = Denied command refusal } ∷ back → MayDeny (state_of front) command refusal
   pub holders : (place : ℕ) → HeldOnce (state_at h place)
   pub limits : (place : ℕ) → ObjectsKept (state_at h place)
+  pub users : (place : ℕ) → UsersAreBusy (state_at h place)
+  pub uses : (place : ℕ) → PodsUseClaims (state_at h place)
 
 -- all commands of the script were done, what was written is the text of their history, and it is true
 pub record Replayed (options : ReplayOptions) (left before after : Option (List ℕ)) : Type 0 where

@@ -11,7 +11,7 @@ use crate::words::options_of;
 use dra_ports::{Sink, Source};
 use ledger_core::{
     denials_change_nothing, grants_are_allocations, objects_keep_limits, one_holder,
-    verdicts_are_true,
+    pods_use_claims, users_are_busy, verdicts_are_true,
 };
 use replay_core::{Status, replay, runs_search_within};
 
@@ -63,6 +63,8 @@ pub fn run<R: AllocGlobal, S: Source, K: Sink>(
     denials_change_nothing();
     one_holder();
     objects_keep_limits();
+    users_are_busy();
+    pods_use_claims();
     runs_search_within();
     match options_of(words) {
         Some(options) => replay(rt.alloc(), options, input, output),

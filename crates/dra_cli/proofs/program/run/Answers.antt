@@ -14,6 +14,7 @@ use Rattle.cluster.specs.History.{state_at, state_of}
 use Rattle.alloc_rules.specs.Plans.{VerdictBy}
 use Rattle.ledger_core.specs.Headline.{IsGrantOf, IsVerdictOf}
 use Rattle.ledger_core.specs.Limits.{ObjectsKept}
+use Rattle.ledger_core.specs.Users.{PodsUseClaims, UsersAreBusy}
 use Rattle.commands.specs.declared.command.Command as script
 use Rattle.replay_core.specs.declared.options.ReplayOptions.{ReplayOptions}
 use Rattle.replay_core.specs.Jobs.{RunOf}
@@ -42,9 +43,15 @@ HolderLaw = (h : List Entry) (place : ℕ) → Legal h → HeldOnce (state_at h 
 LimitLaw : Type 0
 LimitLaw = (h : List Entry) (place : ℕ) → Legal h → ObjectsKept (state_at h place)
 
-replayed : (options : ReplayOptions) (left before after : Option (List ℕ)) → GrantLaw → VerdictLaw → BudgetLaw → DenialLaw → HolderLaw → LimitLaw → EndsDone options left before after → Replayed options left before after
-unfolding GrantLaw VerdictLaw BudgetLaw DenialLaw HolderLaw LimitLaw
-replayed options left before after grants verdicts budgets denials holders limits d = record {
+UserLaw : Type 0
+UserLaw = (h : List Entry) (place : ℕ) → Legal h → UsersAreBusy (state_at h place)
+
+UseLaw : Type 0
+UseLaw = (h : List Entry) (place : ℕ) → Legal h → PodsUseClaims (state_at h place)
+
+replayed : (options : ReplayOptions) (left before after : Option (List ℕ)) → GrantLaw → VerdictLaw → BudgetLaw → DenialLaw → HolderLaw → LimitLaw → UserLaw → UseLaw → EndsDone options left before after → Replayed options left before after
+unfolding GrantLaw VerdictLaw BudgetLaw DenialLaw HolderLaw LimitLaw UserLaw UseLaw
+replayed options left before after grants verdicts budgets denials holders limits users uses d = record {
   ends = d;
   history = record {
     grants = λ front back job pod plan e. grants front back job pod plan (subst (λ (h : List Entry). Legal h) e d.run.legal);
@@ -55,12 +62,14 @@ replayed options left before after grants verdicts budgets denials holders limit
     denials = λ front back job command refusal e. denials front back job command refusal (subst (λ (h : List Entry). Legal h) e d.run.legal);
     holders = λ place. holders d.history place d.run.legal;
     limits = λ place. limits d.history place d.run.legal;
+    users = λ place. users d.history place d.run.legal;
+    uses = λ place. uses d.history place d.run.legal;
   };
 }
 
 pub returns-in-Some-clause-done : goal.returns-in-Some-clause-done
-unfolding GrantLaw VerdictLaw BudgetLaw DenialLaw HolderLaw LimitLaw
+unfolding GrantLaw VerdictLaw BudgetLaw DenialLaw HolderLaw LimitLaw UserLaw UseLaw
 returns-in-Some-clause-done g c = λ is.
     asks (map string_bytes c.args.words.now.items) _ c.options_of.result c.in-Some.options (search rules) c.in-Some.is
-    (replayed c.in-Some.options _ _ _ c.grants_are_allocations.ensures c.verdicts_are_true.ensures c.runs_search_within.ensures.verdicts c.denials_change_nothing.ensures.due c.one_holder.ensures.always c.objects_keep_limits.ensures.always
+    (replayed c.in-Some.options _ _ _ c.grants_are_allocations.ensures c.verdicts_are_true.ensures c.runs_search_within.ensures.verdicts c.denials_change_nothing.ensures.due c.one_holder.ensures.always c.objects_keep_limits.ensures.always c.users_are_busy.ensures.always c.pods_use_claims.ensures.always
     (rw is at c.replay.ensures.ends))
