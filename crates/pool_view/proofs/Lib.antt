@@ -10,3 +10,4 @@ pub mod Indexed
 pub mod Pairs
 pub mod Differ
 pub mod OfNode
+mod SameSlices

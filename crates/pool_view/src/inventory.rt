@@ -1,10 +1,13 @@
-ghost use Rattle.std.specs.Prelude.{◌≡◌, ◌≤◌, true, OnOk, OnErr};
+ghost use Rattle.std.specs.Prelude.{◌≡◌, ◌≤◌, true, IfSome, OnOk, OnErr};
+ghost use Rattle.pool_view.specs.Sorted.{AreSorted};
 ghost use Rattle.std.specs.List.Sorted.{IsStrictlySortedBy};
 ghost use Rattle.std.specs.Map.{keys_of};
 ghost use Rattle.pool_view.specs.Inventory.{AtOwnNames, device_count, devices_by, devices_most, empty_inventory, has_room_for, with_node, with_slice, without_node, without_slice};
 ghost use Rattle.pool_view.specs.Names.{at_name, text_cmp};
 
 use crate::Stored;
+use crate::kept::SortedSlices;
+use crate::sorting::sorted_slices;
 use crate::stored::put_named;
 use api_cluster::Node;
 use api_slice::ResourceSlice;
@@ -26,6 +29,8 @@ pub struct Inventory {
     slices: Slices,
     /// How many devices all slices have.
     devices: usize,
+    /// None where the slices aren't sorted, or have changed since they were.
+    sorted: Option<SortedSlices>,
 }
 
 impl Model for Inventory {
@@ -35,7 +40,9 @@ impl Model for Inventory {
 
     ghost view = { λ i. record { nodes = i.nodes; slices = i.slices } };
 
-    ghost invariant = { λ i. IsKept i.slices i.devices };
+    ghost use Rattle.pool_view.specs.Sorted.{IsSorted};
+
+    ghost invariant = { λ i. IsKept i.slices i.devices × IsSorted i.slices i.sorted };
 }
 
 impl Inventory {
@@ -47,6 +54,7 @@ impl Inventory {
             nodes: Table::new(alloc),
             slices: Table::new(alloc),
             devices: 0,
+            sorted: None,
         }
     }
 
@@ -132,6 +140,7 @@ impl Inventory {
             + slice.devices.as_slice().len();
         put_named(&mut self.slices, place, name, slice)?;
         self.devices = devices;
+        self.sorted = None;
         Ok(())
     }
 
@@ -149,6 +158,31 @@ impl Inventory {
     {
         self.devices -= devices_of(&self.slices, name);
         self.slices.remove(name);
+        self.sorted = None;
+    }
+
+    /// Whether the slices were sorted since they changed. Takes no memory.
+    pub fn is_sorted(&self) -> bool {
+        self.sorted.is_some()
+    }
+
+    /// The slices as they are kept, sorted, if they are.
+    pub(crate) fn sorted(&self) -> Option<&SortedSlices>
+        ensures { IfSome result (λ sorted. AreSorted self.now.slices sorted.now) }
+    {
+        self.sorted.as_ref()
+    }
+
+    /// Sorts the slices, so that searches needn't, until they change. The inventory stays the same.
+    /// `AllocError` only if memory runs out.
+    pub fn sort(&mut self, alloc: Global) -> Result<(), AllocError>
+        ensures { self.new ≡ self.old }
+    {
+        if self.sorted.is_none() {
+            let sorted = sorted_slices(alloc, self)?;
+            self.sorted = Some(sorted);
+        }
+        Ok(())
     }
 }
 
@@ -158,6 +192,7 @@ impl Duplicate for Inventory {
             nodes: self.nodes.copy(alloc)?,
             slices: self.slices.copy(alloc)?,
             devices: self.devices,
+            sorted: None,
         })
     }
 }

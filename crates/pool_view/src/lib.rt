@@ -4,6 +4,7 @@
 mod device;
 mod groups;
 mod inventory;
+mod kept;
 mod laws;
 mod names;
 mod node_index;

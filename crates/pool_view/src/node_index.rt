@@ -41,7 +41,7 @@ impl<'a> NodeIndex<'a> {
             others: Seq::empty(alloc),
         };
         for place in 0..slices.len() {
-            put(&mut index, alloc, place, slices[place].get())?;
+            put(&mut index, alloc, place, &slices[place])?;
         }
         Ok(index)
     }
@@ -51,15 +51,15 @@ fn put<'a>(
     index: &mut NodeIndex<'a>,
     alloc: Global,
     place: usize,
-    slice: &'a ResourceSlice,
+    slice: &SliceRef<'a>,
 ) -> Result<(), AllocError>
     ensures { IfOk result (λ _. index.new ≡ put_at place slice.now index.old) }
 {
     let placed = PlacedSlice {
         place,
-        slice: SliceRef::of(slice),
+        slice: slice.again(),
     };
-    match named_node(&slice.nodes) {
+    match named_node(&slice.get().nodes) {
         Some(node) => add(&mut index.named, alloc, NameRef::of(node), placed),
         None => index.others.push(placed),
     }

@@ -1,12 +1,14 @@
-ghost use Rattle.std.specs.Prelude.{◌≡◌};
+ghost use Rattle.std.specs.Prelude.{◌≡◌, IfOk};
 
 use api_slice::ResourceSlice;
+use dra_values::Shared;
+use std::alloc::AllocError;
 use std::marker::Model;
 
 /// A slice of an inventory, borrowed, which contracts see as the slice.
 #[derive(Drop)]
 pub struct SliceRef<'a> {
-    slice: &'a ResourceSlice,
+    slice: &'a Shared<ResourceSlice>,
 }
 
 impl<'a> Model for SliceRef<'a> {
@@ -19,7 +21,7 @@ impl<'a> Model for SliceRef<'a> {
 
 impl<'a> SliceRef<'a> {
     /// A slice, borrowed.
-    pub fn of(slice: &'a ResourceSlice) -> SliceRef<'a>
+    pub fn of(slice: &'a Shared<ResourceSlice>) -> SliceRef<'a>
         ensures { result ≡ slice.now }
     {
         SliceRef { slice }
@@ -29,7 +31,14 @@ impl<'a> SliceRef<'a> {
     pub fn get(&self) -> &'a ResourceSlice
         ensures { result.now ≡ self.now }
     {
-        self.slice
+        self.slice.value()
+    }
+
+    /// One more owner of the slice. Takes no memory; `AllocError` only if the count of owners is full.
+    pub fn share(&self) -> Result<Shared<ResourceSlice>, AllocError>
+        ensures { IfOk result (λ slice. slice ≡ self.now) }
+    {
+        self.slice.share()
     }
 
     /// The same slice, borrowed again.

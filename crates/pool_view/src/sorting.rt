@@ -2,14 +2,16 @@ ghost use Rattle.std.specs.Prelude.{◌≡◌, ◌++◌, [], IfOk, map, if◌the
 ghost use Rattle.std.specs.List.{flat_map};
 ghost use Rattle.pool_view.specs.Groups.{group_at};
 ghost use Rattle.pool_view.specs.Pools.{counts_of, device_names, has_twice, highest, is_complete, is_usable, newest, of_generation};
+ghost use Rattle.pool_view.specs.Sorted.{AreSorted};
 ghost use Rattle.pool_view.specs.Usable.{broken_slices, if_broken, if_usable, pool_cmp, usable_slices};
 
 use crate::Inventory;
 use crate::groups::{by_pool, pool_names};
+use crate::kept::SortedSlices;
 use crate::names::{NameRef, PoolName};
 use crate::slice_ref::SliceRef;
 use api_slice::ResourceSlice;
-use dra_values::{Seq, Table};
+use dra_values::{Seq, Shared, Table};
 use std::alloc::{AllocError, Global};
 use std::collections::BTreeSet;
 
@@ -163,13 +165,66 @@ fn sort_pools<'a>(
 /// All slices of the inventory that have the highest generation of their pool, sorted by whether
 /// the pool is usable, each in the order of driver, pool and slice.
 #[tactic(auto, using(crate::proofs::PoolGroups::usable_by, crate::proofs::PoolGroups::broken_by))]
-pub fn sort_out<'a>(alloc: Global, inventory: &'a Inventory) -> Result<Sorted<'a>, AllocError>
+fn sort_all<'a>(alloc: Global, inventory: &'a Inventory) -> Result<Sorted<'a>, AllocError>
     ensures usable { IfOk result (λ s. s.usable ≡ usable_slices inventory.now) }
     ensures broken { IfOk result (λ s. s.broken ≡ broken_slices inventory.now) }
 {
     let groups = by_pool(alloc, inventory.slices())?;
     let names = pool_names(alloc, inventory.slices())?;
     sort_pools(alloc, &groups, &names)
+}
+
+fn borrow_all<'a>(
+    alloc: Global,
+    slices: &'a [Shared<ResourceSlice>],
+) -> Result<Seq<SliceRef<'a>>, AllocError>
+    ensures { IfOk result (λ refs. refs ≡ slices.now) }
+{
+    let mut refs = Seq::empty(alloc);
+    for slice in slices {
+        refs.push(SliceRef::of(slice))?;
+    }
+    Ok(refs)
+}
+
+/// All slices of the inventory that have the highest generation of their pool, as it keeps them, or sorted
+/// now if it doesn't.
+pub fn sort_out<'a>(alloc: Global, inventory: &'a Inventory) -> Result<Sorted<'a>, AllocError>
+    ensures usable { IfOk result (λ s. s.usable ≡ usable_slices inventory.now) }
+    ensures broken { IfOk result (λ s. s.broken ≡ broken_slices inventory.now) }
+{
+    match inventory.sorted() {
+        Some(kept) => {
+            let usable = borrow_all(alloc, kept.usable.as_slice())?;
+            let broken = borrow_all(alloc, kept.broken.as_slice())?;
+            Ok(Sorted { usable, broken })
+        }
+        None => sort_all(alloc, inventory),
+    }
+}
+
+fn share_all(
+    alloc: Global,
+    slices: &[SliceRef<'_>],
+) -> Result<Seq<Shared<ResourceSlice>>, AllocError>
+    ensures { IfOk result (λ shared. shared ≡ slices.now) }
+{
+    let mut shared = Seq::empty(alloc);
+    for slice in slices {
+        shared.push(slice.share()?)?;
+    }
+    Ok(shared)
+}
+
+/// The slices of the inventory, sorted, to be kept.
+#[tactic(auto, using(crate::proofs::SameSlices::usable_of, crate::proofs::SameSlices::broken_of))]
+pub fn sorted_slices(alloc: Global, inventory: &Inventory) -> Result<SortedSlices, AllocError>
+    ensures { IfOk result (λ sorted. AreSorted inventory.now.slices sorted) }
+{
+    let sorted = sort_all(alloc, inventory)?;
+    let usable = share_all(alloc, sorted.usable.as_slice())?;
+    let broken = share_all(alloc, sorted.broken.as_slice())?;
+    Ok(SortedSlices { usable, broken })
 }
 
 /// The slices of the usable pools, those of each pool's highest generation, over all nodes: in the

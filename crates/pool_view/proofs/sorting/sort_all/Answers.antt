@@ -3,7 +3,7 @@ use Rattle.pool_view.specs.Groups.{objects}
 use Rattle.pool_view.specs.Groups.{grouped}
 use Rattle.pool_view.specs.Usable.{pool_cmp, pool_named, pools}
 use Rattle.pool_view.proofs.PoolGroups.{broken_ok}
-use Rattle.pool_view.proofs.sorting.sort_out.Goals as goal
+use Rattle.pool_view.proofs.sorting.sort_all.Goals as goal
 
 pub returns-clause-broken : goal.returns-clause-broken
 returns-clause-broken c =
