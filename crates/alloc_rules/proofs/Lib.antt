@@ -5,3 +5,4 @@ pub mod Decided
 pub mod Tried
 pub mod Going
 pub mod Gathering
+pub mod Idle

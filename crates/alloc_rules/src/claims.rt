@@ -6,7 +6,7 @@ ghost use Rattle.allocations.specs.Claims.{has_grant, is_elsewhere, is_off};
 ghost use Rattle.alloc_rules.specs.Parts.{first_elsewhere, first_full, first_missing, unready};
 
 use cluster::{ClaimState, Granted, KnownClaim, MOST_USERS, Reason, State};
-use dra_values::{Seq, Text};
+use dra_values::{Seq, Shared, Text};
 use object_fields::Key;
 use std::alloc::{AllocError, Global};
 
@@ -79,7 +79,7 @@ fn is_elsewhere(node: &Text, claim: Option<&ClaimState>) -> bool
     }
 }
 
-fn is_off(node: &Text, grant: &Option<Granted>) -> bool
+fn is_off(node: &Text, grant: &Option<Shared<Granted>>) -> bool
     ensures { result ≡ is_off node.now grant.now }
 {
     match grant {
@@ -165,7 +165,7 @@ fn known_claim(alloc: Global, key: &Key, claim: &ClaimState) -> Result<KnownClai
 }
 
 /// The node of a grant, if there is one.
-fn node_of(alloc: Global, grant: &Option<Granted>) -> Result<Option<Text>, AllocError>
+fn node_of(alloc: Global, grant: &Option<Shared<Granted>>) -> Result<Option<Text>, AllocError>
     ensures { IfOk result (λ node. node ≡ option_map (λ g. g.node) grant.now) }
 {
     match grant {

@@ -1,6 +1,8 @@
 ghost use Rattle.std.specs.Prelude.{◌≡◌, true, IfOk};
 ghost use Rattle.cluster.specs.Claims.{known_of};
+ghost use Rattle.cluster.specs.Held.{held};
 ghost use Rattle.cluster.specs.State.{is_idle};
+ghost use Rattle.counter_sets.specs.Holding.{AreHeld};
 ghost use Rattle.allocations.specs.Claims.{joined, keys_of_pod};
 ghost use Rattle.alloc_rules.specs.Decisions.{IsDecision, is_idle_pod};
 ghost use Rattle.alloc_rules.specs.Parts.{decision_by, plan_by, unready};
@@ -10,6 +12,7 @@ use crate::claims::{granted, known_claims, unready};
 use crate::nodes::{Taken, try_nodes};
 use allocations::{keys_of_pod, unsat_is_true};
 use cluster::{Known, Passed, Phase, Plan, PodState, Reason, State, Verdict};
+use counter_sets::Held;
 use dra_values::Seq;
 use node_search::PodSearch;
 use object_fields::Key;
@@ -50,20 +53,23 @@ fn is_idle(phase: &Phase) -> bool
 /// the plan takes the first node on which a search finds an allocation and which has the grants of the
 /// claims that the pod joins; where there is none, the verdict has the cause of each node.
 ///
-/// `at` is how many entries stood in the history whose state this is, and `budget` how many items of a
-/// node's walk a search may look at. `AllocError` comes only if memory runs out.
+/// `holders` are the devices that the state's claims hold. `at` is how many entries stood in the history
+/// whose state this is, and `budget` how many items of a node's walk a search may look at.
+/// `AllocError` comes only if memory runs out.
 pub fn decide(
     alloc: Global,
     state: &State,
+    holders: &Held,
     pod: &Key,
     at: u64,
     budget: u64,
 ) -> Result<Decision, AllocError>
     requires idle { is_idle_pod state.now pod.now ≡ true }
+    requires holders { AreHeld holders.now (held state.now) }
     ensures { IfOk result (IsDecision state.now pod.now budget at) }
 {
     match state.pods.get(pod) {
-        Some(found) => decide_for(alloc, state, pod, found, at, budget),
+        Some(found) => decide_for(alloc, state, holders, pod, found, at, budget),
         None => unreachable!(),
     }
 }
@@ -71,18 +77,29 @@ pub fn decide(
 fn decide_for(
     alloc: Global,
     state: &State,
+    holders: &Held,
     key: &Key,
     pod: &PodState,
     at: u64,
     budget: u64,
 ) -> Result<Decision, AllocError>
     requires idle { IsIdle state.now key.now pod.now }
+    requires holders { AreHeld holders.now (held state.now) }
     ensures { IfOk result (IsDecision state.now key.now budget at) }
 {
     let claims = keys_of_pod(alloc, &pod.pod.object)?;
     match unready(alloc, state, key, claims.as_slice())? {
         Some(reason) => Ok(Decision::Judge(Verdict { at, reason })),
-        None => decide_among(alloc, state, key, pod, claims.as_slice(), at, budget),
+        None => decide_among(
+            alloc,
+            state,
+            holders,
+            key,
+            pod,
+            claims.as_slice(),
+            at,
+            budget,
+        ),
     }
 }
 
@@ -90,30 +107,24 @@ fn decide_for(
 fn decide_among(
     alloc: Global,
     state: &State,
+    holders: &Held,
     key: &Key,
     pod: &PodState,
     claims: &[Key],
     at: u64,
     budget: u64,
 ) -> Result<Decision, AllocError>
+    requires holders { AreHeld holders.now (held state.now) }
     requires may_search { MaySearch state.now key.now pod.now }
     requires claims { claims.now ≡ keys_of_pod pod.now.pod.object }
     ensures { IfOk result (IsDecision state.now key.now budget at) }
 {
     unsat_is_true();
     state.inventory.nodes().in_order();
-    let mut search = PodSearch::of(alloc, state, &pod.pod.object)?;
+    let search = PodSearch::of(alloc, state, holders, &pod.pod.object)?;
     let mut passed = Seq::empty(alloc);
     let object = &pod.pod.object;
-    let taken = try_nodes(
-        alloc,
-        state,
-        object,
-        claims,
-        &mut search,
-        budget,
-        &mut passed,
-    )?;
+    let taken = try_nodes(alloc, state, object, claims, &search, budget, &mut passed)?;
     decision_by(alloc, state, pod, claims, at, passed, taken)
 }
 

@@ -1,4 +1,4 @@
-ghost use Rattle.std.specs.Prelude.{◌≡◌, ◌++◌, [], ◌∷◌, IfOk, IsSome, OnOk};
+ghost use Rattle.std.specs.Prelude.{◌≡◌, ◌++◌, [], ◌∷◌, IfOk, IsSome};
 ghost use Rattle.std.specs.Map.{keys_of};
 ghost use Rattle.pool_view.specs.Names.{at_name};
 ghost use Rattle.allocations.specs.Claims.{keys_of_pod, wanted};
@@ -47,15 +47,14 @@ fn try_node(
     state: &State,
     pod: &Pod,
     claims: &[Key],
-    search: &mut PodSearch,
+    search: &PodSearch,
     node: &Text,
     budget: u64,
 ) -> Result<Tried, AllocError>
     requires claims { claims.now ≡ keys_of_pod pod.now }
-    requires search { search.old ≡ record { state = state.now; claims = wanted state.now pod.now } }
+    requires search { search.now ≡ record { state = state.now; claims = wanted state.now pod.now } }
     requires there { IsSome (at_name state.now.inventory.nodes node.now) }
-    ensures tried { IfOk result (IsTried state.now pod.now budget node.now) }
-    ensures same { OnOk result (search.new ≡ search.old) }
+    ensures { IfOk result (IsTried state.now pod.now budget node.now) }
 {
     match first_elsewhere(state, node, claims) {
         Some(claim) => Ok(Tried::Passed(Cause::Other(claim.copy(alloc)?))),
@@ -83,12 +82,12 @@ pub fn try_nodes(
     state: &State,
     pod: &Pod,
     claims: &[Key],
-    search: &mut PodSearch,
+    search: &PodSearch,
     budget: u64,
     passed: &mut Seq<Passed>,
 ) -> Result<Option<Taken>, AllocError>
     requires claims { claims.now ≡ keys_of_pod pod.now }
-    requires search { search.old ≡ record { state = state.now; claims = wanted state.now pod.now } }
+    requires search { search.now ≡ record { state = state.now; claims = wanted state.now pod.now } }
     requires none { passed.old ≡ [] }
     ensures { IfOk result (AreTried state.now pod.now budget (keys_of state.now.inventory.nodes) passed.new) }
 {

@@ -1,6 +1,6 @@
 -- What is the same is equal, and the other way round.
-use Rattle.std.proofs.Common.{ℕ, ◌≡◌, ◌∙◌, List, [], ◌∷◌, Bool, true, false, cond, not, ◌&&◌, eqb, refl, sym, ap}
-use Rattle.std.specs.Cmp.Lexicographic.{pointwise, same_text}
+use Rattle.std.proofs.Common.{ℕ, ◌≡◌, ◌∙◌, List, [], ◌∷◌, Bool, true, false, ◌&&◌, eqb, refl, sym, ap}
+use Rattle.std.specs.Cmp.Lexicographic.{pointwise}
 use Rattle.std.proofs.lemmas.Bool.{and_from, and_parts, eq-eqb, eqb-true}
 use Rattle.api_claim.specs.declared.types.AllocationMode.{AllocationMode}
 use Rattle.api_claim.specs.declared.types.AllocationMode.TheVariants.{ExactCount, All}
@@ -19,9 +19,9 @@ use Rattle.pool_view.specs.Names.{text_eq}
 use Rattle.cluster.specs.Same.{same_ask, same_attribute, same_constraint, same_exactly, same_kind, same_mode, same_pod_claim, same_pod_claims, same_request, same_spec, same_subrequest, same_truth}
 
 -- a test that tells equality
-record Exact {A : Type 0} (same : A → A → Bool) : Type 0 where
-  sound : (x y : A) → same x y ≡ true → x ≡ y
-  whole : (x : A) → same x x ≡ true
+pub record Exact {A : Type 0} (same : A → A → Bool) : Type 0 where
+  pub sound : (x y : A) → same x y ≡ true → x ≡ y
+  pub whole : (x : A) → same x x ≡ true
 
 list_sound : {A : Type 0} (same : A → A → Bool) → Exact same → (xs ys : List A) → pointwise same xs ys ≡ true → xs ≡ ys
 list_sound same e [] [] is = refl
@@ -44,7 +44,7 @@ nat_whole n = eq-eqb n n refl
 nat_exact : Exact eqb
 nat_exact = record { sound = λ n m e. eqb-true n m e; whole = nat_whole }
 
-text_exact : Exact text_eq
+pub text_exact : Exact text_eq
 text_exact = list_exact eqb nat_exact
 
 texts_exact : Exact (pointwise text_eq)

@@ -4,7 +4,6 @@ use Rattle.std.specs.Option.{option_map_or}
 use Rattle.std.specs.Ordering.{ordering_reverse}
 use Rattle.std.specs.declared.cmp.Ordering.{Ordering}
 use Rattle.std.specs.declared.cmp.Ordering.TheVariants.{Less, Equal, Greater}
-use Rattle.std.specs.Cmp.{IsTotalOrder}
 use Rattle.std.specs.Cmp.Lexicographic.{nat_list_cmp_total}
 use Rattle.std.specs.BTreeMap.{insert_entry, is_at}
 use Rattle.std.specs.Map.{lookup, set_value}
@@ -18,7 +17,7 @@ use Rattle.cluster.specs.declared.state.ClaimState.{ClaimState}
 use Rattle.cluster.specs.declared.state.Granted.{Granted}
 use Rattle.cluster.specs.declared.state.Use.{Use}
 use Rattle.cluster.specs.declared.state.Use.TheVariants.{Assumed}
-use Rattle.cluster.specs.Prepared.{given, given_by, granted_use, joined_use, placed, users_with, uses_of}
+use Rattle.cluster.specs.Prepared.{given_by, granted_use, joined_use, placed, users_with, uses_of}
 use Rattle.cluster.specs.Reserved.{joined_by, with_grant, with_grants, with_joins}
 use Rattle.cluster.specs.Tables.{changed_at}
 

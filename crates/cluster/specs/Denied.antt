@@ -1,7 +1,8 @@
 -- A command is refused.
-use Rattle.std.specs.Prelude.{ℕ, ◌==◌, Bool, false, true, not, ◌||◌, Option, None, Some, is_some, length, option_map, if◌then◌else◌}
+use Rattle.std.specs.Prelude.{ℕ, ◌==◌, Bool, false, not, ◌||◌, Option, None, Some, is_some, length, option_map, if◌then◌else◌}
 use Rattle.std.specs.List.{list_any}
 use Rattle.object_fields.specs.declared.key.Key.{Key}
+use Rattle.api_claim.specs.declared.types.ClaimStatus.{ClaimStatus}
 use Rattle.api_claim.specs.declared.types.ResourceClaim.{ResourceClaim}
 use Rattle.api_cluster.specs.declared.types.Pod.{Pod}
 use Rattle.pool_view.specs.Names.{at_key, at_name}
@@ -139,12 +140,28 @@ abbrev pub schedule_refusal : Option PodState → Option Refusal
 schedule_refusal None = Some refusal.NotFound
 schedule_refusal (Some p) = phase_refusal p.phase
 
--- the first refusal of a command that holds
+abbrev pub unbound_refusal : Phase → Option Refusal
+unbound_refusal phase.Idle = Some refusal.NotBound
+unbound_refusal (phase.Taken job node) = Some (refusal.Busy job)
+unbound_refusal (phase.Bound node) = None
+
+abbrev pub release_refusal : Option PodState → Option Refusal
+release_refusal None = Some refusal.NotFound
+release_refusal (Some p) = unbound_refusal p.phase
+
+-- the refusals of a status write before what its grant is looked at
+abbrev pub status_refusal : ClaimStatus → Option ClaimState → Option Refusal
+status_refusal status None = Some refusal.NotFound
+status_refusal status (Some c) = or_else (conflict_of status.version (Some c.claim.version)) (when (is_some c.grant) refusal.Exists)
+
+-- The first refusal of a command that holds. Whether the grant of a status write is an allocation isn't looked at here.
 abbrev pub first_refusal : State → Command → Option Refusal
 first_refusal s (command.Invalid error) = Some refusal.Invalid
 first_refusal s (command.Apply x m) = apply_refusal s x m
 first_refusal s (command.Delete t) = delete_refusal s t
 first_refusal s (command.Schedule pod) = schedule_refusal (at_key s.pods pod)
+first_refusal s (command.Release pod) = release_refusal (at_key s.pods pod)
+first_refusal s (command.Adopt claim status) = status_refusal status (at_key s.claims claim)
 
 -- nothing changes
 abbrev pub with_denial : State → State

@@ -1,18 +1,24 @@
 -- What each event does to the state, and what it leaves of its job.
-use Rattle.std.specs.Prelude.{ℕ, Bool}
+use Rattle.std.specs.Prelude.{ℕ, Bool, ◌==◌, ◌&&◌}
 use Rattle.cluster.specs.declared.entry.Event.{Event}
-use Rattle.cluster.specs.declared.entry.Event.TheVariants.{Applied, Deleted, Reserved, Wrote, Bound, Judged, Denied}
+use Rattle.cluster.specs.declared.entry.Event.TheVariants.{Applied, Deleted, Reserved, Refused, Wrote, Conflict, Unreserved, Bound, Judged, Contended, Released, Adopted, Denied}
 use Rattle.cluster.specs.declared.entry.Outcome.{Outcome}
 use Rattle.cluster.specs.declared.entry.Outcome.TheVariants as outcome
 use Rattle.cluster.specs.declared.entry.Stand.{Stand}
 use Rattle.cluster.specs.declared.state.State.{State}
-use Rattle.cluster.specs.Stand.{has_reserved, is_fresh, may_try}
+use Rattle.cluster.specs.Stand.{failures, has_failed, has_reserved, is_conflicted, is_fresh, may_try}
 use Rattle.cluster.specs.Applied.{with_object, applied_leaves}
 use Rattle.cluster.specs.Deleted.{without_object, deleted_leaves}
 use Rattle.cluster.specs.Reserved.{with_reserved, reserved_leaves}
+use Rattle.cluster.specs.Refused.{with_refusal, refused_leaves}
 use Rattle.cluster.specs.Wrote.{with_written, wrote_leaves}
+use Rattle.cluster.specs.Conflict.{with_conflict, conflict_leaves}
+use Rattle.cluster.specs.Unreserved.{with_unreserved, unreserved_leaves}
 use Rattle.cluster.specs.Bound.{with_bound, bound_leaves}
 use Rattle.cluster.specs.Judged.{with_verdict, judged_leaves}
+use Rattle.cluster.specs.Contended.{with_contention, contended_leaves}
+use Rattle.cluster.specs.Released.{with_released, released_leaves}
+use Rattle.cluster.specs.Adopted.{with_adopted, adopted_leaves}
 use Rattle.cluster.specs.Denied.{with_denial, denied_leaves}
 
 -- the state after an entry of a job at a place
@@ -20,9 +26,15 @@ abbrev pub after : ℕ → ℕ → Event → State → State
 after place job (Applied object mode) s = with_object place object s
 after place job (Deleted target) s = without_object target s
 after place job (Reserved pod plan) s = with_reserved job pod plan s
+after place job (Refused pod plan why) s = with_refusal s
 after place job (Wrote pod claim seen) s = with_written place pod claim s
+after place job (Conflict pod claim had now) s = with_conflict s
+after place job (Unreserved pod) s = with_unreserved place pod s
 after place job (Bound pod node) s = with_bound pod node s
 after place job (Judged pod verdict) s = with_verdict s
+after place job (Contended pod attempts) s = with_contention s
+after place job (Released pod) s = with_released place pod s
+after place job (Adopted claim status) s = with_adopted place claim status s
 after place job (Denied command refusal) s = with_denial s
 
 -- the stand after an entry of the job at a place
@@ -30,9 +42,15 @@ abbrev pub stand_after : Stand → ℕ → Event → Stand
 stand_after st place (Applied object mode) = applied_leaves place
 stand_after st place (Deleted target) = deleted_leaves place
 stand_after st place (Reserved pod plan) = reserved_leaves st
+stand_after st place (Refused pod plan why) = refused_leaves st
 stand_after st place (Wrote pod claim seen) = wrote_leaves st
+stand_after st place (Conflict pod claim had now) = conflict_leaves st
+stand_after st place (Unreserved pod) = unreserved_leaves st
 stand_after st place (Bound pod node) = bound_leaves place
 stand_after st place (Judged pod verdict) = judged_leaves place
+stand_after st place (Contended pod attempts) = contended_leaves place
+stand_after st place (Released pod) = released_leaves place
+stand_after st place (Adopted claim status) = adopted_leaves place
 stand_after st place (Denied command refusal) = denied_leaves place
 
 -- a job that stands so may make the entry
@@ -40,9 +58,15 @@ abbrev pub allows : Stand → Event → Bool
 allows st (Applied object mode) = is_fresh st
 allows st (Deleted target) = is_fresh st
 allows st (Reserved pod plan) = may_try st
+allows st (Refused pod plan why) = may_try st
 allows st (Wrote pod claim seen) = has_reserved st
+allows st (Conflict pod claim had now) = has_reserved st
+allows st (Unreserved pod) = is_conflicted st
 allows st (Bound pod node) = has_reserved st
 allows st (Judged pod verdict) = may_try st
+allows st (Contended pod attempts) = has_failed st && (failures st == attempts)
+allows st (Released pod) = is_fresh st
+allows st (Adopted claim status) = is_fresh st
 allows st (Denied command refusal) = may_try st
 
 -- what became of a command, by the kind of its entry
@@ -50,7 +74,13 @@ abbrev pub outcome_of : Event → Outcome
 outcome_of (Applied object mode) = outcome.Made
 outcome_of (Deleted target) = outcome.Made
 outcome_of (Reserved pod plan) = outcome.Made
+outcome_of (Refused pod plan why) = outcome.Refused
 outcome_of (Wrote pod claim seen) = outcome.Made
+outcome_of (Conflict pod claim had now) = outcome.Conflicted
+outcome_of (Unreserved pod) = outcome.Made
 outcome_of (Bound pod node) = outcome.Made
 outcome_of (Judged pod verdict) = outcome.Made
+outcome_of (Contended pod attempts) = outcome.Made
+outcome_of (Released pod) = outcome.Made
+outcome_of (Adopted claim status) = outcome.Made
 outcome_of (Denied command refusal) = outcome.Denied

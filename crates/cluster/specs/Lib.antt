@@ -10,9 +10,17 @@ pub mod Deleted
 pub mod Same
 pub mod Reserved
 pub mod Prepared
+pub mod Refused
 pub mod Wrote
+pub mod Conflict
+pub mod Freed
+pub mod Leaving
+pub mod Unreserved
 pub mod Bound
 pub mod Judged
+pub mod Contended
+pub mod Released
+pub mod Adopted
 pub mod Denied
 pub mod Events
 pub mod History

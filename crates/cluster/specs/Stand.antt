@@ -27,6 +27,22 @@ may_try (stand.Conflicted k) = false
 may_try (stand.Failed k) = true
 may_try (stand.Ended place) = false
 
+-- its last attempt has failed
+abbrev pub has_failed : Stand → Bool
+has_failed stand.Fresh = false
+has_failed (stand.Reserved k) = false
+has_failed (stand.Conflicted k) = false
+has_failed (stand.Failed k) = true
+has_failed (stand.Ended place) = false
+
+-- it has met another version of a claim
+abbrev pub is_conflicted : Stand → Bool
+is_conflicted stand.Fresh = false
+is_conflicted (stand.Reserved k) = false
+is_conflicted (stand.Conflicted k) = true
+is_conflicted (stand.Failed k) = false
+is_conflicted (stand.Ended place) = false
+
 abbrev pub has_reserved : Stand → Bool
 has_reserved stand.Fresh = false
 has_reserved (stand.Reserved k) = true

@@ -1,4 +1,5 @@
-use crate::{Object, Plan, Target, Verdict};
+use crate::{Failure, Object, Plan, Target, Verdict};
+use api_claim::ClaimStatus;
 use dra_values::Text;
 use object_fields::{FieldError, Key};
 
@@ -15,19 +16,66 @@ pub struct Entry {
 pub enum Event {
     /// Creates an object, whose uid and version are the entry's place, or updates one that is there,
     /// which keeps its uid and gets the entry's place as its version.
-    Applied { object: Object, mode: Mode },
+    Applied {
+        object: Object,
+        mode: Mode,
+    },
     /// Takes an object away.
     Deleted(Target),
     /// Makes the plan's grants, and takes the pod for the job.
-    Reserved { pod: Key, plan: Plan },
+    Reserved {
+        pod: Key,
+        plan: Plan,
+    },
+    /// Says why the plan's grants can't be made, and changes nothing. The attempt has failed.
+    Refused {
+        pod: Key,
+        plan: Plan,
+        why: Failure,
+    },
     /// Writes the pod's use of a claim, whose version was `seen`.
-    Wrote { pod: Key, claim: Key, seen: u64 },
+    Wrote {
+        pod: Key,
+        claim: Key,
+        seen: u64,
+    },
+    /// Says that a claim, whose version was `had` when the job reserved, has the version `now`, and
+    /// changes nothing.
+    Conflict {
+        pod: Key,
+        claim: Key,
+        had: u64,
+        now: u64,
+    },
+    /// Takes the pod's uses away, and leaves the pod Idle. The attempt has failed.
+    Unreserved(Key),
     /// Binds the pod to the node of its plan.
-    Bound { pod: Key, node: Text },
+    Bound {
+        pod: Key,
+        node: Text,
+    },
     /// Says that the pod can't be scheduled, and changes nothing.
-    Judged { pod: Key, verdict: Verdict },
+    Judged {
+        pod: Key,
+        verdict: Verdict,
+    },
+    /// Says that so many attempts have failed, and changes nothing.
+    Contended {
+        pod: Key,
+        attempts: u64,
+    },
+    /// Takes the uses of a bound pod away, and leaves the pod Idle.
+    Released(Key),
+    /// Grants a claim what a status write says, published and without users.
+    Adopted {
+        claim: Key,
+        status: ClaimStatus,
+    },
     /// Refuses a command by the first of its refusals that holds, and changes nothing.
-    Denied { command: Command, refusal: Refusal },
+    Denied {
+        command: Command,
+        refusal: Refusal,
+    },
 }
 
 /// What a job is to do, as far as it may be refused.
@@ -42,6 +90,10 @@ pub enum Command {
     Delete(Target),
     /// To find devices for a pod, and to bind it to their node.
     Schedule(Key),
+    /// To take the uses of a bound pod away.
+    Release(Key),
+    /// To grant a claim what a status write says.
+    Adopt { claim: Key, status: ClaimStatus },
 }
 
 /// Whether a command that applies an object asks for a new one.
@@ -60,11 +112,11 @@ pub enum Mode {
 pub enum Refusal {
     /// The document has an error.
     Invalid,
-    /// No object of this kind and name is there; of a Schedule, the pod isn't there.
+    /// No object of this kind and name is there; of a Schedule or a Release, the pod isn't there.
     NotFound,
-    /// An object of this kind and name is there.
+    /// An object of this kind and name is there; of a status write, the claim has a grant.
     Exists,
-    /// The object carries the version `had`, and the one that is there has the version `now`.
+    /// The object, or the status, carries the version `had`, and the one that is there has the version `now`.
     Conflict { had: u64, now: u64 },
     /// The spec of a claim, or the list of claims of a pod, isn't that of the one that is there.
     Immutable,
@@ -76,6 +128,10 @@ pub enum Refusal {
     Busy(u64),
     /// The pod is bound to this node.
     Bound(Text),
+    /// The pod isn't bound.
+    NotBound,
+    /// What the status write would grant isn't an allocation of the claim.
+    Failure(Failure),
 }
 
 /// What became of a command, by the kind of its entry.
@@ -85,6 +141,10 @@ pub enum Outcome {
     Made,
     /// It was refused.
     Denied,
+    /// The plan's grants couldn't be made.
+    Refused,
+    /// A claim had another version.
+    Conflicted,
 }
 
 /// What a job's entries leave. The numbers count the attempts of the job that have failed.

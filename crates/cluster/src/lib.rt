@@ -2,6 +2,8 @@
 #![tactic(auto)]
 
 mod entry;
+mod failure;
+mod freed;
 mod kept;
 mod object;
 mod plan;
@@ -12,6 +14,7 @@ mod same;
 mod state;
 
 pub use entry::{Command, Entry, Event, Mode, Outcome, Refusal, Stand};
+pub use failure::{Failure, Shortfall};
 pub use kept::Kept;
 pub use object::{Object, Target};
 pub use plan::{

@@ -1,4 +1,4 @@
-ghost use Rattle.std.specs.Prelude.{◌≡◌};
+ghost use Rattle.std.specs.Prelude.{◌≡◌, IfOk};
 ghost use Rattle.object_fields.specs.Fields.{Reads};
 ghost use Rattle.cluster.specs.declared.object.Object.TheVariants as object;
 ghost use Rattle.cluster.specs.Ready.{ArePart, IsReady, Keeps, ready_of};
@@ -10,7 +10,7 @@ use api_slice::ResourceSlice;
 use dra_values::Shared;
 use object_fields::{FieldError, or_memory};
 use ready_objects::{ReadyClaim, ReadyClass};
-use std::alloc::Global;
+use std::alloc::{AllocError, Global};
 use std::marker::Model;
 
 /// An object whose selectors are compiled, which contracts see as the object.
@@ -55,6 +55,17 @@ impl Ready {
         ensures valid { IsReady self.now }
     {
         &self.object
+    }
+
+    /// One more owner of the same object and of its compiled selectors. Takes no memory; `AllocError`
+    /// only if the count of owners is full.
+    pub fn share(&self) -> Result<Ready, AllocError>
+        ensures { IfOk result (λ other. other ≡ self.now) }
+    {
+        Ok(Ready {
+            object: self.object.share()?,
+            kept: self.kept.share()?,
+        })
     }
 
     /// The object, and the same as the state keeps it. Takes no memory.

@@ -1,9 +1,10 @@
-ghost use Rattle.std.specs.Prelude.{◌≡◌, IfOk, option_copied, option_map};
-ghost use Rattle.cluster.specs.Denied.{carried_version, conflict_of, has_user, is_busy, is_claim_changed, is_pod_changed, phase_refusal};
+ghost use Rattle.std.specs.Prelude.{◌≡◌, IfOk, Some, is_some, option_copied, option_map};
+ghost use Rattle.pool_view.specs.Names.{at_key};
+ghost use Rattle.cluster.specs.Denied.{carried_version, conflict_of, has_user, is_busy, is_claim_changed, is_pod_changed, phase_refusal, status_refusal, unbound_refusal};
 
 use crate::same::{same_pod_claims, same_spec};
 use crate::{ClaimState, Command, Mode, Object, Phase, PodState, Refusal, State, Target};
-use api_claim::ResourceClaim;
+use api_claim::{ClaimStatus, ResourceClaim};
 use api_cluster::Pod;
 use object_fields::Key;
 use pool_view::Stored;
@@ -13,7 +14,7 @@ impl State {
     ghost use Rattle.std.specs.Prelude.{◌≡◌, IfOk};
     ghost use Rattle.cluster.specs.State.{has_room, is_there};
     ghost use Rattle.cluster.specs.Denied.{conflict, first_refusal, is_changed, is_found, is_in_use, is_user, no_room, or_else, version_at, when};
-    ghost use Rattle.cluster.specs.declared.entry.Command.TheVariants.{Apply, Delete, Schedule};
+    ghost use Rattle.cluster.specs.declared.entry.Command.TheVariants.{Adopt, Apply, Delete, Release, Schedule};
     ghost use Rattle.cluster.specs.declared.entry.Mode.TheVariants.{Create, Update};
     ghost use Rattle.cluster.specs.declared.entry.Refusal.TheVariants as refusal;
 
@@ -28,6 +29,10 @@ impl State {
     /// | to apply an object | as an update where one of its kind and name is there, else as a creation |
     /// | to delete an object | NotFound, InUse |
     /// | to schedule a pod | NotFound, Busy, Bound |
+    /// | to release a pod | NotFound, Busy, NotBound |
+    /// | to write a claim's status | NotFound, Conflict, Exists |
+    ///
+    /// Whether the grant of a status write is an allocation isn't looked at here.
     pub fn first_refusal(
         &self,
         alloc: Global,
@@ -40,6 +45,8 @@ impl State {
             Command::Apply { object, mode } => Ok(self.apply_refusal(object, *mode)),
             Command::Delete(target) => Ok(self.delete_refusal(target)),
             Command::Schedule(pod) => self.schedule_refusal(alloc, pod),
+            Command::Release(pod) => Ok(self.release_refusal(pod)),
+            Command::Adopt { claim, status } => Ok(self.status_refusal(claim, status)),
         }
     }
 
@@ -81,6 +88,26 @@ impl State {
         match self.pods.get(pod) {
             None => Ok(Some(Refusal::NotFound)),
             Some(state) => phase_refusal(alloc, &state.phase),
+        }
+    }
+
+    /// The first refusal that holds of a pod to be released. Takes no memory.
+    pub fn release_refusal(&self, pod: &Key) -> Option<Refusal>
+        ensures { result ≡ first_refusal self.now (Release pod.now) }
+    {
+        match self.pods.get(pod) {
+            None => Some(Refusal::NotFound),
+            Some(state) => unbound_refusal(&state.phase),
+        }
+    }
+
+    /// The first refusal that holds of a status write, before its grant is looked at. Takes no memory.
+    pub fn status_refusal(&self, claim: &Key, status: &ClaimStatus) -> Option<Refusal>
+        ensures { result ≡ first_refusal self.now (Adopt claim.now status.now) }
+    {
+        match self.claims.get(claim) {
+            None => Some(Refusal::NotFound),
+            Some(state) => grant_refusal(status, state),
         }
     }
 
@@ -213,12 +240,19 @@ impl State {
         ensures { result ≡ is_user self.now pod.now }
     {
         for (_, claim) in self.claims.as_map() {
-            if claim.users.contains_key(pod) {
+            if is_used_by(claim, pod) {
                 return true;
             }
         }
         false
     }
+}
+
+/// Whether the pod is a user of the claim.
+fn is_used_by(claim: &ClaimState, pod: &Key) -> bool
+    ensures { result ≡ is_some (at_key claim.now.users pod.now) }
+{
+    claim.users.contains_key(pod)
 }
 
 fn version<T>(stored: Option<&Stored<T>>) -> Option<u64>
@@ -314,6 +348,34 @@ fn phase_refusal(alloc: Global, phase: &Phase) -> Result<Option<Refusal>, AllocE
         Phase::Idle => Ok(None),
         Phase::Taken { job, .. } => Ok(Some(Refusal::Busy(*job))),
         Phase::Bound(node) => Ok(Some(Refusal::Bound(node.copy(alloc)?))),
+    }
+}
+
+/// The refusal of a pod that isn't bound.
+fn unbound_refusal(phase: &Phase) -> Option<Refusal>
+    ensures { result ≡ unbound_refusal phase.now }
+{
+    match phase {
+        Phase::Idle => Some(Refusal::NotBound),
+        Phase::Taken { job, .. } => Some(Refusal::Busy(*job)),
+        Phase::Bound(_) => None,
+    }
+}
+
+/// The refusal of a status write to a claim that has another version than the status carries, or a
+/// grant.
+fn grant_refusal(status: &ClaimStatus, state: &ClaimState) -> Option<Refusal>
+    ensures { result ≡ status_refusal status.now (Some state.now) }
+{
+    match conflict_of(status.version, Some(state.claim.version)) {
+        Some(refusal) => Some(refusal),
+        None => {
+            if state.grant.is_some() {
+                Some(Refusal::Exists)
+            } else {
+                None
+            }
+        }
     }
 }
 

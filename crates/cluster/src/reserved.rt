@@ -4,7 +4,7 @@ ghost use Rattle.cluster.specs.Tables.{changed_at};
 ghost use Rattle.cluster.specs.Prepared.{given, given_by, joined_use, granted_use, placed, uses_of, users_with};
 
 use crate::{ClaimState, Grant, Granted, Plan, Use};
-use dra_values::{Table, Text};
+use dra_values::{Shared, Table, Text};
 use object_fields::Key;
 use std::alloc::{AllocError, Global};
 
@@ -13,9 +13,9 @@ use std::alloc::{AllocError, Global};
 pub struct Prepared {
     claim: Key,
     /// The grant, if the plan makes one.
-    grant: Option<Granted>,
+    grant: Option<Shared<Granted>>,
     /// All users of the claim, the pod among them.
-    users: Table<Key, Use>,
+    users: Shared<Table<Key, Use>>,
 }
 
 /// What the claims of a plan get for the pod. `AllocError` comes only if memory runs out.
@@ -73,7 +73,7 @@ fn prepare_grant(
     ensures { IfOk result (λ made. made ≡ granted_use node.now pod.now claims.now grant.now) }
 {
     let mut prepared = prepare_join(alloc, claims, pod, &grant.claim)?;
-    prepared.grant = Some(granted(alloc, node, grant)?);
+    prepared.grant = Some(Shared::new(alloc, granted(alloc, node, grant)?)?);
     Ok(prepared)
 }
 
@@ -99,6 +99,7 @@ fn prepare_join(
     ensures { IfOk result (λ made. made ≡ joined_use pod.now claims.now claim.now) }
 {
     let users = users_with(alloc, claims, pod, claim)?;
+    let users = Shared::new(alloc, users)?;
     Ok(Prepared {
         claim: claim.copy(alloc)?,
         grant: None,
@@ -148,7 +149,7 @@ fn put(claims: &mut Table<Key, ClaimState>, prepared: Prepared)
     }
 }
 
-fn give(state: &mut ClaimState, grant: Option<Granted>, users: Table<Key, Use>)
+fn give(state: &mut ClaimState, grant: Option<Shared<Granted>>, users: Shared<Table<Key, Use>>)
     ensures { state.new ≡ given_by grant users state.old }
 {
     state.users = users;

@@ -1,10 +1,13 @@
-ghost use Rattle.std.specs.Prelude.{◌≡◌, OnOk, OnErr};
+ghost use Rattle.std.specs.Prelude.{◌≡◌, IfOk, OnOk, OnErr, Some, map, option_map};
+ghost use Rattle.cluster.specs.Adopted.{result_of, status_grant};
 ghost use Rattle.cluster.specs.Applied.{new_claim, new_pod, updated_claim, updated_pod};
 ghost use Rattle.cluster.specs.Tables.{changed_at, changed_or_new, with_phase};
-ghost use Rattle.cluster.specs.Wrote.{written_by};
+ghost use Rattle.cluster.specs.Wrote.{as_published, written_by};
 
+use crate::freed::{leave, prepare_free};
 use crate::reserved::{place, prepare};
 use crate::{DeviceResult, Kept, Plan, Target};
+use api_claim::{ClaimStatus, StatusResult};
 use api_cluster::Pod;
 use dra_values::{Duplicate, Seq, Shared, Table, Text};
 use object_fields::Key;
@@ -20,8 +23,18 @@ pub const MOST_USERS: usize = 256;
 pub struct Granted {
     pub node: Text,
     pub results: Seq<DeviceResult>,
-    /// Whether a pod's use was written, which shows the grant to others.
+    /// Whether a pod's use was written, or a status write made the grant, which shows it to others.
     pub published: bool,
+}
+
+impl Duplicate for Granted {
+    fn duplicate(&self, alloc: Global) -> Result<Granted, AllocError> {
+        Ok(Granted {
+            node: self.node.copy(alloc)?,
+            results: self.results.copy(alloc)?,
+            published: self.published,
+        })
+    }
 }
 
 /// How a pod uses a claim.
@@ -45,8 +58,19 @@ impl Duplicate for Use {
 #[derive(Drop)]
 pub struct ClaimState {
     pub claim: Stored<Shared<ReadyClaim>>,
-    pub grant: Option<Granted>,
-    pub users: Table<Key, Use>,
+    pub grant: Option<Shared<Granted>>,
+    pub users: Shared<Table<Key, Use>>,
+}
+
+/// A duplicate shares the object, the grant and the users.
+impl Duplicate for ClaimState {
+    fn duplicate(&self, alloc: Global) -> Result<ClaimState, AllocError> {
+        Ok(ClaimState {
+            claim: self.claim.duplicate(alloc)?,
+            grant: self.grant.duplicate(alloc)?,
+            users: self.users.share()?,
+        })
+    }
 }
 
 /// How far a pod has come.
@@ -59,10 +83,33 @@ pub enum Phase {
     Bound(Text),
 }
 
+impl Duplicate for Phase {
+    fn duplicate(&self, alloc: Global) -> Result<Phase, AllocError> {
+        match self {
+            Phase::Idle => Ok(Phase::Idle),
+            Phase::Taken { job, node } => Ok(Phase::Taken {
+                job: *job,
+                node: node.copy(alloc)?,
+            }),
+            Phase::Bound(node) => Ok(Phase::Bound(node.copy(alloc)?)),
+        }
+    }
+}
+
 #[derive(Drop)]
 pub struct PodState {
     pub pod: Stored<Shared<Pod>>,
     pub phase: Phase,
+}
+
+/// A duplicate shares the pod.
+impl Duplicate for PodState {
+    fn duplicate(&self, alloc: Global) -> Result<PodState, AllocError> {
+        Ok(PodState {
+            pod: self.pod.duplicate(alloc)?,
+            phase: self.phase.duplicate(alloc)?,
+        })
+    }
 }
 
 /// All objects, grants and pods.
@@ -71,8 +118,8 @@ pub struct State {
     /// The nodes and the slices.
     pub inventory: Shared<Inventory>,
     pub classes: Shared<Table<Text, Stored<Shared<ReadyClass>>>>,
-    pub claims: Table<Key, ClaimState>,
-    pub pods: Table<Key, PodState>,
+    pub claims: Shared<Table<Key, ClaimState>>,
+    pub pods: Shared<Table<Key, PodState>>,
 }
 
 impl State {
@@ -88,11 +135,13 @@ impl State {
     {
         let inventory = Shared::new(alloc, Inventory::new(alloc))?;
         let classes = Shared::new(alloc, Table::new(alloc))?;
+        let claims = Shared::new(alloc, Table::new(alloc))?;
+        let pods = Shared::new(alloc, Table::new(alloc))?;
         Ok(State {
             inventory,
             classes,
-            claims: Table::new(alloc),
-            pods: Table::new(alloc),
+            claims,
+            pods,
         })
     }
 
@@ -114,11 +163,11 @@ impl State {
             }
             Kept::Claim(claim) => {
                 let key = claim.claim().key.copy(alloc)?;
-                put_claim(alloc, &mut self.claims, place, key, claim)
+                put_claim(alloc, self.claims.change(alloc)?, place, key, claim)
             }
             Kept::Pod(pod) => {
                 let key = pod.key.copy(alloc)?;
-                put_pod(&mut self.pods, place, key, pod)
+                put_pod(self.pods.change(alloc)?, place, key, pod)
             }
         }
     }
@@ -136,10 +185,10 @@ impl State {
                 self.classes.change(alloc)?.remove(name);
             }
             Target::Claim(key) => {
-                self.claims.remove(key);
+                self.claims.change(alloc)?.remove(key);
             }
             Target::Pod(key) => {
-                self.pods.remove(key);
+                self.pods.change(alloc)?.remove(key);
             }
         }
         Ok(())
@@ -147,10 +196,12 @@ impl State {
 }
 
 impl State {
-    ghost use Rattle.std.specs.Prelude.{◌≡◌, OnOk, OnErr};
+    ghost use Rattle.std.specs.Prelude.{◌≡◌, IfOk, OnOk, OnErr};
     ghost use Rattle.cluster.specs.Reserved.{with_reserved};
     ghost use Rattle.cluster.specs.Wrote.{with_written};
     ghost use Rattle.cluster.specs.Bound.{with_bound};
+    ghost use Rattle.cluster.specs.Freed.{without_uses};
+    ghost use Rattle.cluster.specs.Adopted.{with_adopted};
 
     /// Makes the plan's grants, makes the pod an assumed user of each claim that is granted or joined,
     /// and takes the pod for a job. All memory is taken before the first change: `AllocError` comes only
@@ -167,36 +218,135 @@ impl State {
     {
         let node = plan.node.copy(alloc)?;
         let uses = prepare(alloc, &self.claims, pod, plan)?;
-        place(&mut self.claims, uses);
-        set_phase(&mut self.pods, pod, Phase::Taken { job, node });
+        let claims = self.claims.change(alloc)?;
+        let pods = self.pods.change(alloc)?;
+        place(claims, uses);
+        set_phase(pods, pod, Phase::Taken { job, node });
         Ok(())
     }
 
-    /// Writes the pod's use of the claim, which publishes its grant.
-    pub fn write(&mut self, place: u64, pod: &Key, claim: &Key)
-        ensures { self.new ≡ with_written place pod.now claim.now self.old }
+    /// Writes the pod's use of the claim, which publishes its grant. `AllocError` comes only if memory
+    /// runs out, which the change of a shared table may need, and then nothing changed.
+    pub fn write(
+        &mut self,
+        alloc: Global,
+        place: u64,
+        pod: &Key,
+        claim: &Key,
+    ) -> Result<(), AllocError>
+        ensures ok { OnOk result (self.new ≡ with_written place pod.now claim.now self.old) }
+        ensures err { OnErr result (self.new ≡ self.old) }
     {
-        if let Some(state) = self.claims.get_mut(claim) {
-            write_use(state, place, pod);
-        }
+        write_claim(alloc, self.claims.change(alloc)?, place, pod, claim)?;
+        Ok(())
     }
 
-    /// Binds the pod to a node.
-    pub fn bind(&mut self, pod: &Key, node: Text)
-        ensures { self.new ≡ with_bound pod.now node self.old }
+    /// Takes away the pod's uses of its claims, by the entry at this place, and leaves the pod Idle. A
+    /// claim whose written use goes gets the place as its version, and one without users loses its grant.
+    /// `AllocError` comes only if memory runs out, and then nothing changed.
+    pub fn free(&mut self, alloc: Global, place: u64, pod: &Key) -> Result<(), AllocError>
+        ensures ok { OnOk result (self.new ≡ without_uses place pod.now self.old) }
+        ensures err { OnErr result (self.new ≡ self.old) }
     {
-        set_phase(&mut self.pods, pod, Phase::Bound(node));
+        let left = prepare_free(alloc, &self.claims, place, pod, self.pods.get(pod))?;
+        let claims = self.claims.change(alloc)?;
+        let pods = self.pods.change(alloc)?;
+        leave(claims, left);
+        set_phase(pods, pod, Phase::Idle);
+        Ok(())
+    }
+
+    /// Grants a claim what a status write says, published and without users, by the entry at this place.
+    /// `AllocError` comes only if memory runs out, and then nothing changed.
+    pub fn adopt(
+        &mut self,
+        alloc: Global,
+        place: u64,
+        claim: &Key,
+        status: &ClaimStatus,
+    ) -> Result<(), AllocError>
+        ensures ok { OnOk result (self.new ≡ with_adopted place claim.now status.now self.old) }
+        ensures err { OnErr result (self.new ≡ self.old) }
+    {
+        let grant = Shared::new(alloc, status_grant(alloc, status)?)?;
+        set_grant(self.claims.change(alloc)?, place, claim, grant);
+        Ok(())
+    }
+
+    /// Binds the pod to a node. `AllocError` comes only if memory runs out, and then nothing changed.
+    pub fn bind(&mut self, alloc: Global, pod: &Key, node: Text) -> Result<(), AllocError>
+        ensures ok { OnOk result (self.new ≡ with_bound pod.now node self.old) }
+        ensures err { OnErr result (self.new ≡ self.old) }
+    {
+        set_phase(self.pods.change(alloc)?, pod, Phase::Bound(node));
+        Ok(())
+    }
+
+    /// Sorts the inventory's slices for the searches that follow, unless they are sorted. The state stays the
+    /// same. `AllocError` only if memory runs out.
+    pub fn sort(&mut self, alloc: Global) -> Result<(), AllocError>
+        ensures { self.new ≡ self.old }
+    {
+        if !self.inventory.is_sorted() {
+            self.inventory.change(alloc)?.sort(alloc)?;
+        }
+        Ok(())
+    }
+
+    /// An equal state, which shares its tables with this one. Takes no memory; `AllocError` only if a
+    /// count of owners is full.
+    pub fn share(&self) -> Result<State, AllocError>
+        ensures { IfOk result (λ other. other ≡ self.now) }
+    {
+        Ok(State {
+            inventory: self.inventory.share()?,
+            classes: self.classes.share()?,
+            claims: self.claims.share()?,
+            pods: self.pods.share()?,
+        })
     }
 }
 
-fn write_use(state: &mut ClaimState, place: u64, pod: &Key)
-    ensures { state.new ≡ written_by place pod.now state.old }
+/// Writes the pod's use of a claim, where it is there.
+#[tactic(auto, using(std::proofs::lemmas::Map::Steps::set_value_same))]
+fn write_claim(
+    alloc: Global,
+    claims: &mut Table<Key, ClaimState>,
+    place: u64,
+    pod: &Key,
+    claim: &Key,
+) -> Result<(), AllocError>
+    ensures ok { OnOk result (claims.new ≡ changed_at claim.now (written_by place pod.now) claims.old) }
+    ensures err { OnErr result (claims.new ≡ claims.old) }
 {
-    state.claim.version = place;
-    if let Some(grant) = &mut state.grant {
-        grant.published = true;
+    if let Some(state) = claims.get_mut(claim) {
+        write_use(alloc, state, place, pod)?;
     }
-    set_use(&mut state.users, pod, Use::Written);
+    Ok(())
+}
+
+/// Writes the pod's use of a claim, and publishes its grant. All memory is taken before the first
+/// change.
+fn write_use(alloc: Global, state: &mut ClaimState, place: u64, pod: &Key) -> Result<(), AllocError>
+    ensures ok { OnOk result (state.new ≡ written_by place pod.now state.old) }
+    ensures err { OnErr result (state.new ≡ state.old) }
+{
+    let users = state.users.change(alloc)?;
+    publish(alloc, &mut state.grant)?;
+    set_use(users, pod, Use::Written);
+    state.claim.version = place;
+    Ok(())
+}
+
+/// Publishes a grant, where there is one.
+fn publish(alloc: Global, grant: &mut Option<Shared<Granted>>) -> Result<(), AllocError>
+    ensures ok { OnOk result (grant.new ≡ option_map as_published grant.old) }
+    ensures err { OnErr result (grant.new ≡ grant.old) }
+{
+    if let Some(granted) = grant {
+        granted.change(alloc)?.published = true;
+    }
+    Ok(())
 }
 
 /// Changes how a pod uses a claim, where it does.
@@ -205,6 +355,49 @@ fn set_use(users: &mut Table<Key, Use>, pod: &Key, how: Use)
 {
     if let Some(user) = users.get_mut(pod) {
         *user = how;
+    }
+}
+
+/// What a status write grants.
+fn status_grant(alloc: Global, status: &ClaimStatus) -> Result<Granted, AllocError>
+    ensures { IfOk result (λ g. g ≡ status_grant status.now) }
+{
+    let node = status.node.copy(alloc)?;
+    let results = status_results(alloc, status)?;
+    Ok(Granted {
+        node,
+        results,
+        published: true,
+    })
+}
+
+fn status_results(alloc: Global, status: &ClaimStatus) -> Result<Seq<DeviceResult>, AllocError>
+    ensures { IfOk result (λ rs. rs ≡ map result_of status.now.results) }
+{
+    let mut results = Seq::empty(alloc);
+    for picked in status.results.as_slice() {
+        results.push(device_result(alloc, picked)?)?;
+    }
+    Ok(results)
+}
+
+fn device_result(alloc: Global, picked: &StatusResult) -> Result<DeviceResult, AllocError>
+    ensures { IfOk result (λ r. r ≡ result_of picked.now) }
+{
+    Ok(DeviceResult {
+        name: picked.request.copy(alloc)?,
+        device: picked.device.copy(alloc)?,
+        admin: picked.admin,
+    })
+}
+
+/// Grants a claim what a status write says, where it is there.
+fn set_grant(claims: &mut Table<Key, ClaimState>, place: u64, claim: &Key, grant: Shared<Granted>)
+    ensures { claims.new ≡ changed_at claim.now (λ c. record c { claim = record c.claim { version = place }; grant = Some grant }) claims.old }
+{
+    if let Some(state) = claims.get_mut(claim) {
+        state.claim.version = place;
+        state.grant = Some(grant);
     }
 }
 
@@ -232,10 +425,11 @@ fn put_claim(
         update_claim(claims, place, &key, claim);
         Ok(())
     } else {
+        let users = Shared::new(alloc, Table::new(alloc))?;
         let claim = ClaimState {
             claim: Stored::created(place, claim),
             grant: None,
-            users: Table::new(alloc),
+            users,
         };
         claims.insert(key, claim)
     }

@@ -19,7 +19,7 @@ use Rattle.commands.specs.declared.document.ObjectKind.TheVariants as kind
 use Rattle.commands.specs.declared.document.Document.{Document}
 use Rattle.commands.specs.declared.document.Document.TheVariants as is
 use Rattle.commands.specs.declared.command.Command.{Command}
-use Rattle.commands.specs.declared.command.Command.TheVariants.{Apply, Invalid, Delete, Schedule, NotBuilt}
+use Rattle.commands.specs.declared.command.Command.TheVariants.{Apply, Invalid, Delete, Schedule, Release, NotBuilt}
 
 -- ---- namespace and name
 
@@ -139,6 +139,9 @@ delete_of d = option_map Delete (target_of d)
 abbrev pub schedule_of : Data → Option Command
 schedule_of d = option_map Schedule (key_of d)
 
+abbrev pub release_of : Data → Option Command
+release_of d = option_map Release (key_of d)
+
 -- a command that isn't built, where its fields read
 abbrev pub not_built : Bool → Option Command
 not_built b = if b then Some NotBuilt else None
@@ -152,7 +155,7 @@ commands_in d (is.Object kind) = alone (Some (apply_of kind d))
 commands_in d is.List = listed d
 commands_in d is.Delete = alone (delete_of d)
 commands_in d is.Schedule = alone (schedule_of d)
-commands_in d is.Release = alone (not_built (is_some (key_of d)))
+commands_in d is.Release = alone (release_of d)
 commands_in d is.Prepare = alone (not_built (is_some (key_of d)))
 commands_in d is.Unprepare = alone (not_built (is_some (key_of d)))
 commands_in d is.Reopen = alone (Some NotBuilt)

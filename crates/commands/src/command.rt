@@ -24,6 +24,8 @@ pub enum Command {
     Delete(Target),
     /// Schedules the pod of that key.
     Schedule(Key),
+    /// Takes the uses of the bound pod of that key away.
+    Release(Key),
     /// A command of a form that this program doesn't do yet.
     NotBuilt,
 }
@@ -90,9 +92,8 @@ fn commands_by(
         Document::List => list(alloc, value),
         Document::Schedule => alone(alloc, schedule(alloc, value)?),
         Document::Delete => alone(alloc, delete(alloc, value)?),
-        Document::Release | Document::Prepare | Document::Unprepare => {
-            alone(alloc, not_built(has_key(value)))
-        }
+        Document::Release => alone(alloc, release(alloc, value)?),
+        Document::Prepare | Document::Unprepare => alone(alloc, not_built(has_key(value))),
         Document::Reopen => alone(alloc, Some(Command::NotBuilt)),
         Document::Together => alone(alloc, not_built(is_together(value))),
     }
@@ -172,6 +173,15 @@ fn schedule(alloc: Global, value: &Value) -> Result<Option<Command>, AllocError>
 {
     match read_key(alloc, value)? {
         Some(key) => Ok(Some(Command::Schedule(key))),
+        None => Ok(None),
+    }
+}
+
+fn release(alloc: Global, value: &Value) -> Result<Option<Command>, AllocError>
+    ensures { IfOk result (λ c. c ≡ spec.release_of (view value.now)) }
+{
+    match read_key(alloc, value)? {
+        Some(key) => Ok(Some(Command::Release(key))),
         None => Ok(None),
     }
 }

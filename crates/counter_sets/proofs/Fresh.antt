@@ -15,7 +15,7 @@ use Rattle.counter_sets.specs.Draws.{CounterId, counter_value, natural, sets_for
 use Rattle.counter_sets.specs.Totals.{Tabled, counter_at, counter_in, drawn_in, keeps, or_empty, or_zero, with_set, with_slice, zero_sets, zeros}
 
 -- whether a name is at another, by their equality
-at_is : (k name : List ℕ) → is_at (text_cmp k) name ≡ text_eq name k
+pub at_is : (k name : List ℕ) → is_at (text_cmp k) name ≡ text_eq name k
 at_is k name = sym (texts_ties k name) ∙ nat_list_eq_equiv.symm k name
 
 abbrev pub found : {V : Type 0} → Bool → V → Option V → Option V

@@ -10,13 +10,13 @@ use Rattle.std.proofs.lemmas.Map.{lookup-set_value}
 use Rattle.pool_view.specs.Names.{at_name, text_cmp, text_eq}
 use Rattle.counter_sets.specs.Totals.{changed_at, or_empty}
 
-same_from_at : (name x : List ℕ) → is_at (text_cmp name) x ≡ true → name ≡ x
+pub same_from_at : (name x : List ℕ) → is_at (text_cmp name) x ≡ true → name ≡ x
 same_from_at name x e = same_text name x (sym (texts_ties name x ∙ e))
 
 same_test : (name x y : List ℕ) → is_at (text_cmp name) x ≡ true → is_at (text_cmp name) y ≡ is_at (text_cmp x) y
 same_test name x y e = ap (λ (n : List ℕ). is_at (text_cmp n) y) (same_from_at name x e)
 
-set_at : {V : Type 0} (name k : List ℕ) (table : List (List ℕ × V)) (v w : V) → at_name table name ≡ Some v
+pub set_at : {V : Type 0} (name k : List ℕ) (table : List (List ℕ × V)) (v w : V) → at_name table name ≡ Some v
     → at_name (set_value (is_at (text_cmp name)) table w) k ≡ cond (is_at (text_cmp name) k) (Some w) (at_name table k)
 set_at name k table v w there =
     lookup-set_value (eq_by_cmp_equiv nat_list_cmp_total) (is_at (text_cmp name)) (same_test name) k w table (ap is_some there)

@@ -23,7 +23,7 @@ use Rattle.counter_sets.proofs.Holding.{holder_after}
 same_id_parts : (d e p q n m : List ℕ) → d ≡ e → p ≡ q → n ≡ m → ◌≡◌ {A = DeviceId} (record { driver = d; pool = p; device = n }) (record { driver = e; pool = q; device = m })
 same_id_parts d e p q n m f g h = cc
 
-same_from_device_eq : (a b : DeviceId) → device_eq a b ≡ true → a ≡ b
+pub same_from_device_eq : (a b : DeviceId) → device_eq a b ≡ true → a ≡ b
 same_from_device_eq a b e =
     let outer = and_parts (text_eq a.driver b.driver) (text_eq a.pool b.pool && text_eq a.device b.device) e in
     let inner = and_parts (text_eq a.pool b.pool) (text_eq a.device b.device) outer.1 in

@@ -1,7 +1,7 @@
 -- The claims that hold devices.
 use Rattle.std.specs.Prelude.{◌≡◌, ℕ, List, [], ◌∷◌, Option, is_some, if◌then◌else◌, filter, map}
-use Rattle.std.specs.BTreeMap.{insert_entry}
-use Rattle.std.specs.Map.{lookup}
+use Rattle.std.specs.BTreeMap.{insert_entry, is_at}
+use Rattle.std.specs.Map.{lookup, remove_entry}
 use Rattle.object_fields.specs.declared.key.DeviceId.{DeviceId}
 use Rattle.object_fields.specs.declared.key.Key.{Key}
 use Rattle.api_slice.specs.declared.types.Device.{Device}
@@ -36,6 +36,16 @@ put_pool id key pools = put_in id.pool (λ devices. put_device id.device key dev
 -- with a device that is held
 unfoldable pub put_driver : DeviceId → Key → Holders → Holders
 put_driver id key h = put_in id.driver (λ pools. put_pool id key pools) h
+
+-- without a device
+abbrev pub left_device : List ℕ → Tabled Key → Tabled Key
+left_device name devices = remove_entry (is_at (text_cmp name)) devices
+
+abbrev pub left_pool : DeviceId → Tabled (Tabled Key) → Tabled (Tabled Key)
+left_pool id pools = changed_at id.pool (λ devices. left_device id.device devices) pools
+
+unfoldable pub left_driver : DeviceId → Holders → Holders
+left_driver id h = changed_at id.driver (λ pools. left_pool id pools) h
 
 -- the held ones among the devices of a slice
 unfoldable pub offered_held : Holders → ResourceSlice → List Offered

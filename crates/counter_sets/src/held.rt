@@ -1,4 +1,4 @@
-ghost use Rattle.std.specs.Prelude.{◌≡◌, ◌++◌, ◌∷◌, [], List, Option, None, Some, OnOk, OnErr, if◌then◌else◌, option_copied};
+ghost use Rattle.std.specs.Prelude.{◌≡◌, ◌++◌, ◌∷◌, [], List, Option, None, Some, IfOk, OnOk, OnErr, if◌then◌else◌, option_copied};
 ghost use Rattle.pool_view.specs.Names.{at_name, device_eq};
 ghost use Rattle.object_fields.specs.declared.key.DeviceId.{DeviceId};
 ghost use Rattle.counter_sets.specs.Totals.{or_empty};
@@ -8,7 +8,7 @@ ghost use Rattle.counter_sets.specs.Holding.{AreHeld, holder_in};
 
 use crate::change::{Change, SetTotals, move_slice};
 use api_slice::{Device, ResourceSlice};
-use dra_values::{Table, Text};
+use dra_values::{Duplicate, Table, Text};
 use object_fields::{DeviceId, Key};
 use std::alloc::{AllocError, Global};
 use std::marker::Model;
@@ -68,6 +68,21 @@ impl Held {
         put_driver(&mut self.drivers, device, holder, alloc)
     }
 
+    /// Takes a device away, whichever claim holds it; changes nothing where none does. Takes no memory.
+    pub fn remove(&mut self, device: &DeviceId)
+        ensures { (id : DeviceId) → holder_in self.new id ≡ (if device_eq device.now id then None else holder_in self.old id) }
+    {
+        self.take(device);
+    }
+
+    #[tactic(auto, unfolding(crate::specs::Holding::holder_in))]
+    fn take(&mut self, device: &DeviceId)
+        ensures rest { self.new ≡ spec.left_driver device.now self.old }
+        ensures gone { holder_in self.new device.now ≡ None }
+    {
+        take_driver(&mut self.drivers, device);
+    }
+
     /// The claim that holds a device.
     pub fn holder(&self, device: &DeviceId) -> Option<&Key>
         ensures { option_copied result ≡ holder_in self.now device.now }
@@ -81,6 +96,22 @@ impl Held {
         ensures { option_copied result ≡ holder_in self.now (record { driver = driver.now; pool = pool.now; device = device.now }) }
     {
         find(find_pool(&self.drivers, driver, pool), device)
+    }
+
+    /// The same devices, each held by the same claim. `AllocError` comes only where memory runs out.
+    pub fn copy(&self, alloc: Global) -> Result<Held, AllocError>
+        ensures { IfOk result (λ copy. copy ≡ self.now) }
+    {
+        Ok(Held {
+            drivers: self.drivers.copy(alloc)?,
+        })
+    }
+}
+
+/// A copy is equal. `AllocError` comes only where memory runs out.
+impl Duplicate for Held {
+    fn duplicate(&self, alloc: Global) -> Result<Held, AllocError> {
+        self.copy(alloc)
     }
 }
 
@@ -151,6 +182,34 @@ fn put_driver(
     let mut pools = Table::new(alloc);
     put_pool(&mut pools, device, holder, alloc)?;
     drivers.insert(name, pools)
+}
+
+fn take_device(devices: &mut Devices, name: &Text)
+    ensures rest { devices.new ≡ spec.left_device name.now devices.old }
+    ensures gone { at_name devices.new name.now ≡ None }
+{
+    devices.in_order();
+    devices.remove(name);
+}
+
+#[tactic(auto, using(std::proofs::lemmas::Map::Steps::set_value_same))]
+fn take_pool(pools: &mut Pools, device: &DeviceId)
+    ensures rest { pools.new ≡ spec.left_pool device.now pools.old }
+    ensures gone { at_name (or_empty (at_name pools.new device.now.pool)) device.now.device ≡ None }
+{
+    if let Some(devices) = pools.get_mut(&device.pool) {
+        take_device(devices, &device.device);
+    }
+}
+
+#[tactic(auto, using(std::proofs::lemmas::Map::Steps::set_value_same), unfolding(crate::specs::Holding::left_driver))]
+fn take_driver(drivers: &mut Table<Text, Pools>, device: &DeviceId)
+    ensures rest { drivers.new ≡ spec.left_driver device.now drivers.old }
+    ensures gone { at_name (or_empty (at_name (or_empty (at_name drivers.new device.now.driver)) device.now.pool)) device.now.device ≡ None }
+{
+    if let Some(pools) = drivers.get_mut(&device.driver) {
+        take_pool(pools, device);
+    }
 }
 
 /// Draws what a device draws, where it is held.

@@ -11,10 +11,13 @@ use Rattle.cluster.specs.Held.{HeldOnce}
 use Rattle.cluster.specs.declared.entry.Command.{Command}
 use Rattle.cluster.specs.declared.entry.Refusal.{Refusal}
 use Rattle.cluster.specs.declared.entry.Entry.{Entry}
-use Rattle.cluster.specs.declared.entry.Event.TheVariants.{Reserved, Judged, Denied}
+use Rattle.cluster.specs.declared.entry.Event.TheVariants.{Reserved, Refused, Judged, Adopted, Denied}
 use Rattle.ledger_core.specs.Denied.{MayDeny}
+use Rattle.ledger_core.specs.Refused.{MayRefuse}
+use Rattle.api_claim.specs.declared.types.ClaimStatus.{ClaimStatus}
+use Rattle.cluster.specs.declared.failure.Failure.{Failure}
 use Rattle.cluster.specs.History.{state_at, state_of}
-use Rattle.ledger_core.specs.Headline.{IsGrantOf, IsVerdictOf}
+use Rattle.ledger_core.specs.Headline.{IsAdoptionOf, IsGrantOf, IsVerdictOf}
 use Rattle.ledger_core.specs.Limits.{ObjectsKept}
 use Rattle.ledger_core.specs.Users.{PodsUseClaims, UsersAreBusy}
 use Rattle.replay_core.specs.declared.options.ReplayOptions.{ReplayOptions}
@@ -26,7 +29,8 @@ NamesBudget budget (reason.Missing claim) = Unit {0}
 NamesBudget budget (reason.Users claim) = Unit {0}
 NamesBudget budget (reason.Nodes nodes) = (p : Passed) (steps : ℕ) → Contains nodes p → p.cause ≡ Budget steps → steps ≡ budget
 
--- Each reservation grants an allocation over the state before it, and each verdict is true at its place:
+-- Each reservation grants an allocation over the state before it, and so does each adoption; each refusal
+-- carries the first failure of a plan that was true at its place. Each verdict is true at its place:
 -- where it is `unsatisfiable`, no node has an allocation there, and where a node's cause is `budget`, the
 -- first items of its walk, as many as the budget, are neither an allocation nor a fault, and there are
 -- more. Each denial carries the first refusal of its command that holds in the state before it, and
@@ -38,6 +42,8 @@ pub record IsTrueHistory (budget : ℕ) (h : List Entry) : Type 0 where
   pub verdicts : (front back : List Entry) (job : ℕ) (pod : Key) (verdict : Verdict) → h ≡ front ++ record { job = job; event = Judged pod verdict } ∷ back → IsVerdictOf front pod verdict
   -- the steps of a `budget` are those of the option
   pub budgets : (front back : List Entry) (job : ℕ) (pod : Key) (verdict : Verdict) → h ≡ front ++ record { job = job; event = Judged pod verdict } ∷ back → NamesBudget budget verdict.reason
+  pub refusals : (front back : List Entry) (job : ℕ) (pod : Key) (plan : Plan) (why : Failure) → h ≡ front ++ record { job = job; event = Refused pod plan why } ∷ back → MayRefuse front pod plan why
+  pub adoptions : (front back : List Entry) (job : ℕ) (claim : Key) (status : ClaimStatus) → h ≡ front ++ record { job = job; event = Adopted claim status } ∷ back → IsAdoptionOf front claim status
   pub denials : (front back : List Entry) (job : ℕ) (command : Command) (refusal : Refusal) → h ≡ front ++ record { job = job; event = Denied command refusal } ∷ back → MayDeny (state_of front) command refusal
   pub holders : (place : ℕ) → HeldOnce (state_at h place)
   pub limits : (place : ℕ) → ObjectsKept (state_at h place)

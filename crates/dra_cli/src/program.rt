@@ -10,8 +10,8 @@ ghost use Rattle.dra_cli.specs.Words.{options_of};
 use crate::words::options_of;
 use dra_ports::{Sink, Source};
 use ledger_core::{
-    denials_change_nothing, grants_are_allocations, objects_keep_limits, one_holder,
-    pods_use_claims, users_are_busy, verdicts_are_true,
+    adoptions_are_allocations, denials_change_nothing, grants_are_allocations, legal_steps,
+    objects_keep_limits, one_holder, pods_use_claims, users_are_busy, verdicts_are_true,
 };
 use replay_core::{Status, replay, runs_search_within};
 
@@ -60,6 +60,8 @@ pub fn run<R: AllocGlobal, S: Source, K: Sink>(
 {
     grants_are_allocations();
     verdicts_are_true();
+    legal_steps();
+    adoptions_are_allocations();
     denials_change_nothing();
     one_holder();
     objects_keep_limits();

@@ -1,3 +1,5 @@
 pub mod FaultText
 mod Appended
 mod Printed
+mod Whole
+mod Rows

@@ -1,5 +1,5 @@
 -- The text of a history.
-use Rattle.std.specs.Prelude.{ℕ, ◌+◌, ◌==◌, nat_lt, Bool, true, false, ◌||◌, if◌then◌else◌, List, [], ◌∷◌, ◌++◌, Option, is_some, map, codes, count_by, decimal, length}
+use Rattle.std.specs.Prelude.{ℕ, ◌+◌, ◌==◌, nat_lt, Bool, true, false, ◌||◌, if◌then◌else◌, List, [], ◌∷◌, ◌++◌, Option, None, Some, is_some, map, codes, count_by, decimal, length}
 use Rattle.std.specs.List.{join_by}
 use Rattle.object_fields.specs.declared.key.Key.{Key}
 use Rattle.object_fields.specs.Keys.{key_text, device_text}
@@ -28,12 +28,19 @@ use Rattle.cluster.specs.declared.state.State.{State}
 use Rattle.cluster.specs.declared.state.Phase.{Phase}
 use Rattle.cluster.specs.declared.state.Phase.TheVariants as phase
 use Rattle.cluster.specs.declared.entry.Command.{Command}
-use Rattle.cluster.specs.declared.entry.Command.TheVariants.{Apply, Delete, Invalid, Schedule}
+use Rattle.cluster.specs.declared.entry.Command.TheVariants.{Adopt, Apply, Delete, Invalid, Release, Schedule}
 use Rattle.cluster.specs.declared.entry.Refusal.{Refusal}
 use Rattle.cluster.specs.declared.entry.Refusal.TheVariants as refusal
 use Rattle.cluster.specs.declared.entry.Entry.{Entry}
 use Rattle.cluster.specs.declared.entry.Event.{Event}
-use Rattle.cluster.specs.declared.entry.Event.TheVariants.{Applied, Deleted, Reserved, Wrote, Bound, Judged, Denied}
+use Rattle.cluster.specs.declared.entry.Event.TheVariants.{Applied, Deleted, Reserved, Refused, Wrote, Conflict, Unreserved, Bound, Judged, Contended, Released, Adopted, Denied}
+use Rattle.cluster.specs.declared.failure.Failure.{Failure}
+use Rattle.cluster.specs.declared.failure.Failure.TheVariants as failure
+use Rattle.cluster.specs.declared.failure.Shortfall.{Shortfall}
+use Rattle.cluster.specs.Adopted.{result_of}
+use Rattle.quantity.specs.Printed.{magnitude_text}
+use Rattle.api_claim.specs.declared.types.ClaimStatus.{ClaimStatus}
+use Rattle.api_claim.specs.declared.types.StatusResult.{StatusResult}
 use Rattle.cluster.specs.History.{state_of}
 
 -- an object's kind and name
@@ -97,16 +104,53 @@ admin_mark false = []
 abbrev pub result_text : DeviceResult → List ℕ
 result_text x = x.name ++ codes "@" ++ device_text x.device ++ admin_mark x.admin
 
+-- a result of a status write, likewise
+abbrev pub status_result_text : StatusResult → List ℕ
+status_result_text x = result_text (result_of x)
+
 -- a claim and its results
 abbrev pub grant_text : Grant → List ℕ
 grant_text x = key_text x.claim ++ codes ":" ++ join_by result_text (codes "+") x.results
 
-abbrev pub reserved_text : Key → Plan → List ℕ
-reserved_text pod plan =
-    codes "reserved " ++ key_text pod ++ codes " " ++ plan.node ++ codes " at=" ++ decimal plan.at
+-- a pod and a plan for it
+abbrev pub plan_text : Key → Plan → List ℕ
+plan_text pod plan =
+    key_text pod ++ codes " " ++ plan.node ++ codes " at=" ++ decimal plan.at
     ++ codes " passed=" ++ listed passed_text plan.passed
     ++ codes " grants=" ++ listed grant_text plan.grants
     ++ codes " joins=" ++ listed key_text plan.joins
+
+-- what a counter has; nothing, where the device's slice has no such counter
+abbrev pub value_text : Option ℕ → List ℕ
+value_text None = codes "0"
+value_text (Some n) = magnitude_text n
+
+-- the counter set and the counter, what would be drawn, and what there is, which print like quantities
+abbrev pub shortfall_text : Shortfall → List ℕ
+shortfall_text x = codes "Counter:" ++ x.set ++ codes "/" ++ x.counter ++ codes ":" ++ magnitude_text x.drawn ++ codes ":" ++ value_text x.value
+
+-- why a plan or a status write doesn't hold: its word, and what it names
+abbrev pub failure_text : Failure → List ℕ
+failure_text (failure.ClaimGone claim) = codes "ClaimGone:" ++ key_text claim
+failure_text (failure.ClaimChanged key) = codes "ClaimChanged:" ++ key_text key
+failure_text (failure.Users claim) = codes "Users:" ++ key_text claim
+failure_text (failure.NodeGone node) = codes "NodeGone:" ++ node
+failure_text (failure.DeviceGone device) = codes "DeviceGone:" ++ device_text device
+failure_text (failure.Shape claim) = codes "Shape:" ++ key_text claim
+failure_text (failure.SelectorNo device) = codes "SelectorNo:" ++ device_text device
+failure_text (failure.SelectorFault device) = codes "SelectorFault:" ++ device_text device
+failure_text (failure.Held device claim) = codes "Held:" ++ device_text device ++ codes ":" ++ key_text claim
+failure_text (failure.Counter x) = shortfall_text x
+failure_text (failure.Constraint claim index) = codes "Constraint:" ++ key_text claim ++ codes ":" ++ decimal index
+
+-- a claim, a node, and results
+abbrev pub adopted_line : Key → List ℕ → List ℕ → List ℕ
+adopted_line claim node results =
+    codes "adopted " ++ key_text claim ++ codes " " ++ node ++ codes " grants=" ++ key_text claim ++ codes ":" ++ results
+
+-- the node and the results of a status write
+abbrev pub adopted_text : Key → ClaimStatus → List ℕ
+adopted_text claim status = adopted_line claim status.node (join_by status_result_text (codes "+") status.results)
 
 -- `fault` where one node has a fault, else `budget` where the search of one ended with its budget
 abbrev pub nodes_word : List Passed → List ℕ
@@ -128,6 +172,19 @@ verdict_text pod verdict =
     codes "verdict " ++ key_text pod ++ codes " " ++ verdict_word verdict.reason ++ codes " at=" ++ decimal verdict.at
     ++ codes " " ++ reason_text verdict.reason
 
+abbrev pub is_unbound : Refusal → Bool
+is_unbound refusal.Invalid = false
+is_unbound refusal.NotFound = false
+is_unbound refusal.Exists = false
+is_unbound (refusal.Conflict had now) = false
+is_unbound refusal.Immutable = false
+is_unbound refusal.InUse = false
+is_unbound refusal.Devices = false
+is_unbound (refusal.Busy job) = false
+is_unbound (refusal.Bound node) = false
+is_unbound refusal.NotBound = true
+is_unbound (refusal.Failure why) = false
+
 -- a refusal of a command on the object of this kind and name: its word and the object, of a conflict both versions,
 -- of too many devices how many all slices may have, and of a pod that isn't Idle the job that has taken it or its node
 abbrev pub refusal_text : List ℕ → Refusal → List ℕ
@@ -140,6 +197,12 @@ refusal_text name refusal.InUse = codes "denied InUse " ++ name
 refusal_text name refusal.Devices = codes "denied Devices " ++ decimal devices_most
 refusal_text name (refusal.Busy job) = codes "denied Busy " ++ decimal job
 refusal_text name (refusal.Bound node) = codes "denied Bound " ++ node
+refusal_text name refusal.NotBound = codes "denied NotBound " ++ name
+refusal_text name (refusal.Failure why) = codes "denied Failure " ++ failure_text why
+
+-- a refusal of a release, which names a pod that isn't bound without its kind
+abbrev pub release_text : Key → Refusal → List ℕ
+release_text pod refused = if is_unbound refused then refusal_text (key_text pod) refused else refusal_text (target_text (target.Pod pod)) refused
 
 -- a refusal; of a document with an error the word of the error and its path
 abbrev pub denial_text : Command → Refusal → List ℕ
@@ -147,15 +210,23 @@ denial_text (Invalid error) refused = codes "denied Invalid " ++ kind_word error
 denial_text (Apply object mode) refused = refusal_text (object_text object) refused
 denial_text (Delete target) refused = refusal_text (target_text target) refused
 denial_text (Schedule pod) refused = refusal_text (target_text (target.Pod pod)) refused
+denial_text (Release pod) refused = release_text pod refused
+denial_text (Adopt claim status) refused = refusal_text (target_text (target.Claim claim)) refused
 
 -- what a line says after its place and job
 abbrev pub event_text : Event → List ℕ
 event_text (Applied object mode) = codes "applied " ++ object_text object
 event_text (Deleted target) = codes "deleted " ++ target_text target
-event_text (Reserved pod plan) = reserved_text pod plan
+event_text (Reserved pod plan) = codes "reserved " ++ plan_text pod plan
+event_text (Refused pod plan why) = codes "refused " ++ plan_text pod plan ++ codes " why=" ++ failure_text why
 event_text (Wrote pod claim seen) = codes "wrote " ++ key_text pod ++ codes " " ++ key_text claim ++ codes " seen=" ++ decimal seen
+event_text (Conflict pod claim had now) = codes "conflict " ++ key_text pod ++ codes " " ++ key_text claim ++ codes " had=" ++ decimal had ++ codes " now=" ++ decimal now
+event_text (Unreserved pod) = codes "unreserved " ++ key_text pod
 event_text (Bound pod node) = codes "bound " ++ key_text pod ++ codes " " ++ node
 event_text (Judged pod verdict) = verdict_text pod verdict
+event_text (Contended pod attempts) = codes "contended " ++ key_text pod ++ codes " attempts=" ++ decimal attempts
+event_text (Released pod) = codes "released " ++ key_text pod
+event_text (Adopted claim status) = adopted_text claim status
 event_text (Denied command refused) = denial_text command refused
 
 -- `?` for a byte below 0x20 and for 0x7f

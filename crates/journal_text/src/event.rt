@@ -1,9 +1,15 @@
 ghost use Rattle.std.specs.Prelude.{◌≡◌, IfOk, string_bytes};
-ghost use Rattle.journal_text.specs.Journal.{denial_text, event_text, nodes_word, object_text, reason_text, refusal_text, reserved_text, target_text, verdict_text, verdict_word};
+ghost use Rattle.journal_text.specs.Journal.{adopted_line, adopted_text, denial_text, event_text, is_unbound, nodes_word, object_text, plan_text, reason_text, refusal_text, release_text, target_text, verdict_text, verdict_word};
+ghost use Rattle.cluster.specs.declared.entry.Event.TheVariants.{Refused};
 ghost use Rattle.cluster.specs.Judged.{has_budget, has_fault, is_budget, is_fault};
 
-use crate::worded::listed;
-use cluster::{Cause, Command, Event, Object, Passed, Plan, Reason, Refusal, Target, Verdict};
+use crate::failure::failure_text;
+use crate::worded::{listed, status_results};
+use api_claim::ClaimStatus;
+use cluster::{
+    Cause, Command, Event, Failure, Object, Passed, Plan, Reason, Refusal, Target, Verdict,
+};
+use dra_values::Text;
 use object_fields::Key;
 use pool_view::MOST_DEVICES;
 use std::alloc::{AllocError, Global};
@@ -34,16 +40,45 @@ fn target_text(alloc: Global, target: &Target) -> Result<String, AllocError>
     }
 }
 
-fn reserved_text(alloc: Global, pod: &Key, plan: &Plan) -> Result<String, AllocError>
-    ensures { IfOk result (λ s. string_bytes s ≡ reserved_text pod.now plan.now) }
+/// A pod and a plan for it.
+fn plan_text(alloc: Global, pod: &Key, plan: &Plan) -> Result<String, AllocError>
+    ensures { IfOk result (λ s. string_bytes s ≡ plan_text pod.now plan.now) }
 {
     let passed = listed(alloc, plan.passed.as_slice())?;
     let grants = listed(alloc, plan.grants.as_slice())?;
     let joins = listed(alloc, plan.joins.as_slice())?;
     format!(in alloc;
-        "reserved {pod} {} at={} passed={passed} grants={grants} joins={joins}",
+        "{pod} {} at={} passed={passed} grants={grants} joins={joins}",
         plan.node, plan.at
     )
+}
+
+fn refused_text(alloc: Global, pod: &Key, plan: &Plan, why: &Failure) -> Result<String, AllocError>
+    ensures { IfOk result (λ s. string_bytes s ≡ event_text (Refused pod.now plan.now why.now)) }
+{
+    let plan = plan_text(alloc, pod, plan)?;
+    let why = failure_text(alloc, why)?;
+    format!(in alloc; "refused {plan} why={why}")
+}
+
+/// A claim, and the node and the results of a status write.
+fn adopted_text(alloc: Global, claim: &Key, status: &ClaimStatus) -> Result<String, AllocError>
+    ensures { IfOk result (λ s. string_bytes s ≡ adopted_text claim.now status.now) }
+{
+    let results = status_results(alloc, status)?;
+    adopted_line(alloc, claim, &status.node, &results)
+}
+
+/// A claim, a node, and results.
+fn adopted_line(
+    alloc: Global,
+    claim: &Key,
+    node: &Text,
+    results: &String,
+) -> Result<String, AllocError>
+    ensures { IfOk result (λ s. string_bytes s ≡ adopted_line claim.now node.now (string_bytes results.now)) }
+{
+    format!(in alloc; "adopted {claim} {node} grants={claim}:{results}")
 }
 
 fn verdict_text(alloc: Global, pod: &Key, verdict: &Verdict) -> Result<String, AllocError>
@@ -138,7 +173,30 @@ fn refusal_text(alloc: Global, name: &String, refusal: &Refusal) -> Result<Strin
         Refusal::Devices => format!(in alloc; "denied Devices {MOST_DEVICES}"),
         Refusal::Busy(job) => format!(in alloc; "denied Busy {job}"),
         Refusal::Bound(node) => format!(in alloc; "denied Bound {node}"),
+        Refusal::NotBound => format!(in alloc; "denied NotBound {name}"),
+        Refusal::Failure(why) => {
+            let why = failure_text(alloc, why)?;
+            format!(in alloc; "denied Failure {why}")
+        }
     }
+}
+
+fn is_unbound(refusal: &Refusal) -> bool
+    ensures { result ≡ is_unbound refusal.now }
+{
+    matches!(refusal, Refusal::NotBound)
+}
+
+/// A refusal to release a pod, which names one that isn't bound without its kind.
+fn release_text(alloc: Global, pod: &Key, refusal: &Refusal) -> Result<String, AllocError>
+    ensures { IfOk result (λ s. string_bytes s ≡ release_text pod.now refusal.now) }
+{
+    let name = if is_unbound(refusal) {
+        format!(in alloc; "{pod}")?
+    } else {
+        format!(in alloc; "Pod {pod}")?
+    };
+    refusal_text(alloc, &name, refusal)
 }
 
 fn denial_text(alloc: Global, command: &Command, refusal: &Refusal) -> Result<String, AllocError>
@@ -160,6 +218,11 @@ fn denial_text(alloc: Global, command: &Command, refusal: &Refusal) -> Result<St
             let name = format!(in alloc; "Pod {pod}")?;
             refusal_text(alloc, &name, refusal)
         }
+        Command::Release(pod) => release_text(alloc, pod, refusal),
+        Command::Adopt { claim, .. } => {
+            let name = format!(in alloc; "ResourceClaim {claim}")?;
+            refusal_text(alloc, &name, refusal)
+        }
     }
 }
 
@@ -176,12 +239,28 @@ pub fn event_text(alloc: Global, event: &Event) -> Result<String, AllocError>
             let target = target_text(alloc, target)?;
             format!(in alloc; "deleted {target}")
         }
-        Event::Reserved { pod, plan } => reserved_text(alloc, pod, plan),
+        Event::Reserved { pod, plan } => {
+            let plan = plan_text(alloc, pod, plan)?;
+            format!(in alloc; "reserved {plan}")
+        }
+        Event::Refused { pod, plan, why } => refused_text(alloc, pod, plan, why),
         Event::Wrote { pod, claim, seen } => {
             format!(in alloc; "wrote {pod} {claim} seen={seen}")
         }
+        Event::Conflict {
+            pod,
+            claim,
+            had,
+            now,
+        } => format!(in alloc; "conflict {pod} {claim} had={had} now={now}"),
+        Event::Unreserved(pod) => format!(in alloc; "unreserved {pod}"),
         Event::Bound { pod, node } => format!(in alloc; "bound {pod} {node}"),
         Event::Judged { pod, verdict } => verdict_text(alloc, pod, verdict),
+        Event::Contended { pod, attempts } => {
+            format!(in alloc; "contended {pod} attempts={attempts}")
+        }
+        Event::Released(pod) => format!(in alloc; "released {pod}"),
+        Event::Adopted { claim, status } => adopted_text(alloc, claim, status),
         Event::Denied { command, refusal } => denial_text(alloc, command, refusal),
     }
 }

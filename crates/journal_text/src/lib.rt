@@ -3,6 +3,7 @@
 
 mod clean;
 mod event;
+mod failure;
 mod journal;
 mod laws;
 mod totals;

@@ -1,8 +1,9 @@
 ghost use Rattle.std.specs.Prelude.{◌≡◌, ◌++◌, OnOk, IfOk, List, ℕ, string_bytes, codes};
 ghost use Rattle.std.specs.List.{flat_map, join_by};
 ghost use Rattle.object_fields.specs.Keys.{key_text};
-ghost use Rattle.journal_text.specs.Journal.{admin_mark, cause_text, error_word, fault_text, grant_text, listed, passed_text, result_text, why_word};
+ghost use Rattle.journal_text.specs.Journal.{admin_mark, cause_text, error_word, fault_text, grant_text, listed, passed_text, result_text, status_result_text, why_word};
 
+use api_claim::{ClaimStatus, StatusResult};
 use cel_value::EvalError;
 use cluster::{Cause, DeviceResult, Grant, Passed, SelectorFault};
 use object_fields::Key;
@@ -109,6 +110,30 @@ impl Worded for DeviceResult {
             admin_mark(self.admin)
         )
     }
+}
+
+/// As `name@driver/pool/device`, with `!` at the end for admin access.
+impl Worded for StatusResult {
+    ghost words = { status_result_text };
+
+    fn push_to(&self, out: &mut String) -> Result<(), AllocError> {
+        write!(
+            out,
+            "{}@{}{}",
+            self.request,
+            self.device,
+            admin_mark(self.admin)
+        )
+    }
+}
+
+/// The results of a status write, joined by `+`.
+pub fn status_results(alloc: Global, status: &ClaimStatus) -> Result<String, AllocError>
+    ensures { IfOk result (λ s. string_bytes s ≡ join_by status_result_text (codes "+") status.now.results) }
+{
+    let mut out = String::new(alloc);
+    push_joined(&mut out, "+", status.results.as_slice())?;
+    Ok(out)
 }
 
 /// As the claim, `:` and its results, joined by `+`.

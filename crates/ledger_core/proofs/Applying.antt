@@ -44,11 +44,11 @@ room_of s x mode.Create e = created s x e
 room_of s x mode.Update e = updated s x e
 room_of s x mode.Apply e = applied s x (is_there s x) e
 
-first_none : (first later : Option Refusal) → or_else first later ≡ None → first ≡ None
+pub first_none : (first later : Option Refusal) → or_else first later ≡ None → first ≡ None
 first_none None later e = refl
 first_none (Some r) later e = absurd (cc)
 
-when_none : (b : Bool) (r : Refusal) → when b r ≡ None → b ≡ false
+pub when_none : (b : Bool) (r : Refusal) → when b r ≡ None → b ≡ false
 when_none true r e = absurd (cc)
 when_none false r e = refl
 

@@ -1,5 +1,5 @@
--- The job that has taken a pod has reserved, and has taken no other pod.
-use Rattle.std.proofs.Common.{ℕ, ◌+◌, ◌≤◌, ◌≡◌, ◌≢◌, ◌∙◌, List, [], ◌∷◌, ◌++◌, Bool, true, false, cond, eqb, Option, None, Some, length, refl, sym, ap, subst, arith, append_assoc, append-nil, eq-eqb}
+-- The job that has taken a pod has reserved, has neither bound the pod nor given it up, and has taken no other pod.
+use Rattle.std.proofs.Common.{ℕ, ◌+◌, ◌≤◌, ◌≡◌, ◌≢◌, ◌∙◌, List, [], ◌∷◌, ◌++◌, Bool, true, false, cond, eqb, Option, None, Some, length, refl, sym, ap, subst, arith, eq-eqb, ◌&&◌}
 use Rattle.std.proofs.lemmas.Bool.{eqb-true}
 use Rattle.std.specs.Map.{lookup, remove_entry, set_value}
 use Rattle.std.specs.Option.{option_map_or}
@@ -9,10 +9,11 @@ use Rattle.std.specs.declared.cmp.Ordering.{Ordering}
 use Rattle.std.specs.declared.cmp.Ordering.TheVariants.{Less, Equal, Greater}
 use Rattle.object_fields.specs.declared.key.Key.{Key}
 use Rattle.pool_view.specs.Names.{at_key, key_cmp}
-use Rattle.cluster.specs.declared.entry.Command.TheVariants.{Schedule}
+use Rattle.cluster.specs.declared.entry.Command.TheVariants.{Release, Schedule}
 use Rattle.cluster.specs.declared.entry.Entry.{Entry}
 use Rattle.cluster.specs.declared.entry.Event.{Event}
-use Rattle.cluster.specs.declared.entry.Event.TheVariants.{Applied, Deleted, Reserved, Wrote, Bound, Judged, Denied}
+use Rattle.cluster.specs.declared.entry.Event.TheVariants.{Applied, Deleted, Reserved, Refused, Wrote, Conflict, Unreserved, Bound, Judged, Contended, Released, Adopted, Denied}
+use Rattle.cluster.specs.declared.entry.Refusal.{Refusal}
 use Rattle.cluster.specs.declared.entry.Refusal.TheVariants as refusal
 use Rattle.cluster.specs.declared.entry.Stand.{Stand}
 use Rattle.cluster.specs.declared.entry.Stand.TheVariants as stand
@@ -26,13 +27,15 @@ use Rattle.cluster.specs.declared.state.PodState.{PodState}
 use Rattle.cluster.specs.declared.state.State.{State}
 use Rattle.cluster.specs.Applied.{with_object}
 use Rattle.cluster.specs.Deleted.{without_object}
-use Rattle.cluster.specs.Denied.{phase_refusal, schedule_refusal}
+use Rattle.cluster.specs.Denied.{or_else, phase_refusal, release_refusal, schedule_refusal, unbound_refusal}
 use Rattle.cluster.specs.Events.{after, allows, stand_after}
 use Rattle.cluster.specs.History.{stand_of, state_of}
-use Rattle.cluster.specs.Stand.{has_reserved, is_fresh, may_try}
+use Rattle.cluster.specs.Stand.{has_failed, is_fresh, may_try}
 use Rattle.cluster.specs.Tables.{put_at, with_phase}
-use Rattle.ledger_core.specs.Legal.{Step, LegalAfter, Legal, MayStand}
+use Rattle.ledger_core.specs.Legal.{Step, Legal, MayStand}
+use Rattle.ledger_core.specs.Owners.{has_pod}
 use Rattle.ledger_core.proofs.Headlines.{front_legal, step_at}
+use Rattle.ledger_core.proofs.Always.{always}
 use Rattle.ledger_core.proofs.Histories.{stand_of-more, state_of-empty, state_of-more}
 
 -- ---- how many pods a job has taken
@@ -120,21 +123,28 @@ deleted job (target.Pod key) s = removed job (is_at (key_cmp key)) s.pods
 -- ---- what a job may have taken
 
 abbrev most : Stand → ℕ
-most st = cond (has_reserved st) 1 0
+most st = cond (has_pod st) 1 0
 
 most_fresh : (st : Stand) → is_fresh st ≡ true → most st ≡ 0
 most_fresh stand.Fresh e = refl
 most_fresh (stand.Reserved k) e = absurd (cc)
-most_fresh (stand.Conflicted k) e = refl
+most_fresh (stand.Conflicted k) e = absurd (cc)
 most_fresh (stand.Failed k) e = refl
 most_fresh (stand.Ended place) e = refl
 
 most_trying : (st : Stand) → may_try st ≡ true → most st ≡ 0
 most_trying stand.Fresh e = refl
 most_trying (stand.Reserved k) e = absurd (cc)
-most_trying (stand.Conflicted k) e = refl
+most_trying (stand.Conflicted k) e = absurd (cc)
 most_trying (stand.Failed k) e = refl
 most_trying (stand.Ended place) e = refl
+
+most_failed : (st : Stand) (b : Bool) → (has_failed st && b) ≡ true → most st ≡ 0
+most_failed stand.Fresh b e = absurd (cc)
+most_failed (stand.Reserved k) b e = absurd (cc)
+most_failed (stand.Conflicted k) b e = absurd (cc)
+most_failed (stand.Failed k) b e = refl
+most_failed (stand.Ended place) b e = absurd (cc)
 
 most_one : (st : Stand) → most st ≤ 1
 most_one stand.Fresh = omega arith
@@ -142,6 +152,17 @@ most_one (stand.Reserved k) = omega arith
 most_one (stand.Conflicted k) = omega arith
 most_one (stand.Failed k) = omega arith
 most_one (stand.Ended place) = omega arith
+
+-- a pod that the job has taken, in a phase in which it isn't
+given_up : (job : ℕ) (pod : Key) (ph : Phase) (node : List ℕ) (es : Pods) (p : PodState) → at_key es pod ≡ Some p → p.phase ≡ phase.Taken job node → taken_by job ph ≡ 0 → pods_taken job (with_phase pod ph es) + 1 ≡ pods_taken job es
+given_up job pod ph node es p there taken off =
+    let q : PodState = record p { phase = ph } in
+    let set : with_phase pod ph es ≡ set_value (is_at (key_cmp pod)) es q =
+    ap (λ o. option_map_or (λ (x : PodState). set_value (is_at (key_cmp pod)) es (record x { phase = ph })) o es) there in
+    let count : pods_taken job (with_phase pod ph es) ≡ pods_taken job (set_value (is_at (key_cmp pod)) es q) = ap (pods_taken job) set in
+    let exact = set_exact job (is_at (key_cmp pod)) es p q there in
+    let was : taken_by job p.phase ≡ 1 = ap (taken_by job) taken ∙ ap (λ b. cond b 1 0) (eq-eqb job job refl) in
+    omega (arith, count, exact, was, off)
 
 -- an entry's own job
 own : (before : List Entry) (place job : ℕ) (event : Event) → allows (stand_of before job) event ≡ true → MayStand before job event → pods_taken job (state_of before).pods ≤ most (stand_of before job)
@@ -159,22 +180,35 @@ own before place job (Reserved pod plan) allowed may h =
     let few = phase_set job pod (phase.Taken job plan.node) (state_of before).pods in
     let one : taken_by job (phase.Taken job plan.node) ≡ 1 = ap (λ b. cond b 1 0) (eq-eqb job job refl) in
     omega (arith, none, few, one, h)
+own before place job (Refused pod plan why) allowed may h =
+    let none = most_trying (stand_of before job) allowed in
+    omega (arith, none, h)
 own before place job (Wrote pod claim seen) allowed may h =
     let one = most_one (stand_of before job) in
     omega (arith, one, h)
-own before place job (Bound pod node) allowed may h =
-    let p = may.state in
-    let es = (state_of before).pods in
-    let q : PodState = record p { phase = phase.Bound node } in
-    let set : with_phase pod (phase.Bound node) es ≡ set_value (is_at (key_cmp pod)) es q =
-    ap (λ o. option_map_or (λ (x : PodState). set_value (is_at (key_cmp pod)) es (record x { phase = phase.Bound node })) o es) may.taken.there in
-    let count : pods_taken job (with_phase pod (phase.Bound node) es) ≡ pods_taken job (set_value (is_at (key_cmp pod)) es q) = ap (pods_taken job) set in
-    let exact = set_exact job (is_at (key_cmp pod)) es p q may.taken.there in
-    let was : taken_by job p.phase ≡ 1 = ap (taken_by job) may.taken.taken ∙ ap (λ b. cond b 1 0) (eq-eqb job job refl) in
+own before place job (Conflict pod claim had now) allowed may h =
     let one = most_one (stand_of before job) in
-    omega (arith, count, exact, was, one, h)
+    omega (arith, one, h)
+own before place job (Unreserved pod) allowed may h =
+    let less = given_up job pod phase.Idle may.node (state_of before).pods may.state may.taken.there may.taken.taken refl in
+    let one = most_one (stand_of before job) in
+    omega (arith, less, one, h)
+own before place job (Bound pod node) allowed may h =
+    let less = given_up job pod (phase.Bound node) node (state_of before).pods may.state may.taken.there may.taken.taken refl in
+    let one = most_one (stand_of before job) in
+    omega (arith, less, one, h)
 own before place job (Judged pod verdict) allowed may h =
     let none = most_trying (stand_of before job) allowed in
+    omega (arith, none, h)
+own before place job (Contended pod attempts) allowed may h =
+    let none = most_failed (stand_of before job) _ allowed in
+    omega (arith, none, h)
+own before place job (Released pod) allowed may h =
+    let none = most_fresh (stand_of before job) allowed in
+    let few = phase_set job pod phase.Idle (state_of before).pods in
+    omega (arith, none, few, h)
+own before place job (Adopted claim status) allowed may h =
+    let none = most_fresh (stand_of before job) allowed in
     omega (arith, none, h)
 own before place job (Denied command refused) allowed may h =
     let none = most_trying (stand_of before job) allowed in
@@ -188,16 +222,26 @@ other place job j (Reserved pod plan) s differs =
     let few = phase_set j pod (phase.Taken job plan.node) s.pods in
     let none : taken_by j (phase.Taken job plan.node) ≡ 0 = ap (λ b. cond b 1 0) differs in
     omega (arith, few, none)
+other place job j (Refused pod plan why) s differs = omega arith
 other place job j (Wrote pod claim seen) s differs = omega arith
+other place job j (Conflict pod claim had now) s differs = omega arith
+other place job j (Unreserved pod) s differs =
+    let few = phase_set j pod phase.Idle s.pods in
+    omega (arith, few)
 other place job j (Bound pod node) s differs =
     let few = phase_set j pod (phase.Bound node) s.pods in
     omega (arith, few)
 other place job j (Judged pod verdict) s differs = omega arith
+other place job j (Contended pod attempts) s differs = omega arith
+other place job j (Released pod) s differs =
+    let few = phase_set j pod phase.Idle s.pods in
+    omega (arith, few)
+other place job j (Adopted claim status) s differs = omega arith
 other place job j (Denied command refused) s differs = omega arith
 
 -- ---- histories
 
--- each job that has not reserved has taken no pod, and each other one at most one
+-- each job that has no pod has taken none, and each other one at most one
 abbrev Few : List Entry → Type 0
 Few h = (j : ℕ) → pods_taken j (state_of h).pods ≤ most (stand_of h j)
 
@@ -218,18 +262,11 @@ few_after before e step few j =
     subst (λ (s : State). pods_taken j s.pods ≤ most (stand_of (before ++ e ∷ []) j)) (sym (state_of-more before e))
     (subst (λ (st : Stand). pods_taken j pods ≤ most st) (sym (stand_of-more before e j)) (few_by (eqb e.job j) j e.job place e.event before pods refl same differs))
 
-few_along : (before es : List Entry) → LegalAfter before es → Few before → Few (before ++ es)
-unfolding LegalAfter
-few_along before [] legal few = subst Few (sym (append-nil before)) few
-few_along before (e ∷ es) legal few =
-    subst Few (append_assoc before (e ∷ []) es) (few_along (before ++ e ∷ []) es legal.1 (few_after before e legal.0 few))
-
 few_at_first : Few []
 few_at_first j = subst (λ (s : State). pods_taken j s.pods ≤ most (stand_of [] j)) (sym state_of-empty) (omega arith)
 
 few_now : (h : List Entry) → Legal h → Few h
-unfolding Legal
-few_now h legal = few_along [] h legal few_at_first
+few_now h legal = always Few few_at_first (λ g e l few step. few_after g e step few) h legal
 
 -- ---- denials
 
@@ -262,25 +299,53 @@ busy_pod job es pod (Some p) is e =
     let h = counted job (is_at (key_cmp pod)) es p is in
     omega (arith, one, h)
 
-reserved_by : (b : Bool) → 1 ≤ cond b 1 0 → b ≡ true
-reserved_by true h = refl
-reserved_by false h = absurd (omega (arith, h))
+unbound_phase : (ph : Phase) (job : ℕ) → unbound_refusal ph ≡ Some (refusal.Busy job) → taken_by job ph ≡ 1
+unbound_phase phase.Idle job e = absurd (cc)
+unbound_phase (phase.Taken j node) job e = ap (λ b. cond b 1 0) (eq-eqb j job (same_job j job e))
+unbound_phase (phase.Bound node) job e = absurd (cc)
 
--- a job that may be denied has not reserved
-trying : (st : Stand) → may_try st ≡ true → has_reserved st ≡ true → ⊥
+unbound_pod : (job : ℕ) (es : Pods) (pod : Key) (o : Option PodState) → at_key es pod ≡ o → release_refusal o ≡ Some (refusal.Busy job) → 1 ≤ pods_taken job es
+unbound_pod job es pod None is e = absurd (cc)
+unbound_pod job es pod (Some p) is e =
+    let one = unbound_phase p.phase job e in
+    let h = counted job (is_at (key_cmp pod)) es p is in
+    omega (arith, one, h)
+
+alone : (first : Option Refusal) (r : Refusal) → or_else first None ≡ Some r → first ≡ Some r
+alone None r e = e
+alone (Some q) r e = e
+
+has_by : (b : Bool) → 1 ≤ cond b 1 0 → b ≡ true
+has_by true h = refl
+has_by false h = absurd (omega (arith, h))
+
+-- a job that may be denied has no pod
+trying : (st : Stand) → may_try st ≡ true → has_pod st ≡ true → ⊥
 trying stand.Fresh e f = absurd (cc)
 trying (stand.Reserved k) e f = absurd (cc)
 trying (stand.Conflicted k) e f = absurd (cc)
 trying (stand.Failed k) e f = absurd (cc)
 trying (stand.Ended place) e f = absurd (cc)
 
--- the job that a denial names has reserved, and is another
-pub busy_at : (front back : List Entry) (job holder : ℕ) (pod : Key) → Legal (front ++ record { job = job; event = Denied (Schedule pod) (refusal.Busy holder) } ∷ back)
-    → (has_reserved (stand_of front holder) ≡ true) × (holder ≢ job)
-busy_at front back job holder pod legal =
+-- a job that has taken a pod has it, and isn't one that may be denied
+holder_of : (h : List Entry) (job holder : ℕ) → Legal h → may_try (stand_of h job) ≡ true → 1 ≤ pods_taken holder (state_of h).pods → (has_pod (stand_of h holder) ≡ true) × (holder ≢ job)
+holder_of h job holder legal may one =
+    let few = few_now h legal holder in
+    let least : 1 ≤ most (stand_of h holder) = omega (arith, few, one) in
+    let has = has_by (has_pod (stand_of h holder)) least in
+    (has, λ e. trying (stand_of h job) may (subst (λ (i : ℕ). has_pod (stand_of h i) ≡ true) e has))
+
+-- the job that a denial names has the pod, and is another
+pub busy_schedule : (front back : List Entry) (job holder : ℕ) (pod : Key) → Legal (front ++ record { job = job; event = Denied (Schedule pod) (refusal.Busy holder) } ∷ back)
+    → (has_pod (stand_of front holder) ≡ true) × (holder ≢ job)
+busy_schedule front back job holder pod legal =
     let step = step_at front (record { job = job; event = Denied (Schedule pod) (refusal.Busy holder) }) back legal in
-    let few = few_now front (front_legal front _ legal) holder in
-    let one = busy_pod holder (state_of front).pods pod (at_key (state_of front).pods pod) refl step.stands.due in
-    let least : 1 ≤ most (stand_of front holder) = omega (arith, few, one) in
-    let reserved = reserved_by (has_reserved (stand_of front holder)) least in
-    (reserved, λ e. trying (stand_of front job) step.allowed (subst (λ (i : ℕ). has_reserved (stand_of front i) ≡ true) e reserved))
+    let due = alone (schedule_refusal (at_key (state_of front).pods pod)) (refusal.Busy holder) step.stands.due in
+    holder_of front job holder (front_legal front _ legal) step.allowed (busy_pod holder (state_of front).pods pod (at_key (state_of front).pods pod) refl due)
+
+pub busy_release : (front back : List Entry) (job holder : ℕ) (pod : Key) → Legal (front ++ record { job = job; event = Denied (Release pod) (refusal.Busy holder) } ∷ back)
+    → (has_pod (stand_of front holder) ≡ true) × (holder ≢ job)
+busy_release front back job holder pod legal =
+    let step = step_at front (record { job = job; event = Denied (Release pod) (refusal.Busy holder) }) back legal in
+    let due = alone (release_refusal (at_key (state_of front).pods pod)) (refusal.Busy holder) step.stands.due in
+    holder_of front job holder (front_legal front _ legal) step.allowed (unbound_pod holder (state_of front).pods pod (at_key (state_of front).pods pod) refl due)

@@ -295,7 +295,7 @@ joins_make pod k (j ∷ js) t there (inr among) = joins_make pod k js (changed_a
 
 -- ---- a plan grants or joins each of them
 
-abbrev keys_in : List ResourceClaim → List Key
+abbrev pub keys_in : List ResourceClaim → List Key
 keys_in cs = map (λ c. c.key) cs
 
 more_ungranted : (k l : Key) (c : ClaimState) (g : Option Granted) (cs : List ResourceClaim) → In k (keys_in cs) → In k (keys_in (add_ungranted l c g cs))

@@ -1,5 +1,5 @@
 -- What a legal history says of each of its entries.
-use Rattle.std.proofs.Common.{ℕ, ◌≡◌, ◌≢◌, ◌≤◌, ◌<◌, ◌∙◌, List, [], ◌∷◌, ◌++◌, Bool, true, false, cond, not, ◌||◌, Option, None, Some, is_some, length, take, find, refl, arith, ap, sym, subst, append_assoc, append-nil}
+use Rattle.std.proofs.Common.{ℕ, ◌≡◌, ◌≢◌, ◌≤◌, ◌<◌, ◌∙◌, List, [], ◌∷◌, ◌++◌, Bool, true, false, cond, not, ◌||◌, Option, None, Some, is_some, length, take, drop, find, refl, arith, ap, sym, subst, append_assoc, append-nil}
 use Rattle.std.specs.Prelude.{is_none, nat_lt}
 use Rattle.std.specs.List.{All, AllByRecursion, Contains}
 use Rattle.std.specs.Map.{keys_of}
@@ -8,6 +8,7 @@ use Rattle.std.specs.Ordering.{eq_by_cmp}
 use Rattle.std.specs.Cmp.Lexicographic.{same_text, texts_ties}
 use Rattle.std.proofs.lemmas.Bool.{ltb-false}
 use Rattle.std.proofs.lemmas.Cmp.{nat_list_eq_equiv}
+use Rattle.std.proofs.lemmas.List.{take-append-drop}
 use Rattle.std.proofs.lemmas.List.Elements.{Contains-append_right, All-contains, All-from_recursion, All-map, recursion_from_All}
 use Rattle.std.proofs.lemmas.Map.Views.{Contains-keys_from_lookup}
 use Rattle.walk.specs.Walk.{Item, Part}
@@ -46,6 +47,7 @@ use Rattle.ledger_core.specs.Judged.{MayJudge}
 use Rattle.ledger_core.specs.Denied.{MayDeny}
 use Rattle.ledger_core.specs.Legal.{Step, LegalAfter, Legal}
 use Rattle.ledger_core.specs.Headline.{HasNone, IsCrowded, IsElsewhere, IsGrantOf, IsMissing, IsOverBudget, IsReasonOf, IsVerdictOf, NoneTaken}
+use Rattle.ledger_core.proofs.Always.{always_along}
 use Rattle.ledger_core.proofs.Histories.{state_of-more}
 
 some_same : {X : Type 0} (v w : X) → Some v ≡ Some w → v ≡ w
@@ -71,6 +73,22 @@ front_after before (d ∷ front) back legal = (legal.0, front_after (before ++ d
 pub front_legal : (front back : List Entry) → Legal (front ++ back) → Legal front
 unfolding Legal
 front_legal front back legal = front_after [] front back legal
+
+after_front : (before front es : List Entry) → LegalAfter before (front ++ es) → LegalAfter (before ++ front) es
+unfolding LegalAfter
+after_front before [] es legal = subst (λ (xs : List Entry). LegalAfter xs es) (sym (append-nil before)) legal
+after_front before (d ∷ front) es legal =
+    subst (λ (xs : List Entry). LegalAfter xs es) (append_assoc before (d ∷ []) front) (after_front (before ++ d ∷ []) front es legal.1)
+
+-- what holds of a front, and is kept by each entry that may follow, holds of the whole
+pub always_from : (P : List Entry → Type 0) → ((h : List Entry) (e : Entry) → Legal h → P h → Step h e → P (h ++ e ∷ [])) → (front back : List Entry) → Legal (front ++ back) → P front → P (front ++ back)
+unfolding Legal
+always_from P step front back legal first = always_along P step front back (after_front [] front back legal) (front_legal front back legal) first
+
+-- what holds of the state after each legal history holds at each of its places
+pub at_places : (P : State → Type 0) → ((h : List Entry) → Legal h → P (state_of h)) → (h : List Entry) (place : ℕ) → Legal h → P (state_at h place)
+at_places P all h place legal =
+    all (take place h) (front_legal (take place h) (drop place h) (subst (λ (xs : List Entry). Legal xs) (sym (take-append-drop place h)) legal))
 
 grant_of : (before : List Entry) (pod : Key) (plan : Plan) → MayReserve before pod plan → IsGrantOf before pod plan
 grant_of before pod plan may =

@@ -1,18 +1,14 @@
 -- What one entry more does to a history.
-use Rattle.std.proofs.Common.{ℕ, ◌+◌, List, [], ◌∷◌, ◌++◌, ◌≡◌, ◌∙◌, cond, eqb, length, refl, ap, arith, append_assoc, subst, sym, append-nil}
-use Rattle.std.proofs.lemmas.List.{take_all}
-use Rattle.object_fields.specs.declared.key.Key.{Key}
-use Rattle.cluster.specs.declared.state.State.{State}
-use Rattle.cluster.specs.declared.plan.Plan.{Plan}
-use Rattle.cluster.specs.declared.plan.Verdict.{Verdict}
-use Rattle.alloc_rules.specs.Plans.{PlanTrue, Holds, VerdictTrue}
+use Rattle.std.proofs.Common.{ℕ, ◌+◌, ◌≤◌, List, [], ◌∷◌, ◌++◌, ◌≡◌, ◌∙◌, Bool, true, false, cond, eqb, length, refl, ap, arith, append_assoc, subst, sym, append-nil}
 use Rattle.cluster.specs.State.{empty_state}
 use Rattle.cluster.specs.declared.entry.Entry.{Entry}
+use Rattle.cluster.specs.declared.entry.Event.{Event}
+use Rattle.cluster.specs.declared.entry.Event.TheVariants.{Applied, Deleted, Reserved, Refused, Wrote, Conflict, Unreserved, Bound, Judged, Contended, Released, Adopted, Denied}
+use Rattle.cluster.specs.declared.entry.Stand.{Stand}
 use Rattle.cluster.specs.declared.entry.Stand.TheVariants.{Fresh}
 use Rattle.cluster.specs.Events.{after, stand_after}
-use Rattle.cluster.specs.History.{next_stand, next_state, stand_of, state_at, state_of, told}
-use Rattle.ledger_core.specs.Reserved.{MayReserve}
-use Rattle.ledger_core.specs.Judged.{MayJudge}
+use Rattle.cluster.specs.History.{next_stand, next_state, stand_of, state_of, told}
+use Rattle.cluster.specs.Stand.{failures}
 use Rattle.ledger_core.specs.Legal.{Step, LegalAfter, Legal}
 
 told-more : {A : Type 0} (step : A → ℕ → Entry → A) (a : A) (n : ℕ) (es : List Entry) (e : Entry) → told step a n (es ++ e ∷ []) ≡ step (told step a n es) (n + length es + 1) e
@@ -60,15 +56,35 @@ pub Legal-more : (es : List Entry) (e : Entry) → Legal es → Step es e → Le
 unfolding Legal
 Legal-more es e legal step = LegalAfter-more [] es e legal step
 
--- the state at the end of a history is the one after it
-pub state_at-end : (h : List Entry) (at : ℕ) → at ≡ length h → state_of h ≡ state_at h at
-state_at-end h at e = ap state_of (sym (take_all at h (omega arith)))
+-- one entry counts at most one failed attempt more
+one_more : (st : Stand) (place : ℕ) (e : Event) → failures (stand_after st place e) ≤ failures st + 1
+one_more st place (Applied object mode) = omega arith
+one_more st place (Deleted target) = omega arith
+one_more st place (Reserved pod plan) = omega arith
+one_more st place (Refused pod plan why) = omega arith
+one_more st place (Wrote pod claim seen) = omega arith
+one_more st place (Conflict pod claim had now) = omega arith
+one_more st place (Unreserved pod) = omega arith
+one_more st place (Bound pod node) = omega arith
+one_more st place (Judged pod verdict) = omega arith
+one_more st place (Contended pod attempts) = omega arith
+one_more st place (Released pod) = omega arith
+one_more st place (Adopted claim status) = omega arith
+one_more st place (Denied command refusal) = omega arith
 
--- a verdict that is true now may stand now
-pub judged_now : (h : List Entry) (pod : Key) (verdict : Verdict) → verdict.at ≡ length h → VerdictTrue (state_of h) pod verdict → MayJudge h pod verdict
-judged_now h pod verdict e t = record { at = omega arith; true_then = subst (λ (s : State). VerdictTrue s pod verdict) (state_at-end h verdict.at e) t }
+more_by : (st : Stand) (place : ℕ) (e : Event) (b : Bool) → failures (cond b (stand_after st place e) st) ≤ failures st + 1
+more_by st place e true = one_more st place e
+more_by st place e false = omega arith
 
--- a plan that is true now, and against which nothing stands, may stand now
-pub reserved_now : (h : List Entry) (pod : Key) (plan : Plan) → plan.at ≡ length h → PlanTrue (state_of h) pod plan → Holds (state_of h) pod plan → MayReserve h pod plan
-reserved_now h pod plan e t holds =
-    record { at = omega arith; true_then = subst (λ (s : State). PlanTrue s pod plan) (state_at-end h plan.at e) t; holds_now = holds }
+failures_along : (job : ℕ) (st : Stand) (n : ℕ) (es : List Entry) → failures (told (next_stand job) st n es) ≤ failures st + length es
+unfolding told
+failures_along job st n [] = omega arith
+failures_along job st n (e ∷ es) =
+    let first = more_by st (n + 1) e.event (eqb e.job job) in
+    let rest = failures_along job (next_stand job st (n + 1) e) (n + 1) es in
+    omega (arith, first, rest)
+
+-- a job has failed at most as often as there are entries
+pub failures_within : (h : List Entry) (job : ℕ) → failures (stand_of h job) ≤ length h
+unfolding stand_of
+failures_within h job = let along = failures_along job Fresh 0 h in omega (arith, along)

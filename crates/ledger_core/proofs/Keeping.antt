@@ -1,26 +1,60 @@
 -- What a ledger keeps.
-use Rattle.std.proofs.Common.{ℕ, ◌+◌, ◌<◌, ◌^◌, List, [], ◌∷◌, ◌++◌, ◌≡◌, ◌∙◌, cond, eqb, length, sym, ap, arith, length-append}
+use Rattle.std.proofs.Common.{ℕ, ◌+◌, ◌<◌, ◌≤◌, ◌^◌, List, [], ◌∷◌, ◌++◌, ◌≡◌, ◌∙◌, true, cond, eqb, length, refl, sym, ap, subst, arith, length-append, eq-eqb}
+use Rattle.std.proofs.lemmas.Bool.{and_from}
+use Rattle.object_fields.specs.declared.key.Key.{Key}
+use Rattle.counter_sets.specs.Holding.{AreHeld, Holders}
 use Rattle.cluster.specs.declared.entry.Entry.{Entry}
+use Rattle.cluster.specs.declared.entry.Event.TheVariants.{Contended}
 use Rattle.cluster.specs.declared.entry.Stand.{Stand}
 use Rattle.cluster.specs.declared.state.State.{State}
-use Rattle.cluster.specs.Events.{after, stand_after}
+use Rattle.cluster.specs.Events.{after, allows, stand_after}
+use Rattle.cluster.specs.Held.{HeldOnce, held}
+use Rattle.cluster.specs.History.{state_of}
+use Rattle.cluster.specs.Stand.{failures, has_failed}
 use Rattle.cluster.specs.State.{empty_state}
-use Rattle.ledger_core.specs.Legal.{Step}
+use Rattle.ledger_core.specs.Legal.{Legal, Step}
 use Rattle.ledger_core.specs.Ledger.{IsKept, stand_in}
-use Rattle.ledger_core.proofs.Histories.{Legal-empty, Legal-more, stand_of-empty, state_of-empty, state_of-more}
+use Rattle.ledger_core.proofs.Histories.{Legal-empty, Legal-more, failures_within, stand_of-empty, state_of-empty, state_of-more}
 use Rattle.ledger_core.proofs.Standing.{stands_more}
 
-pub kept_empty : (limit : ℕ) → limit < 2 ^ 48 → IsKept [] empty_state [] limit
-kept_empty limit small = record { legal = Legal-empty; state_is = sym state_of-empty; stands_are = λ j. sym (stand_of-empty j); within = omega arith; small = small }
+pub kept_empty : (limit : ℕ) (holders : Holders) → limit < 2 ^ 48 → AreHeld holders (held empty_state) → IsKept [] empty_state holders [] limit
+kept_empty limit holders small none =
+    record { legal = Legal-empty; state_is = sym state_of-empty; holders_are = none; stands_are = λ j. sym (stand_of-empty j); within = omega arith; small = small }
 
 -- it keeps it with one entry more
-pub kept_more : (es : List Entry) (e : Entry) (s s' : State) (stands ready stands' : List (ℕ × Stand)) (limit : ℕ) → IsKept es s stands limit → Step es e → length es < limit
-    → s' ≡ after (length es + 1) e.job e.event s → ((j : ℕ) → stand_in ready j ≡ stand_in stands j)
-    → ((j : ℕ) → stand_in stands' j ≡ cond (eqb e.job j) (stand_after (stand_in ready e.job) (length es + 1) e.event) (stand_in ready j)) → IsKept (es ++ e ∷ []) s' stands' limit
-kept_more es e s s' stands ready stands' limit kept step room is same set = record {
+pub kept_more : (es : List Entry) (e : Entry) (s s' : State) (hs hs' : Holders) (stands ready stands' : List (ℕ × Stand)) (limit : ℕ) → IsKept es s hs stands limit → Step es e → length es < limit
+    → s' ≡ after (length es + 1) e.job e.event s → AreHeld hs' (held s') → ((j : ℕ) → stand_in ready j ≡ stand_in stands j)
+    → ((j : ℕ) → stand_in stands' j ≡ cond (eqb e.job j) (stand_after (stand_in ready e.job) (length es + 1) e.event) (stand_in ready j)) → IsKept (es ++ e ∷ []) s' hs' stands' limit
+kept_more es e s s' hs hs' stands ready stands' limit kept step room is holders same set = record {
   legal = Legal-more es e kept.legal step;
   state_is = is ∙ ap (λ (t : State). after (length es + 1) e.job e.event t) kept.state_is ∙ sym (state_of-more es e);
+  holders_are = holders;
   stands_are = stands_more es ready stands' e (λ j. same j ∙ kept.stands_are j) set;
   within = omega (arith, length-append es (e ∷ []));
   small = kept.small;
 }
+
+-- no job has failed as often as a number of 64 bits can't say
+pub few_tries : (es : List Entry) (s : State) (hs : Holders) (stands ready : List (ℕ × Stand)) (limit job : ℕ) → IsKept es s hs stands limit → ((j : ℕ) → stand_in ready j ≡ stand_in stands j)
+    → failures (stand_in ready job) < 2 ^ 48
+few_tries es s hs stands ready limit job kept same =
+    let is : failures (stand_in ready job) ≤ length es = subst (λ (st : Stand). failures st ≤ length es) (sym (same job ∙ kept.stands_are job)) (failures_within es job) in
+    let within = kept.within in
+    let small = kept.small in
+    omega (arith, is, within, small)
+
+-- each device has one holder after a legal history
+abbrev pub OneHolder : Type 0
+OneHolder = (h : List Entry) → Legal h → HeldOnce (state_of h)
+
+pub once_now : OneHolder → (es : List Entry) (s : State) (hs : Holders) (stands : List (ℕ × Stand)) (limit : ℕ) → IsKept es s hs stands limit → HeldOnce s
+once_now law es s hs stands limit kept = subst (λ (t : State). HeldOnce t) (sym kept.state_is) (law es kept.legal)
+
+pub once_after : OneHolder → (es : List Entry) (e : Entry) (s : State) (hs : Holders) (stands : List (ℕ × Stand)) (limit : ℕ) → IsKept es s hs stands limit → Step es e
+    → HeldOnce (after (length es + 1) e.job e.event s)
+once_after law es e s hs stands limit kept step =
+    subst (λ (t : State). HeldOnce t) (state_of-more es e ∙ ap (λ (t : State). after (length es + 1) e.job e.event t) (sym kept.state_is)) (law (es ++ e ∷ []) (Legal-more es e kept.legal step))
+
+-- a job whose last attempt has failed may say how many have
+pub may_contend : (st : Stand) (pod : Key) → has_failed st ≡ true → allows st (Contended pod (failures st)) ≡ true
+may_contend st pod failed = and_from (has_failed st) (eqb (failures st) (failures st)) failed (eq-eqb (failures st) (failures st) refl)

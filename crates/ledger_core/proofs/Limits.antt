@@ -1,12 +1,11 @@
 -- Each object keeps its limits in each state of a legal history.
-use Rattle.std.proofs.Common.{ℕ, ◌+◌, ◌≡◌, List, [], ◌∷◌, ◌++◌, Bool, true, false, cond, Option, None, Some, length, refl, sym, subst, append_assoc, append-nil, take, drop}
+use Rattle.std.proofs.Common.{ℕ, ◌+◌, ◌≡◌, List, [], ◌∷◌, Bool, true, false, cond, Option, None, Some, length, refl, subst}
 use Rattle.std.specs.Map.{lookup, remove_entry, set_value}
 use Rattle.std.specs.Option.{option_map_or}
 use Rattle.std.specs.Ordering.{match_ordering}
 use Rattle.std.specs.BTreeMap.{insert_entry, is_at}
 use Rattle.std.specs.declared.cmp.Ordering.{Ordering}
 use Rattle.std.specs.declared.cmp.Ordering.TheVariants.{Less, Equal, Greater}
-use Rattle.std.proofs.lemmas.List.{take-append-drop}
 use Rattle.object_fields.specs.declared.key.Key.{Key}
 use Rattle.api_claim.specs.Limits.{ClaimKept, EachOf}
 use Rattle.api_cluster.specs.Limits.{NodeKept, ClassKept, PodKept}
@@ -19,24 +18,26 @@ use Rattle.cluster.specs.declared.plan.Grant.{Grant}
 use Rattle.cluster.specs.declared.state.ClaimState.{ClaimState}
 use Rattle.cluster.specs.declared.state.PodState.{PodState}
 use Rattle.cluster.specs.declared.state.State.{State}
+use Rattle.cluster.specs.declared.state.Use.{Use}
 use Rattle.cluster.specs.Limits.{ObjectKept}
 use Rattle.pool_view.specs.Inventory.{Named, put_by}
 use Rattle.pool_view.specs.Names.{at_key, at_name, key_cmp, text_cmp}
 use Rattle.pool_view.specs.declared.stored.Stored.{Stored}
 use Rattle.cluster.specs.Tables.{changed_at, put_at}
 use Rattle.cluster.specs.State.{empty_state}
+use Rattle.cluster.specs.Freed.{claims_by, freed, freed_by, with_freed, without_uses}
 use Rattle.cluster.specs.Reserved.{joined_by, with_grant, with_grants, with_joins}
 use Rattle.cluster.specs.Applied.{with_object}
 use Rattle.cluster.specs.Deleted.{without_object}
 use Rattle.cluster.specs.declared.entry.Entry.{Entry}
 use Rattle.cluster.specs.declared.entry.Event.{Event}
-use Rattle.cluster.specs.declared.entry.Event.TheVariants.{Applied, Deleted, Reserved, Wrote, Bound, Judged, Denied}
+use Rattle.cluster.specs.declared.entry.Event.TheVariants.{Applied, Deleted, Reserved, Refused, Wrote, Conflict, Unreserved, Bound, Judged, Contended, Released, Adopted, Denied}
 use Rattle.cluster.specs.Events.{after}
 use Rattle.cluster.specs.History.{state_of, state_at}
-use Rattle.ledger_core.specs.Legal.{LegalAfter, Legal, MayStand}
+use Rattle.ledger_core.specs.Legal.{Legal, MayStand}
 use Rattle.ledger_core.specs.Limits.{ObjectsKept}
-use Rattle.ledger_core.proofs.Histories.{state_of-empty, state_of-more}
-use Rattle.ledger_core.proofs.Headlines.{front_legal}
+use Rattle.ledger_core.proofs.Always.{always_state}
+use Rattle.ledger_core.proofs.Headlines.{at_places}
 
 -- ---- tables of which each value keeps something
 
@@ -134,6 +135,19 @@ deleted (target.Claim key) s h =
 deleted (target.Pod key) s h =
     record { nodes = h.nodes; slices = h.slices; classes = h.classes; claims = h.claims; pods = removed PodFits (is_at (key_cmp key)) s.pods h.pods }
 
+freed_fits : (place : ℕ) (pod : Key) (o : Option Use) (c : ClaimState) → ClaimFits c → ClaimFits (freed_by place pod o c)
+freed_fits place pod None c k = k
+freed_fits place pod (Some u) c k = k
+
+freed_kept : (place : ℕ) (pod : Key) (ks : List Key) (claims : List (Key × ClaimState)) → Each ClaimFits claims → Each ClaimFits (with_freed place pod ks claims)
+freed_kept place pod [] claims h = h
+freed_kept place pod (k ∷ ks) claims h =
+    freed_kept place pod ks (changed_at k (freed place pod) claims) (changed ClaimFits k (freed place pod) claims h (λ c l. freed_fits place pod (at_key c.users pod) c l))
+
+unused_again : (place : ℕ) (pod : Key) (s : State) → ObjectsKept s → ObjectsKept (without_uses place pod s)
+unused_again place pod s h =
+    record { nodes = h.nodes; slices = h.slices; classes = h.classes; claims = freed_kept place pod (claims_by (at_key s.pods pod)) s.claims h.claims; pods = changed PodFits pod _ s.pods h.pods (λ p k. k) }
+
 -- an entry that may stand keeps them
 kept_after : (before : List Entry) (place job : ℕ) (event : Event) → MayStand before job event → ObjectsKept (state_of before) → ObjectsKept (after place job event (state_of before))
 kept_after before place job (Applied x mode) may h = created place x (state_of before) may.valid.limits h
@@ -142,6 +156,13 @@ kept_after before place job (Reserved pod plan) may h =
     record { nodes = h.nodes; slices = h.slices; classes = h.classes; claims = joined pod plan.joins (with_grants plan.node pod plan.grants (state_of before).claims) (granted plan.node pod plan.grants (state_of before).claims h.claims); pods = changed PodFits pod _ (state_of before).pods h.pods (λ p k. k) }
 kept_after before place job (Wrote pod claim seen) may h =
     record { nodes = h.nodes; slices = h.slices; classes = h.classes; claims = changed ClaimFits claim _ (state_of before).claims h.claims (λ c k. k); pods = h.pods }
+kept_after before place job (Refused pod plan why) may h = h
+kept_after before place job (Conflict pod claim had now) may h = h
+kept_after before place job (Unreserved pod) may h = unused_again place pod (state_of before) h
+kept_after before place job (Contended pod attempts) may h = h
+kept_after before place job (Released pod) may h = unused_again place pod (state_of before) h
+kept_after before place job (Adopted claim status) may h =
+    record { nodes = h.nodes; slices = h.slices; classes = h.classes; claims = changed ClaimFits claim _ (state_of before).claims h.claims (λ c k. k); pods = h.pods }
 kept_after before place job (Bound pod node) may h =
     record { nodes = h.nodes; slices = h.slices; classes = h.classes; claims = h.claims; pods = changed PodFits pod _ (state_of before).pods h.pods (λ p k. k) }
 kept_after before place job (Judged pod verdict) may h = h
@@ -149,21 +170,11 @@ kept_after before place job (Denied command refusal) may h = h
 
 -- ---- histories
 
-kept_along : (before es : List Entry) → LegalAfter before es → ObjectsKept (state_of before) → ObjectsKept (state_of (before ++ es))
-unfolding LegalAfter
-kept_along before [] legal h = subst (λ (xs : List Entry). ObjectsKept (state_of xs)) (sym (append-nil before)) h
-kept_along before (e ∷ es) legal h =
-    let next : ObjectsKept (state_of (before ++ e ∷ [])) =
-    subst (λ (s : State). ObjectsKept s) (sym (state_of-more before e)) (kept_after before (length before + 1) e.job e.event legal.0.stands h) in
-    subst (λ (xs : List Entry). ObjectsKept (state_of xs)) (append_assoc before (e ∷ []) es) (kept_along (before ++ e ∷ []) es legal.1 next)
-
 kept_at_first : ObjectsKept empty_state
 kept_at_first = record { nodes = tt; slices = tt; classes = tt; claims = tt; pods = tt }
 
 pub kept_now : (h : List Entry) → Legal h → ObjectsKept (state_of h)
-unfolding Legal
-kept_now h legal = kept_along [] h legal (subst (λ (s : State). ObjectsKept s) (sym state_of-empty) kept_at_first)
+kept_now h legal = always_state ObjectsKept kept_at_first (λ g e l s p. kept_after g (length g + 1) e.job e.event s.stands p) h legal
 
 pub kept_at : (h : List Entry) (place : ℕ) → Legal h → ObjectsKept (state_at h place)
-kept_at h place legal =
-    kept_now (take place h) (front_legal (take place h) (drop place h) (subst (λ (xs : List Entry). Legal xs) (sym (take-append-drop place h)) legal))
+kept_at h place legal = at_places ObjectsKept kept_now h place legal

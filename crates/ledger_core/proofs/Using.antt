@@ -1,25 +1,20 @@
--- Each user of a claim is a pod that is taken or bound, in each state of a legal history.
-use Rattle.std.proofs.Common.{ℕ, ◌+◌, ◌≡◌, ◌∙◌, ◌⊎◌, inl, inr, ⊎_elim, List, [], ◌∷◌, ◌++◌, Bool, true, false, cond, not, ◌||◌, Option, None, Some, length, refl, sym, ap, subst, append_assoc, append-nil, take, drop}
-use Rattle.std.specs.Prelude.{is_some}
+-- Each user of a claim is a pod that is taken or bound, and names the claim, in each state of a legal history.
+use Rattle.std.proofs.Common.{ℕ, ◌+◌, ◌≡◌, ◌∙◌, ◌⊎◌, inl, inr, ⊎_elim, List, [], ◌∷◌, Bool, true, false, not, ◌||◌, Option, None, Some, length, map, is_some, refl, sym, ap, subst}
 use Rattle.std.specs.List.{list_any}
 use Rattle.std.specs.Map.{lookup, remove_entry, set_value}
 use Rattle.std.specs.Option.{option_map_or}
-use Rattle.std.specs.Ordering.{is_eq, ordering_then}
 use Rattle.std.specs.BTreeMap.{insert_entry, is_at}
-use Rattle.std.specs.declared.cmp.Ordering.{Ordering}
-use Rattle.std.specs.declared.cmp.Ordering.TheVariants.{Less, Equal, Greater}
-use Rattle.std.specs.Cmp.Lexicographic.{same_text, texts_ties}
-use Rattle.std.proofs.lemmas.List.{take-append-drop}
 use Rattle.object_fields.specs.declared.key.Key.{Key}
+use Rattle.api_claim.specs.declared.types.ClaimStatus.{ClaimStatus}
 use Rattle.api_claim.specs.declared.types.ResourceClaim.{ResourceClaim}
 use Rattle.api_claim.specs.Limits.{EachOf}
 use Rattle.api_cluster.specs.declared.types.Pod.{Pod}
-use Rattle.pool_view.specs.Names.{at_key, key_cmp, text_cmp}
-use Rattle.cluster.specs.declared.entry.Command.TheVariants.{Delete}
+use Rattle.pool_view.specs.Names.{at_key, key_cmp}
+use Rattle.cluster.specs.declared.entry.Command.TheVariants.{Apply, Delete}
 use Rattle.cluster.specs.declared.entry.Entry.{Entry}
 use Rattle.cluster.specs.declared.entry.Event.{Event}
-use Rattle.cluster.specs.declared.entry.Event.TheVariants.{Applied, Deleted, Reserved, Wrote, Bound, Judged, Denied}
-use Rattle.cluster.specs.declared.entry.Refusal.{Refusal}
+use Rattle.cluster.specs.declared.entry.Event.TheVariants.{Applied, Deleted, Reserved, Refused, Wrote, Conflict, Unreserved, Bound, Judged, Contended, Released, Adopted, Denied}
+use Rattle.cluster.specs.declared.entry.Mode.{Mode}
 use Rattle.cluster.specs.declared.entry.Refusal.TheVariants.{InUse, NotFound}
 use Rattle.cluster.specs.declared.object.Object.{Object}
 use Rattle.cluster.specs.declared.object.Object.TheVariants as object
@@ -28,171 +23,113 @@ use Rattle.cluster.specs.declared.object.Target.TheVariants as target
 use Rattle.cluster.specs.declared.plan.Grant.{Grant}
 use Rattle.cluster.specs.declared.plan.Plan.{Plan}
 use Rattle.cluster.specs.declared.state.ClaimState.{ClaimState}
+use Rattle.cluster.specs.declared.state.Granted.{Granted}
+use Rattle.cluster.specs.declared.state.Phase.{Phase}
 use Rattle.cluster.specs.declared.state.Phase.TheVariants as phase
 use Rattle.cluster.specs.declared.state.PodState.{PodState}
 use Rattle.cluster.specs.declared.state.State.{State}
 use Rattle.cluster.specs.declared.state.Use.{Use}
 use Rattle.cluster.specs.declared.state.Use.TheVariants.{Assumed, Written}
+use Rattle.cluster.specs.Adopted.{adopted_by, with_adopted}
 use Rattle.cluster.specs.Applied.{new_claim, new_pod, updated_claim, updated_pod, with_object}
+use Rattle.cluster.specs.Claims.{claim_keys, first_places}
 use Rattle.cluster.specs.Deleted.{without_object}
-use Rattle.cluster.specs.Denied.{first_refusal, is_busy, is_found, is_in_use, is_user, or_else, when}
+use Rattle.cluster.specs.Denied.{first_refusal, is_busy, is_found, is_in_use, is_user, when}
 use Rattle.cluster.specs.Events.{after}
+use Rattle.cluster.specs.Freed.{claims_by, freed, freed_by, with_freed, without_user, without_uses}
 use Rattle.cluster.specs.History.{state_at, state_of}
 use Rattle.cluster.specs.Reserved.{joined_by, with_grant, with_grants, with_joins, with_reserved}
-use Rattle.cluster.specs.State.{empty_state}
+use Rattle.cluster.specs.State.{claims_of, empty_state, is_idle}
 use Rattle.cluster.specs.Tables.{changed_at, put_at, with_phase}
+use Rattle.cluster.specs.Wrote.{with_written, written_by}
+use Rattle.allocations.specs.Claims.{add_ungranted, add_wanted, has_grant, joined, wanted, wanted_of}
+use Rattle.alloc_rules.specs.Plans.{Holds}
+use Rattle.ledger_core.specs.Legal.{Legal, MayStand}
 use Rattle.ledger_core.specs.Users.{HasBusyUsers, UsersAreBusy}
-use Rattle.cluster.specs.Wrote.{with_written}
-use Rattle.ledger_core.specs.Legal.{Legal, LegalAfter, MayStand}
-use Rattle.ledger_core.proofs.GoingOn.{changed_there}
-use Rattle.ledger_core.proofs.Headlines.{front_legal}
-use Rattle.ledger_core.proofs.Histories.{state_of-empty, state_of-more}
-use Rattle.ledger_core.proofs.Limits.{changed, inserted, removed, set_kept, found}
-
-abbrev Pods : Type 0
-Pods = List (Key × PodState)
-
-abbrev Claims : Type 0
-Claims = List (Key × ClaimState)
+use Rattle.ledger_core.proofs.Applying.{pod_unchanged}
+use Rattle.ledger_core.proofs.Claiming.{Fit, Pods, SameClaims, fit_now, keys_same, later_none}
+use Rattle.ledger_core.proofs.GoingOn.{Claims, In, changed_other, changed_there, granted, keys_granted, keys_in, same_or_not}
+use Rattle.ledger_core.proofs.Headlines.{at_places}
+use Rattle.ledger_core.proofs.Always.{always_state}
+use Rattle.ledger_core.proofs.Keyed.{AllAt, Once, Rising, all_changed, all_put, each_at, gone, in_contains, insert_other, once_changed, once_of, once_put, once_removed, passed, remove_other, removed_case, rising_changed, rising_inserted, rising_removed, some_same}
 
 abbrev Users : Type 0
 Users = List (Key × Use)
 
-abbrev All : Pods → Claims → Type 0
-All pods claims = EachOf (λ e. HasBusyUsers pods e.1) claims
+-- the pod is there, is taken or bound, and names the claim
+abbrev Uses : Pods → Key → Key → Type 0
+Uses pods claim pod = (p : PodState) × (at_key pods pod ≡ Some p) × (is_busy (Some p) ≡ true) × In claim (claims_of p)
 
--- ---- keys
+-- these users of the claim are in order, and each is such a pod
+abbrev UsersOf : Pods → Key → Users → Type 0
+UsersOf pods claim users = Rising users × ((pod : Key) → is_some (at_key users pod) ≡ true → Uses pods claim pod)
 
-text_from : (a b : List ℕ) → is_eq (text_cmp a b) ≡ true → a ≡ b
-text_from a b e = same_text a b (sym (texts_ties a b ∙ e))
+abbrev UserFits : Pods → Key → ClaimState → Type 0
+UserFits pods claim c = UsersOf pods claim c.users
 
-then_parts : (o p : Ordering) → is_eq (ordering_then o p) ≡ true → (is_eq o ≡ true) × (is_eq p ≡ true)
-then_parts Less p e = absurd (cc)
-then_parts Equal p e = (refl, e)
-then_parts Greater p e = absurd (cc)
+abbrev UsersFit : Pods → Claims → Type 0
+UsersFit pods claims = Once claims × AllAt (UserFits pods) claims
 
-key_of : (m n a b : List ℕ) → m ≡ n → a ≡ b → ◌≡◌ {A = Key} (record { namespace = m; name = a }) (record { namespace = n; name = b })
-key_of m n a b e f = cc
+-- ---- pods that stay users
 
-key_from : (a b : Key) → is_eq (key_cmp a b) ≡ true → a ≡ b
-key_from a b e =
-    let parts = then_parts (text_cmp a.namespace b.namespace) (text_cmp a.name b.name) e in
-    key_of a.namespace b.namespace a.name b.name (text_from a.namespace b.namespace parts.0) (text_from a.name b.name parts.1)
-
-some_same : {V : Type 0} (v w : V) → Some v ≡ Some w → v ≡ w
-some_same v w h = cc
-
--- ---- pods that stay busy
-
--- a pod that is busy there is busy here
+-- a pod that is a user there is one here
 abbrev Stays : Pods → Pods → Type 0
-Stays pods pods' = (pod : Key) → is_busy (at_key pods pod) ≡ true → is_busy (at_key pods' pod) ≡ true
+Stays pods pods' = (claim pod : Key) → Uses pods claim pod → Uses pods' claim pod
 
-set_by : (test other : Key → Bool) (b c : Bool) (e : Key × PodState) (es : Pods) (v w : PodState) → test e.0 ≡ b → other e.0 ≡ c → cond b (Some e.1) (lookup test es) ≡ Some v
-    → (is_busy (Some v) ≡ true → is_busy (Some w) ≡ true) → cond c (is_busy (Some e.1)) (is_busy (lookup other es)) ≡ true
-    → (lookup test es ≡ Some v → is_busy (lookup other es) ≡ true → is_busy (lookup other (set_value test es w)) ≡ true) → is_busy (lookup other (set_value test (e ∷ es) w)) ≡ true
-set_by test other true true e es v w is at there step busy later =
-    rw (is) (rw (at) (step (ap (λ (x : PodState). is_busy (Some x)) (sym (some_same e.1 v there)) ∙ busy)))
-set_by test other true false e es v w is at there step busy later = rw (is) (rw (at) busy)
-set_by test other false true e es v w is at there step busy later = rw (is) (rw (at) busy)
-set_by test other false false e es v w is at there step busy later = rw (is) (rw (at) (later there busy))
+all_stays : (pods pods' : Pods) (claims : Claims) → Stays pods pods' → UsersFit pods claims → UsersFit pods' claims
+all_stays pods pods' claims stays h = (h.0, λ k c at. let f = h.1 k c at in (f.0, λ pod is. stays k pod (f.1 pod is)))
 
-busy_by : (c : Bool) (e : Key × PodState) (o : Option PodState) → is_busy (cond c (Some e.1) o) ≡ true → cond c (is_busy (Some e.1)) (is_busy o) ≡ true
-busy_by true e o h = h
-busy_by false e o h = h
+-- another pod than the one whose phase changes
+other_phase : (pod : Key) (ph : Phase) (pods : Pods) (claim l : Key) → (l ≡ pod → ⊥) → Uses pods claim l → Uses (with_phase pod ph pods) claim l
+other_phase pod ph pods claim l differ u = (u.0, changed_other pod l (λ p. record p { phase = ph }) pods differ ∙ u.1, u.2, u.3)
 
-set_busy : (test other : Key → Bool) (es : Pods) (v w : PodState) → lookup test es ≡ Some v → (is_busy (Some v) ≡ true → is_busy (Some w) ≡ true) → is_busy (lookup other es) ≡ true
-    → is_busy (lookup other (set_value test es w)) ≡ true
-set_busy test other [] v w there step busy = absurd (cc)
-set_busy test other (e ∷ es) v w there step busy =
-    set_by test other (test e.0) (other e.0) e es v w refl refl there step (busy_by (other e.0) e (lookup other es) busy) (λ g b. set_busy test other es v w g step b)
+busy_by : (pod : Key) (ph : Phase) (pods : Pods) (claim l : Key) → (l ≡ pod) ⊎ (l ≡ pod → ⊥) → not (is_idle ph) ≡ true → Uses pods claim l → Uses (with_phase pod ph pods) claim l
+busy_by pod ph pods claim l (inl e) busy u =
+    let there : at_key pods pod ≡ Some u.0 = ap (at_key pods) (sym e) ∙ u.1 in
+    (record u.0 { phase = ph }, ap (at_key (with_phase pod ph pods)) e ∙ changed_there pod (λ p. record p { phase = ph }) pods u.0 there, busy, u.3)
+busy_by pod ph pods claim l (inr differ) busy u = other_phase pod ph pods claim l differ u
 
-changed_by : (key : Key) (f : PodState → PodState) (pods : Pods) (o : Option PodState) → at_key pods key ≡ o → ((p : PodState) → is_busy (Some p) ≡ true → is_busy (Some (f p)) ≡ true)
-    → Stays pods (option_map_or (λ p. set_value (is_at (key_cmp key)) pods (f p)) o pods)
-changed_by key f pods None is step = λ pod b. b
-changed_by key f pods (Some p) is step = λ pod b. set_busy (is_at (key_cmp key)) (is_at (key_cmp pod)) pods p (f p) is (step p) b
+busy_stays : (pod : Key) (ph : Phase) (pods : Pods) → not (is_idle ph) ≡ true → Stays pods (with_phase pod ph pods)
+busy_stays pod ph pods busy = λ claim l u. busy_by pod ph pods claim l (same_or_not (key_cmp l pod) l pod refl) busy u
 
-changed_stays : (key : Key) (f : PodState → PodState) (pods : Pods) → ((p : PodState) → is_busy (Some p) ≡ true → is_busy (Some (f p)) ≡ true) → Stays pods (changed_at key f pods)
-changed_stays key f pods step = changed_by key f pods (at_key pods key) refl step
+updated_by : (place : ℕ) (x : Pod) (pods : Pods) (p : PodState) (claim l : Key) → (l ≡ x.key) ⊎ (l ≡ x.key → ⊥) → at_key pods x.key ≡ Some p → claim_keys p.pod.object ≡ claim_keys x → Uses pods claim l
+    → Uses (changed_at x.key (updated_pod place x) pods) claim l
+updated_by place x pods p claim l (inl e) is keys u =
+    let same : u.0 ≡ p = some_same u.0 p (sym u.1 ∙ ap (at_key pods) e ∙ is) in
+    let named : In claim (claims_of p) = subst (λ (q : PodState). In claim (claims_of q)) same u.3 in
+    let busy : is_busy (Some p) ≡ true = subst (λ (q : PodState). is_busy (Some q) ≡ true) same u.2 in
+    (updated_pod place x p, ap (at_key (changed_at x.key (updated_pod place x) pods)) e ∙ changed_there x.key (updated_pod place x) pods p is, busy, subst (λ (ks : List Key). In claim (first_places [] ks)) keys named)
+updated_by place x pods p claim l (inr differ) is keys u = (u.0, changed_other x.key l (updated_pod place x) pods differ ∙ u.1, u.2, u.3)
 
-other_by : (b : Bool) (pods : Pods) (key pod : Key) → is_eq (key_cmp pod key) ≡ b → is_busy (at_key pods key) ≡ false → is_busy (at_key pods pod) ≡ true → b ≡ false
-other_by true pods key pod is idle busy =
-    let same : is_busy (at_key pods pod) ≡ is_busy (at_key pods key) = ap (λ k. is_busy (at_key pods k)) (key_from pod key is) in
-    absurd (let e : true ≡ false = sym busy ∙ same ∙ idle in cc)
-other_by false pods key pod is idle busy = refl
-
-insert_by : (o : Ordering) (c : Bool) (key pod : Key) (e : Key × PodState) (es : Pods) (w : PodState) → key_cmp key e.0 ≡ o → is_eq (key_cmp pod e.0) ≡ c → is_eq (key_cmp pod key) ≡ false
-    → cond c (is_busy (Some e.1)) (is_busy (at_key es pod)) ≡ true → (is_busy (at_key es pod) ≡ true → is_busy (at_key (insert_entry key_cmp es key w) pod) ≡ true)
-    → cond (is_eq o) (Some e.1) (at_key es key) ≡ None → is_busy (at_key (insert_entry key_cmp (e ∷ es) key w) pod) ≡ true
-insert_by Less true key pod e es w is at n busy later gone = rw (is) (rw (n) (rw (at) busy))
-insert_by Less false key pod e es w is at n busy later gone = rw (is) (rw (n) (rw (at) busy))
-insert_by Equal c key pod e es w is at n busy later gone = absurd (cc)
-insert_by Greater true key pod e es w is at n busy later gone = rw (is) (rw (at) busy)
-insert_by Greater false key pod e es w is at n busy later gone = rw (is) (rw (at) (later busy))
-
-gone_by : (o : Ordering) (e : Key × PodState) (es : Pods) (key : Key) → cond (is_eq o) (Some e.1) (at_key es key) ≡ None → at_key es key ≡ None
-gone_by Less e es key h = h
-gone_by Equal e es key h = absurd (cc)
-gone_by Greater e es key h = h
-
-insert_busy : (key pod : Key) (es : Pods) (w : PodState) → at_key es key ≡ None → is_eq (key_cmp pod key) ≡ false → is_busy (at_key es pod) ≡ true → is_busy (at_key (insert_entry key_cmp es key w) pod) ≡ true
-insert_busy key pod [] w gone n busy = absurd (cc)
-insert_busy key pod (e ∷ es) w gone n busy =
-    insert_by (key_cmp key e.0) (is_eq (key_cmp pod e.0)) key pod e es w refl refl n (busy_by (is_eq (key_cmp pod e.0)) e (at_key es pod) busy)
-    (λ b. insert_busy key pod es w (gone_by (key_cmp key e.0) e es key gone) n b) gone
-
-put_stays : (place : ℕ) (x : Pod) (pods : Pods) (o : Option PodState) → at_key pods x.key ≡ o → Stays pods (put_at x.key (new_pod place x) (updated_pod place x) pods o)
-put_stays place x pods None is =
-    λ pod b. insert_busy x.key pod pods (new_pod place x) is (other_by (is_eq (key_cmp pod x.key)) pods x.key pod refl (ap is_busy is) b) b
-put_stays place x pods (Some p) is = λ pod b. set_busy (is_at (key_cmp x.key)) (is_at (key_cmp pod)) pods p (updated_pod place x p) is (λ h. h) b
-
-remove_by : (b c : Bool) (key pod : Key) (e : Key × PodState) (es : Pods) → is_eq (key_cmp key e.0) ≡ b → is_eq (key_cmp pod e.0) ≡ c → (key ≡ pod → ⊥)
-    → cond c (is_busy (Some e.1)) (is_busy (at_key es pod)) ≡ true → (is_busy (at_key es pod) ≡ true → is_busy (at_key (remove_entry (is_at (key_cmp key)) es) pod) ≡ true)
-    → is_busy (at_key (remove_entry (is_at (key_cmp key)) (e ∷ es)) pod) ≡ true
-remove_by true true key pod e es is at n busy later = absurd (n (key_from key e.0 is ∙ sym (key_from pod e.0 at)))
-remove_by true false key pod e es is at n busy later = rw (is) busy
-remove_by false true key pod e es is at n busy later = rw (is) (rw (at) busy)
-remove_by false false key pod e es is at n busy later = rw (is) (rw (at) (later busy))
-
-remove_busy : (key pod : Key) (es : Pods) → (key ≡ pod → ⊥) → is_busy (at_key es pod) ≡ true → is_busy (at_key (remove_entry (is_at (key_cmp key)) es) pod) ≡ true
-remove_busy key pod [] n busy = busy
-remove_busy key pod (e ∷ es) n busy =
-    remove_by (is_eq (key_cmp key e.0)) (is_eq (key_cmp pod e.0)) key pod e es refl refl n (busy_by (is_eq (key_cmp pod e.0)) e (at_key es pod) busy) (λ b. remove_busy key pod es n b)
+put_stays : (place : ℕ) (x : Pod) (pods : Pods) (o : Option PodState) → at_key pods x.key ≡ o → ((p : PodState) → o ≡ Some p → claim_keys p.pod.object ≡ claim_keys x)
+    → Stays pods (put_at x.key (new_pod place x) (updated_pod place x) pods o)
+put_stays place x pods None is keys =
+    λ claim l u.
+    let differ : l ≡ x.key → ⊥ = λ e. let no : None ≡ Some u.0 = sym is ∙ ap (at_key pods) (sym e) ∙ u.1 in cc in
+    (u.0, insert_other x.key l pods (new_pod place x) differ ∙ u.1, u.2, u.3)
+put_stays place x pods (Some p) is keys =
+    subst (λ (o : Option PodState). Stays pods (option_map_or (λ v. set_value (is_at (key_cmp x.key)) pods (updated_pod place x v)) o pods)) is
+    (λ claim l u. updated_by place x pods p claim l (same_or_not (key_cmp l x.key) l x.key refl) is (keys p refl) u)
 
 remove_stays : (key : Key) (pods : Pods) → is_busy (at_key pods key) ≡ false → Stays pods (remove_entry (is_at (key_cmp key)) pods)
-remove_stays key pods idle = λ pod b. remove_busy key pod pods (λ (e : key ≡ pod). let f : true ≡ false = sym b ∙ ap (λ k. is_busy (at_key pods k)) (sym e) ∙ idle in cc) b
-
-all_stays : (pods pods' : Pods) (claims : Claims) → Stays pods pods' → All pods claims → All pods' claims
-all_stays pods pods' [] stays h = tt
-all_stays pods pods' (e ∷ es) stays h = (λ pod is. stays pod (h.0 pod is), all_stays pods pods' es stays h.1)
+remove_stays key pods idle =
+    λ claim l u.
+    let differ : l ≡ key → ⊥ = λ e. let no : true ≡ false = sym u.2 ∙ ap is_busy (sym u.1) ∙ ap (λ k. is_busy (at_key pods k)) e ∙ idle in cc in
+    (u.0, remove_other key l pods differ ∙ u.1, u.2, u.3)
 
 -- ---- users
 
-user_by : (o : Ordering) (c : Bool) (pod l : Key) (u : Use) (e : Key × Use) (es : Users) → key_cmp pod e.0 ≡ o → is_eq (key_cmp l e.0) ≡ c
-    → is_some (at_key (insert_entry key_cmp (e ∷ es) pod u) l) ≡ true → (is_some (at_key (insert_entry key_cmp es pod u) l) ≡ true → (l ≡ pod) ⊎ (is_some (at_key es l) ≡ true))
-    → (l ≡ pod) ⊎ (is_some (at_key (e ∷ es) l) ≡ true)
-user_by Less c pod l u e es is at h later = user_first (is_eq (key_cmp l pod)) pod l (e ∷ es) refl (rw (is) at h)
-  where
-    user_first : (b : Bool) (pod l : Key) (es : Users) → is_eq (key_cmp l pod) ≡ b → is_some (cond (is_eq (key_cmp l pod)) (Some u) (at_key es l)) ≡ true → (l ≡ pod) ⊎ (is_some (at_key es l) ≡ true)
-    user_first true pod l es is h = inl (key_from l pod is)
-    user_first false pod l es is h = inr (rw (is) at h)
-user_by Equal true pod l u e es is at h later = inr (rw (at) refl)
-user_by Equal false pod l u e es is at h later = inr (rw (at) (rw (at) at (rw (is) at h)))
-user_by Greater true pod l u e es is at h later = inr (rw (at) refl)
-user_by Greater false pod l u e es is at h later = ⊎_elim (λ (x : l ≡ pod). inl x) (λ (x : is_some (at_key es l) ≡ true). inr (rw (at) x)) (later (rw (at) at (rw (is) at h)))
-
-user_alone : (b : Bool) (pod l : Key) (u : Use) → is_eq (key_cmp l pod) ≡ b → is_some (cond b (Some u) None) ≡ true → l ≡ pod
-user_alone true pod l u is h = key_from l pod is
-user_alone false pod l u is h = absurd (cc)
+user_case : (us : Users) (pod l : Key) (u : Use) → (l ≡ pod) ⊎ (l ≡ pod → ⊥) → is_some (at_key (insert_entry key_cmp us pod u) l) ≡ true → (l ≡ pod) ⊎ (is_some (at_key us l) ≡ true)
+user_case us pod l u (inl e) h = inl e
+user_case us pod l u (inr differ) h = inr (ap is_some (sym (insert_other pod l us u differ)) ∙ h)
 
 -- one user more
-user_more : (us : Users) (pod l : Key) (u : Use) → is_some (at_key (insert_entry key_cmp us pod u) l) ≡ true → (l ≡ pod) ⊎ (is_some (at_key us l) ≡ true)
-user_more [] pod l u h = inl (user_alone (is_eq (key_cmp l pod)) pod l u refl h)
-user_more (e ∷ es) pod l u h = user_by (key_cmp pod e.0) (is_eq (key_cmp l e.0)) pod l u e es refl refl h (λ g. user_more es pod l u g)
-
-more_users : (pods : Pods) (pod : Key) (c : ClaimState) (u : Use) → is_busy (at_key pods pod) ≡ true → HasBusyUsers pods c → (l : Key) → is_some (at_key (insert_entry key_cmp c.users pod u) l) ≡ true → is_busy (at_key pods l) ≡ true
-more_users pods pod c u busy h l is =
-    ⊎_elim (λ (e : l ≡ pod). ap (λ k. is_busy (at_key pods k)) e ∙ busy) (λ (g : is_some (at_key c.users l) ≡ true). h l g) (user_more c.users pod l u is)
+more_users : (pods : Pods) (claim pod : Key) (us : Users) (u : Use) → Uses pods claim pod → UsersOf pods claim us → UsersOf pods claim (insert_entry key_cmp us pod u)
+more_users pods claim pod us u new h = (
+  rising_inserted pod us u h.0,
+  λ l is. ⊎_elim (λ (e : l ≡ pod). subst (λ (x : Key). Uses pods claim x) (sym e) new) (λ (g : is_some (at_key us l) ≡ true). h.1 l g)
+      (user_case us pod l u (same_or_not (key_cmp l pod) l pod refl) is),
+)
 
 written_set : (test other : Key → Bool) (b c : Bool) (e : Key × Use) (es : Users) (w : Use) → test e.0 ≡ b → other e.0 ≡ c → is_some (lookup other (set_value test es w)) ≡ is_some (lookup other es)
     → is_some (lookup other (set_value test (e ∷ es) w)) ≡ is_some (lookup other (e ∷ es))
@@ -209,104 +146,209 @@ written_users : (pod l : Key) (us : Users) (o : Option Use) → is_some (at_key 
 written_users pod l us None = refl
 written_users pod l us (Some x) = written_same (is_at (key_cmp pod)) (is_at (key_cmp l)) us Written
 
+-- the same users, one of them written
+marked : (pods : Pods) (claim pod : Key) (us : Users) → UsersOf pods claim us → UsersOf pods claim (changed_at pod (λ _. Written) us)
+marked pods claim pod us h = (rising_changed pod (λ _. Written) us h.0, λ l is. h.1 l (sym (written_users pod l us (at_key us pod)) ∙ is))
+
+left_case : (us : Users) (pod l : Key) → Once us → (l ≡ pod) ⊎ (l ≡ pod → ⊥) → is_some (at_key (without_user pod us) l) ≡ true → is_some (at_key us l) ≡ true
+left_case us pod l once (inl e) is =
+    absurd (let no : false ≡ true = sym (ap is_some (gone pod us once)) ∙ ap (λ k. is_some (at_key (without_user pod us) k)) (sym e) ∙ is in cc)
+left_case us pod l once (inr differ) is = ap is_some (sym (remove_other pod l us differ)) ∙ is
+
+-- one user less
+less_users : (pods : Pods) (claim pod : Key) (us : Users) → UsersOf pods claim us → UsersOf pods claim (without_user pod us)
+less_users pods claim pod us h =
+    (rising_removed (is_at (key_cmp pod)) us h.0, λ l is. h.1 l (left_case us pod l (once_of us h.0) (same_or_not (key_cmp l pod) l pod refl) is))
+
 -- ---- each change
 
-granted : (pods : Pods) (node : List ℕ) (pod : Key) (gs : List Grant) (claims : Claims) → is_busy (at_key pods pod) ≡ true → All pods claims → All pods (with_grants node pod gs claims)
-granted pods node pod [] claims busy h = h
-granted pods node pod (g ∷ gs) claims busy h =
-    granted pods node pod gs (with_grant node pod g.claim g.results claims) busy (changed (HasBusyUsers pods) g.claim _ claims h (λ c k. more_users pods pod c (Assumed c.claim.version) busy k))
+grants_fit : (pods : Pods) (node : List ℕ) (pod : Key) (gs : List Grant) (claims : Claims) → ((k : Key) → In k (map (λ g. g.claim) gs) → Uses pods k pod) → UsersFit pods claims
+    → UsersFit pods (with_grants node pod gs claims)
+grants_fit pods node pod [] claims new h = h
+grants_fit pods node pod (g ∷ gs) claims new h =
+    grants_fit pods node pod gs (with_grant node pod g.claim g.results claims) (λ k among. new k (inr among)) (
+      once_changed g.claim (granted node pod g) claims h.0,
+      all_changed (UserFits pods) (UserFits pods) g.claim (granted node pod g) claims h.1 (λ c there f. more_users pods g.claim pod c.users (Assumed c.claim.version) (new g.claim (inl refl)) f) (λ k c differ f. f),
+    )
 
-joined : (pods : Pods) (pod : Key) (ks : List Key) (claims : Claims) → is_busy (at_key pods pod) ≡ true → All pods claims → All pods (with_joins pod ks claims)
-joined pods pod [] claims busy h = h
-joined pods pod (k ∷ ks) claims busy h =
-    joined pods pod ks (changed_at k (joined_by pod) claims) busy (changed (HasBusyUsers pods) k _ claims h (λ c l. more_users pods pod c (Assumed c.claim.version) busy l))
+joins_fit : (pods : Pods) (pod : Key) (ks : List Key) (claims : Claims) → ((k : Key) → In k ks → Uses pods k pod) → UsersFit pods claims → UsersFit pods (with_joins pod ks claims)
+joins_fit pods pod [] claims new h = h
+joins_fit pods pod (j ∷ js) claims new h =
+    joins_fit pods pod js (changed_at j (joined_by pod) claims) (λ k among. new k (inr among)) (
+      once_changed j (joined_by pod) claims h.0,
+      all_changed (UserFits pods) (UserFits pods) j (joined_by pod) claims h.1 (λ c there f. more_users pods j pod c.users (Assumed c.claim.version) (new j (inl refl)) f) (λ k c differ f. f),
+    )
 
-no_users : (pods : Pods) (place : ℕ) (x : ResourceClaim) → HasBusyUsers pods (new_claim place x)
-no_users pods place x = λ pod is. absurd (cc)
+from_ungranted : (k l : Key) (c : ClaimState) (g : Option Granted) (cs : List ResourceClaim) → In k (keys_in (add_ungranted l c g cs)) → (l ≡ k) ⊎ In k (keys_in cs)
+from_ungranted k l c None cs h = h
+from_ungranted k l c (Some g) cs h = inr h
 
-claim_put : (pods : Pods) (place : ℕ) (x : ResourceClaim) (claims : Claims) (o : Option ClaimState) → at_key claims x.key ≡ o → All pods claims → All pods (put_at x.key (new_claim place x) (updated_claim place x) claims o)
-claim_put pods place x claims None is h = inserted (HasBusyUsers pods) key_cmp claims x.key (new_claim place x) h (no_users pods place x)
-claim_put pods place x claims (Some c) is h = set_kept (HasBusyUsers pods) (is_at (key_cmp x.key)) claims (updated_claim place x c) h (found (HasBusyUsers pods) (is_at (key_cmp x.key)) claims c h is)
+from_wanted : (k l : Key) (o : Option ClaimState) (cs : List ResourceClaim) → In k (keys_in (add_wanted l o cs)) → (l ≡ k) ⊎ In k (keys_in cs)
+from_wanted k l None cs h = inr h
+from_wanted k l (Some c) cs h = from_ungranted k l c c.grant cs h
 
-applied : (place : ℕ) (x : Object) (s : State) → UsersAreBusy s → UsersAreBusy (with_object place x s)
-applied place (object.Node x) s h = record { each = h.each }
-applied place (object.Slice x) s h = record { each = h.each }
-applied place (object.Class x) s h = record { each = h.each }
-applied place (object.Claim x) s h = record { each = claim_put s.pods place x s.claims (at_key s.claims x.key) refl h.each }
-applied place (object.Pod x) s h =
-    record { each = all_stays s.pods (with_object place (object.Pod x) s).pods s.claims (put_stays place x s.pods (at_key s.pods x.key) refl) h.each }
+-- a claim that is wanted is one of them
+wanted_in : (s : State) (ks : List Key) (k : Key) → In k (keys_in (wanted_of s ks)) → In k ks
+wanted_in s [] k h = h
+wanted_in s (l ∷ ls) k h = ⊎_elim (λ (e : l ≡ k). inl e) (λ (g : In k (keys_in (wanted_of s ls))). inr (wanted_in s ls k g)) (from_wanted k l (at_key s.claims l) (wanted_of s ls) h)
 
-later_none : (first later : Option Refusal) → or_else first later ≡ None → later ≡ None
-later_none None later e = e
-later_none (Some r) later e = absurd (cc)
+granted_own : (s : State) (pod : Key) (plan : Plan) (t : Holds s pod plan) (k : Key) → In k (map (λ g. g.claim) plan.grants) → In k (claims_of t.state)
+unfolding wanted
+granted_own s pod plan t k among =
+    let p = t.state.pod.object in
+    let grants : map (λ g. g.claim) plan.grants ≡ keys_in (wanted s p) = ap (λ gs. map (λ (g : Grant). g.claim) gs) t.allocation.cut ∙ keys_granted s (wanted s p) plan.node _ in
+    wanted_in s (claims_of t.state) k (subst (λ (ks : List Key). In k ks) grants among)
+
+joined_own : (s : State) (pod : Key) (plan : Plan) (t : Holds s pod plan) (k : Key) → In k plan.joins → In k (claims_of t.state)
+unfolding joined
+joined_own s pod plan t k among =
+    (passed (λ l. has_grant (at_key s.claims l)) (claims_of t.state) k (subst (λ (ks : List Key). In k ks) t.joins among)).0
+
+reserved : (s : State) (job : ℕ) (pod : Key) (plan : Plan) → Holds s pod plan → UsersFit s.pods s.claims → UsersFit (with_reserved job pod plan s).pods (with_reserved job pod plan s).claims
+reserved s job pod plan t h =
+    let ph : Phase = phase.Taken job plan.node in
+    let pods' : Pods = with_phase pod ph s.pods in
+    let p : PodState = t.state in
+    let use_of : (k : Key) → In k (claims_of p) → Uses pods' k pod =
+    λ k among. (record p { phase = ph }, changed_there pod (λ q. record q { phase = ph }) s.pods p t.idle.there, refl, among) in
+    joins_fit pods' pod plan.joins (with_grants plan.node pod plan.grants s.claims) (λ k among. use_of k (joined_own s pod plan t k among))
+    (grants_fit pods' plan.node pod plan.grants s.claims (λ k among. use_of k (granted_own s pod plan t k among))
+    (all_stays s.pods pods' s.claims (busy_stays pod ph s.pods refl) h))
+
+applied : SameClaims → (place : ℕ) (x : Object) (m : Mode) (s : State) → first_refusal s (Apply x m) ≡ None → Fit s → UsersFit s.pods s.claims → UsersFit (with_object place x s).pods (with_object place x s).claims
+applied law place (object.Node x) m s free fit h = h
+applied law place (object.Slice x) m s free fit h = h
+applied law place (object.Class x) m s free fit h = h
+applied law place (object.Claim x) m s free fit h = (
+  once_put x.key (new_claim place x) (updated_claim place x) s.claims h.0,
+  all_put (UserFits s.pods) x.key (new_claim place x) (updated_claim place x) s.claims h.1 (λ none. (tt, λ pod is. absurd (cc))) (λ c there f. f),
+)
+applied law place (object.Pod x) m s free fit h =
+    all_stays s.pods _ s.claims
+    (put_stays place x s.pods (at_key s.pods x.key) refl (λ p there. keys_same p.pod.object x (fit.1 x.key p there).0 ((law p.pod.object x).0 (pod_unchanged s x m p free there)))) h
 
 idle_by : (b c : Bool) → when (b || c) InUse ≡ None → b ≡ false
 idle_by true c e = absurd (cc)
 idle_by false c e = refl
 
-idle_of : (s : State) (key : Key) → first_refusal s (Delete (target.Pod key)) ≡ None → is_busy (at_key s.pods key) ≡ false
+pub idle_of : (s : State) (key : Key) → first_refusal s (Delete (target.Pod key)) ≡ None → is_busy (at_key s.pods key) ≡ false
 idle_of s key e = idle_by (is_busy (at_key s.pods key)) (is_user s key) (later_none (when (not (is_found s (target.Pod key))) NotFound) (when (is_in_use s (target.Pod key)) InUse) e)
 
-deleted : (t : Target) (s : State) → first_refusal s (Delete t) ≡ None → UsersAreBusy s → UsersAreBusy (without_object t s)
-deleted (target.Node name) s e h = record { each = h.each }
-deleted (target.Slice name) s e h = record { each = h.each }
-deleted (target.Class name) s e h = record { each = h.each }
-deleted (target.Claim key) s e h = record { each = removed (HasBusyUsers s.pods) (is_at (key_cmp key)) s.claims h.each }
-deleted (target.Pod key) s e h = record { each = all_stays s.pods (without_object (target.Pod key) s).pods s.claims (remove_stays key s.pods (idle_of s key e)) h.each }
+deleted : (t : Target) (s : State) → first_refusal s (Delete t) ≡ None → UsersFit s.pods s.claims → UsersFit (without_object t s).pods (without_object t s).claims
+deleted (target.Node name) s e h = h
+deleted (target.Slice name) s e h = h
+deleted (target.Class name) s e h = h
+deleted (target.Claim key) s e h = (once_removed (is_at (key_cmp key)) s.claims h.0, λ k c at. h.1 k c (removed_case key k s.claims c h.0 at).1)
+deleted (target.Pod key) s e h = all_stays s.pods _ s.claims (remove_stays key s.pods (idle_of s key e)) h
 
-reserved : (s : State) (job : ℕ) (pod : Key) (plan : Plan) (p : PodState) → at_key s.pods pod ≡ Some p → UsersAreBusy s → UsersAreBusy (with_reserved job pod plan s)
-reserved s job pod plan p there h =
-    let pods' : Pods = with_phase pod (phase.Taken job plan.node) s.pods in
-    let stays : Stays s.pods pods' = changed_stays pod (λ q. record q { phase = phase.Taken job plan.node }) s.pods (λ q b. refl) in
-    let busy : is_busy (at_key pods' pod) ≡ true = ap is_busy (changed_there pod (λ q. record q { phase = phase.Taken job plan.node }) s.pods p there) in
-    record { each = joined pods' pod plan.joins (with_grants plan.node pod plan.grants s.claims) busy (granted pods' plan.node pod plan.grants s.claims busy (all_stays s.pods pods' s.claims stays h.each)) }
+written : (place : ℕ) (pod claim : Key) (s : State) → UsersFit s.pods s.claims → UsersFit s.pods (with_written place pod claim s).claims
+written place pod claim s h = (
+  once_changed claim (written_by place pod) s.claims h.0,
+  all_changed (UserFits s.pods) (UserFits s.pods) claim (written_by place pod) s.claims h.1 (λ c there f. marked s.pods claim pod c.users f) (λ k c differ f. f),
+)
 
-written : (place : ℕ) (pod claim : Key) (s : State) → UsersAreBusy s → UsersAreBusy (with_written place pod claim s)
-written place pod claim s h =
-    record { each = changed (HasBusyUsers s.pods) claim _ s.claims h.each (λ c k l is. k l (sym (written_users pod l c.users (at_key c.users pod)) ∙ is)) }
+adopted : (place : ℕ) (claim : Key) (status : ClaimStatus) (s : State) → UsersFit s.pods s.claims → UsersFit s.pods (with_adopted place claim status s).claims
+adopted place claim status s h = (
+  once_changed claim (adopted_by place status) s.claims h.0,
+  all_changed (UserFits s.pods) (UserFits s.pods) claim (adopted_by place status) s.claims h.1 (λ c there f. f) (λ k c differ f. f),
+)
 
-bound : (pod : Key) (node : List ℕ) (s : State) → UsersAreBusy s → UsersAreBusy (record s { pods = with_phase pod (phase.Bound node) s.pods })
-bound pod node s h = record { each = all_stays s.pods (with_phase pod (phase.Bound node) s.pods) s.claims (changed_stays pod (λ q. record q { phase = phase.Bound node }) s.pods (λ q b. refl)) h.each }
+-- ---- a pod's uses taken away
 
-busy_after : (before : List Entry) (place job : ℕ) (event : Event) → MayStand before job event → UsersAreBusy (state_of before) → UsersAreBusy (after place job event (state_of before))
-busy_after before place job (Applied object mode) may h = applied place object (state_of before) h
-busy_after before place job (Deleted t) may h = deleted t (state_of before) may.unrefused h
-busy_after before place job (Reserved pod plan) may h = reserved (state_of before) job pod plan may.holds_now.state may.holds_now.idle.there h
-busy_after before place job (Wrote pod claim seen) may h = written place pod claim (state_of before) h
-busy_after before place job (Bound pod node) may h = bound pod node (state_of before) h
-busy_after before place job (Judged pod verdict) may h = h
-busy_after before place job (Denied command refusal) may h = h
+-- the claim fits, and the pod is no user of it where it is one of these
+abbrev Gone : (Key → Type 0) → Pods → Key → Key → ClaimState → Type 0
+Gone G pods pod k c = UserFits pods k c × (G k → at_key c.users pod ≡ None)
 
-busy_along : (before es : List Entry) → LegalAfter before es → UsersAreBusy (state_of before) → UsersAreBusy (state_of (before ++ es))
-unfolding LegalAfter
-busy_along before [] legal h = subst (λ (xs : List Entry). UsersAreBusy (state_of xs)) (sym (append-nil before)) h
-busy_along before (e ∷ es) legal h =
-    let next : UsersAreBusy (state_of (before ++ e ∷ [])) =
-    subst (λ (s : State). UsersAreBusy s) (sym (state_of-more before e)) (busy_after before (length before + 1) e.job e.event legal.0.stands h) in
-    subst (λ (xs : List Entry). UsersAreBusy (state_of xs)) (append_assoc before (e ∷ []) es) (busy_along (before ++ e ∷ []) es legal.1 next)
+freed_one : (place : ℕ) (pods : Pods) (pod claim : Key) (c : ClaimState) (o : Option Use) → at_key c.users pod ≡ o → UserFits pods claim c
+    → UserFits pods claim (freed_by place pod o c) × (at_key (freed_by place pod o c).users pod ≡ None)
+freed_one place pods pod claim c None is h = (h, is)
+freed_one place pods pod claim c (Some u) is h = (less_users pods claim pod c.users h, gone pod c.users (once_of c.users h.0))
 
-busy_first : UsersAreBusy empty_state
-busy_first = record { each = tt }
+freed_each : (G : Key → Type 0) (place : ℕ) (pods : Pods) (pod : Key) (ks : List Key) (claims : Claims) → Once claims → AllAt (Gone G pods pod) claims
+    → Once (with_freed place pod ks claims) × AllAt (Gone (λ k. G k ⊎ In k ks) pods pod) (with_freed place pod ks claims)
+freed_each G place pods pod [] claims once h =
+    (once, λ k c at. let f = h k c at in (f.0, λ g. ⊎_elim (λ (x : G k). f.1 x) (λ n. absurd n) g))
+freed_each G place pods pod (j ∷ js) claims once h =
+    let H : Key → Type 0 = λ k. G k ⊎ (j ≡ k) in
+    let next : Claims = changed_at j (freed place pod) claims in
+    let step : AllAt (Gone H pods pod) next =
+    all_changed (Gone G pods pod) (Gone H pods pod) j (freed place pod) claims h
+    (λ c there f. let r = freed_one place pods pod j c (at_key c.users pod) refl f.0 in (r.0, λ g. r.1))
+    (λ k c differ f. (f.0, λ g. ⊎_elim (λ (x : G k). f.1 x) (λ (e : j ≡ k). absurd (differ (sym e))) g)) in
+    let rest = freed_each H place pods pod js next (once_changed j (freed place pod) claims once) step in
+    (rest.0, λ k c at. let f = rest.1 k c at in (f.0, λ g. f.1 (⊎_elim (λ (x : G k). inl (inl x)) (λ (y : (j ≡ k) ⊎ In k js). ⊎_elim (λ (e : j ≡ k). inl (inr e)) (λ (i : In k js). inr i) y) g)))
 
-pub busy_now : (h : List Entry) → Legal h → UsersAreBusy (state_of h)
-unfolding Legal
-busy_now h legal = busy_along [] h legal (subst (λ (s : State). UsersAreBusy s) (sym state_of-empty) busy_first)
+named_by : (claim : Key) (pods : Pods) (pod : Key) (o : Option PodState) → at_key pods pod ≡ o → Uses pods claim pod → In claim (claims_by o)
+named_by claim pods pod None is u = absurd (let no : None ≡ Some u.0 = sym is ∙ u.1 in cc)
+named_by claim pods pod (Some p) is u = subst (λ (q : PodState). In claim (claims_of q)) (some_same u.0 p (sym u.1 ∙ is)) u.3
 
-pub busy_at : (h : List Entry) (place : ℕ) → Legal h → UsersAreBusy (state_at h place)
-busy_at h place legal =
-    busy_now (take place h) (front_legal (take place h) (drop place h) (subst (λ (xs : List Entry). Legal xs) (sym (take-append-drop place h)) legal))
+-- since a pod names each claim that it uses, none has it as a user once those that it names have not
+none_left : (pods : Pods) (claim pod l : Key) (c : ClaimState) → (l ≡ pod) ⊎ (l ≡ pod → ⊥) → UserFits pods claim c → (In claim (claims_by (at_key pods pod)) → at_key c.users pod ≡ None)
+    → is_some (at_key c.users l) ≡ true → Uses (with_phase pod phase.Idle pods) claim l
+none_left pods claim pod l c (inl e) f none is =
+    let user : is_some (at_key c.users pod) ≡ true = ap (λ k. is_some (at_key c.users k)) (sym e) ∙ is in
+    let free : at_key c.users pod ≡ None = none (named_by claim pods pod (at_key pods pod) refl (f.1 pod user)) in
+    absurd (let no : false ≡ true = sym (ap is_some free) ∙ user in cc)
+none_left pods claim pod l c (inr differ) f none is = other_phase pod phase.Idle pods claim l differ (f.1 l is)
+
+unused_again : (place : ℕ) (pod : Key) (s : State) → UsersFit s.pods s.claims → UsersFit (without_uses place pod s).pods (without_uses place pod s).claims
+unused_again place pod s h =
+    let ks : List Key = claims_by (at_key s.pods pod) in
+    let r = freed_each (λ k. ⊥) place s.pods pod ks s.claims h.0 (λ k c at. (h.1 k c at, λ n. absurd n)) in (
+      r.0,
+      λ k c at. let f = r.1 k c at in (f.0.0, λ l is. none_left s.pods k pod l c (same_or_not (key_cmp l pod) l pod refl) f.0 (λ among. f.1 (inr among)) is),
+    )
+
+-- ---- histories
+
+fits_after : SameClaims → (before : List Entry) (place job : ℕ) (event : Event) → MayStand before job event → Fit (state_of before) → UsersFit (state_of before).pods (state_of before).claims
+    → UsersFit (after place job event (state_of before)).pods (after place job event (state_of before)).claims
+fits_after law before place job (Applied x m) may fit h = applied law place x m (state_of before) may.unrefused fit h
+fits_after law before place job (Deleted t) may fit h = deleted t (state_of before) may.unrefused h
+fits_after law before place job (Reserved pod plan) may fit h = reserved (state_of before) job pod plan may.holds_now h
+fits_after law before place job (Refused pod plan why) may fit h = h
+fits_after law before place job (Wrote pod claim seen) may fit h = written place pod claim (state_of before) h
+fits_after law before place job (Conflict pod claim had now) may fit h = h
+fits_after law before place job (Unreserved pod) may fit h = unused_again place pod (state_of before) h
+fits_after law before place job (Bound pod node) may fit h =
+    all_stays (state_of before).pods _ (state_of before).claims (busy_stays pod (phase.Bound node) (state_of before).pods refl) h
+fits_after law before place job (Judged pod verdict) may fit h = h
+fits_after law before place job (Contended pod attempts) may fit h = h
+fits_after law before place job (Released pod) may fit h = unused_again place pod (state_of before) h
+fits_after law before place job (Adopted claim status) may fit h = adopted place claim status (state_of before) h
+fits_after law before place job (Denied command refusal) may fit h = h
+
+fits_first : UsersFit empty_state.pods empty_state.claims
+fits_first = (tt, λ k c is. absurd (cc))
+
+fits_now : SameClaims → (h : List Entry) → Legal h → UsersFit (state_of h).pods (state_of h).claims
+fits_now law h legal =
+    always_state (λ s. UsersFit s.pods s.claims) fits_first (λ g e l s p. fits_after law g (length g + 1) e.job e.event s.stands (fit_now law g l) p) h legal
+
+busy_of : (s : State) → UsersFit s.pods s.claims → UsersAreBusy s
+busy_of s h = record {
+  each = each_at (λ k c. HasBusyUsers s.pods k c) s.claims h.0
+      (λ k c at pod is. let u = (h.1 k c at).1 pod is in record { state = u.0; there = u.1; busy = u.2; named = in_contains k (claims_of u.0) u.3 });
+}
+
+pub busy_now : SameClaims → (h : List Entry) → Legal h → UsersAreBusy (state_of h)
+busy_now law h legal = busy_of (state_of h) (fits_now law h legal)
+
+pub busy_at : SameClaims → (h : List Entry) (place : ℕ) → Legal h → UsersAreBusy (state_at h place)
+busy_at law h place legal = at_places UsersAreBusy (busy_now law) h place legal
 
 -- ---- a pod that is neither taken nor bound is no user
 
-none_by : (b : Bool) (pods : List (Key × PodState)) (c : ClaimState) (pod : Key) → is_some (at_key c.users pod) ≡ b → is_busy (at_key pods pod) ≡ false → HasBusyUsers pods c → b ≡ false
-none_by true pods c pod is idle h = absurd (let busy = h pod is in cc)
-none_by false pods c pod is idle h = refl
+none_by : (b : Bool) (pods : Pods) (claim pod : Key) (c : ClaimState) → is_some (at_key c.users pod) ≡ b → is_busy (at_key pods pod) ≡ false → HasBusyUsers pods claim c → b ≡ false
+none_by true pods claim pod c is idle h =
+    let u = h pod is in
+    absurd (let no : true ≡ false = sym u.busy ∙ ap is_busy (sym u.there) ∙ idle in cc)
+none_by false pods claim pod c is idle h = refl
 
-none_in : (pods : List (Key × PodState)) (claims : List (Key × ClaimState)) (pod : Key) → is_busy (at_key pods pod) ≡ false → EachOf (λ e. HasBusyUsers pods e.1) claims
-    → list_any (λ e. is_some (at_key e.1.users pod)) claims ≡ false
+none_in : (pods : Pods) (claims : Claims) (pod : Key) → is_busy (at_key pods pod) ≡ false → EachOf (λ e. HasBusyUsers pods e.0 e.1) claims → list_any (λ e. is_some (at_key e.1.users pod)) claims ≡ false
 none_in pods [] pod idle h = refl
 none_in pods (e ∷ es) pod idle h =
-    ap (λ b. b || list_any (λ x. is_some (at_key x.1.users pod)) es) (none_by (is_some (at_key e.1.users pod)) pods e.1 pod refl idle h.0) ∙ none_in pods es pod idle h.1
+    ap (λ b. b || list_any (λ x. is_some (at_key x.1.users pod)) es) (none_by (is_some (at_key e.1.users pod)) pods e.0 pod e.1 refl idle h.0) ∙ none_in pods es pod idle h.1
 
-pub idle_now : (h : List Entry) (pod : Key) → Legal h → is_busy (at_key (state_of h).pods pod) ≡ false → is_user (state_of h) pod ≡ false
-idle_now h pod legal idle = none_in (state_of h).pods (state_of h).claims pod idle (busy_now h legal).each
+pub idle_now : SameClaims → (h : List Entry) (pod : Key) → Legal h → is_busy (at_key (state_of h).pods pod) ≡ false → is_user (state_of h) pod ≡ false
+idle_now law h pod legal idle = none_in (state_of h).pods (state_of h).claims pod idle (busy_now law h legal).each

@@ -6,6 +6,7 @@ use Rattle.cluster.specs.declared.entry.Event.TheVariants.{Denied}
 use Rattle.cluster.specs.declared.entry.Outcome.TheVariants as outcome
 use Rattle.cluster.specs.declared.entry.Refusal.{Refusal}
 use Rattle.cluster.specs.declared.state.PodState.{PodState}
+use Rattle.cluster.specs.declared.state.State.{State}
 use Rattle.cluster.specs.Denied.{first_refusal}
 use Rattle.cluster.specs.History.{state_of}
 use Rattle.alloc_rules.specs.Plans.{IsIdle}
@@ -13,6 +14,7 @@ use Rattle.ledger_core.specs.declared.ledger.Done.{Done}
 use Rattle.ledger_core.specs.declared.ledger.Start.{Start}
 use Rattle.ledger_core.specs.declared.ledger.Start.TheVariants as start
 use Rattle.ledger_core.specs.Ledger.{History, appended}
+use Rattle.ledger_core.specs.Snapshot.{Seen}
 
 -- the command is denied by the first of its refusals that holds
 pub record IsDenied (old new : History) (job : ℕ) (pod : Key) (done : Done) : Type 0 where
@@ -22,14 +24,16 @@ pub record IsDenied (old new : History) (job : ℕ) (pod : Key) (done : Done) : 
   pub place : done.place ≡ length new.entries
   pub outcome : done.outcome ≡ outcome.Denied
 
--- none holds: the pod is there and Idle, and nothing changed; so many entries stand in the history
-pub record IsSeen (old new : History) (pod : Key) (at : ℕ) : Type 0 where
+-- None holds: the pod is there and Idle, and nothing changed. The snapshot is of the present state, and of the number of
+-- entries.
+pub record IsSeen (old new : History) (pod : Key) (seen : Seen) : Type 0 where
   pub unrefused : first_refusal (state_of old.entries) (Schedule pod) ≡ None
   pub same : new ≡ old
-  pub place : at ≡ length old.entries
+  pub place : seen.at ≡ length old.entries
+  pub state_is : seen.state ≡ state_of old.entries
   pub state : PodState
   pub idle : IsIdle (state_of old.entries) pod state
 
 abbrev pub Begins : History → History → ℕ → Key → Start → Type 0
 Begins old new job pod (start.Denied done) = IsDenied old new job pod done
-Begins old new job pod (start.Seen at) = IsSeen old new pod at
+Begins old new job pod (start.Seen seen) = IsSeen old new pod seen

@@ -1,8 +1,9 @@
 -- What a legal history says of its grants and its verdicts.
-use Rattle.std.specs.Prelude.{ℕ, ◌≡◌, ◌≢◌, ◌≤◌, ◌<◌, false, List, None, Some, Contains, length, take}
+use Rattle.std.specs.Prelude.{ℕ, ◌≡◌, ◌≢◌, ◌≤◌, ◌<◌, false, List, [], ◌∷◌, None, Some, Contains, length, take}
 use Rattle.std.specs.Map.{keys_of}
 use Rattle.walk.specs.Walk.{Item, Part}
 use Rattle.object_fields.specs.declared.key.Key.{Key}
+use Rattle.api_claim.specs.declared.types.ClaimStatus.{ClaimStatus}
 use Rattle.api_cluster.specs.declared.types.Pod.{Pod}
 use Rattle.cluster.specs.declared.state.ClaimState.{ClaimState}
 use Rattle.cluster.specs.declared.state.Granted.{Granted}
@@ -25,6 +26,7 @@ use Rattle.allocations.specs.Input.{walk_on}
 use Rattle.allocations.specs.Allocation.{IsAllocation}
 use Rattle.allocations.specs.Outcomes.{IsFault}
 use Rattle.alloc_rules.specs.Plans.{nodes_of}
+use Rattle.plan_check.specs.Failing.{granted_by}
 use Rattle.cluster.specs.declared.entry.Entry.{Entry}
 use Rattle.cluster.specs.History.{state_at, state_of}
 
@@ -37,6 +39,14 @@ pub record IsGrantOf (before : List Entry) (pod : Key) (plan : Plan) : Type 0 wh
   pub joins : plan.joins ≡ joined (state_of before) state.pod.object
   pub choice : List ℕ
   pub allocation : IsAllocation (state_of before) (wanted (state_of before) state.pod.object) plan.node choice plan.grants
+
+-- The status's grant is an allocation of the claim, which is there without a grant, in the state after these entries.
+pub record IsAdoptionOf (before : List Entry) (claim : Key) (status : ClaimStatus) : Type 0 where
+  pub state : ClaimState
+  pub there : at_key (state_of before).claims claim ≡ Some state
+  pub free : state.grant ≡ None
+  pub choice : List ℕ
+  pub allocation : IsAllocation (state_of before) (record state.claim.object { key = claim } ∷ []) status.node choice (granted_by claim status ∷ [])
 
 -- ---- what causes say
 

@@ -6,6 +6,8 @@ use Rattle.std.specs.Option.{unwrap_or}
 use Rattle.std.specs.Ordering.{nat_cmp}
 use Rattle.cluster.specs.declared.entry.Stand.{Stand}
 use Rattle.cluster.specs.declared.entry.Stand.TheVariants.{Fresh}
+use Rattle.counter_sets.specs.Holding.{AreHeld, Holders}
+use Rattle.cluster.specs.Held.{held}
 use Rattle.cluster.specs.declared.state.State.{State}
 use Rattle.cluster.specs.declared.entry.Entry.{Entry}
 use Rattle.cluster.specs.declared.entry.Event.{Event}
@@ -29,10 +31,11 @@ at table n = lookup (is_at (nat_cmp n)) table
 abbrev pub stand_in : List (ℕ × Stand) → ℕ → Stand
 stand_in stands job = unwrap_or (at stands job) Fresh
 
--- the entries are a legal history, and the state and each job's stand are those after them
-pub record IsKept (entries : List Entry) (state : State) (stands : List (ℕ × Stand)) (limit : ℕ) : Type 0 where
+-- the entries are a legal history, and the state, its holders and each job's stand are those after them
+pub record IsKept (entries : List Entry) (state : State) (holders : Holders) (stands : List (ℕ × Stand)) (limit : ℕ) : Type 0 where
   pub legal : Legal entries
   pub state_is : state ≡ state_of entries
+  pub holders_are : AreHeld holders (held state)
   pub stands_are : (job : ℕ) → stand_in stands job ≡ stand_of entries job
   pub within : length entries ≤ limit
   pub small : limit < 2 ^ 48

@@ -1,5 +1,5 @@
 -- The users of claims.
-use Rattle.std.specs.Prelude.{ℕ, ◌≡◌, true, List, Some, is_some}
+use Rattle.std.specs.Prelude.{ℕ, ◌≡◌, true, List, Some, Contains, is_some}
 use Rattle.std.specs.List.{list_all}
 use Rattle.api_claim.specs.Limits.{EachOf}
 use Rattle.object_fields.specs.declared.key.Key.{Key}
@@ -11,13 +11,20 @@ use Rattle.cluster.specs.declared.state.Phase.TheVariants.{Bound}
 use Rattle.cluster.specs.Denied.{is_busy}
 use Rattle.cluster.specs.State.{claims_of, has_written, use_in}
 
--- each user of the claim is one of these pods, and is taken or bound
-abbrev pub HasBusyUsers : List (Key × PodState) → ClaimState → Type 0
-HasBusyUsers pods c = (pod : Key) → is_some (at_key c.users pod) ≡ true → is_busy (at_key pods pod) ≡ true
+-- the pod is there, is taken or bound, and names the claim
+pub record IsUserOf (pods : List (Key × PodState)) (claim pod : Key) : Type 0 where
+  pub state : PodState
+  pub there : at_key pods pod ≡ Some state
+  pub busy : is_busy (Some state) ≡ true
+  pub named : Contains (claims_of state) claim
 
--- each user of a claim is a pod that is taken or bound
+-- each user of the claim is one of these pods, is taken or bound, and names the claim
+abbrev pub HasBusyUsers : List (Key × PodState) → Key → ClaimState → Type 0
+HasBusyUsers pods claim c = (pod : Key) → is_some (at_key c.users pod) ≡ true → IsUserOf pods claim pod
+
+-- each user of a claim is a pod that is taken or bound, and names the claim
 pub record UsersAreBusy (s : State) : Type 0 where
-  pub each : EachOf (λ e. HasBusyUsers s.pods e.1) s.claims
+  pub each : EachOf (λ e. HasBusyUsers s.pods e.0 e.1) s.claims
 
 -- the pod stands at its own key; where it is taken or bound, each of its claims has it as a user, and where it is
 -- bound, each of its uses is written

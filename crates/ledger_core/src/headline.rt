@@ -1,27 +1,32 @@
-ghost use Rattle.std.specs.Prelude.{◌≡◌, ◌≢◌, ◌++◌, ◌∷◌, [], ℕ, List, true, false};
+ghost use Rattle.std.specs.Prelude.{◌≡◌, ◌≢◌, ◌++◌, ◌∷◌, [], ℕ, List, Contains, Some, true, false};
 ghost use Rattle.object_fields.specs.declared.key.Key.{Key};
 ghost use Rattle.cluster.specs.declared.plan.Plan.{Plan};
 ghost use Rattle.cluster.specs.declared.plan.Verdict.{Verdict};
 ghost use Rattle.cluster.specs.Held.{HeldOnce};
 ghost use Rattle.cluster.specs.declared.entry.Command.{Command};
-ghost use Rattle.cluster.specs.declared.entry.Command.TheVariants.{Schedule};
+ghost use Rattle.cluster.specs.declared.entry.Command.TheVariants.{Release, Schedule};
 ghost use Rattle.cluster.specs.declared.entry.Refusal.{Refusal};
 ghost use Rattle.cluster.specs.declared.entry.Refusal.TheVariants.{Busy};
-ghost use Rattle.cluster.specs.Stand.{has_reserved};
+ghost use Rattle.cluster.specs.declared.state.PodState.{PodState};
+ghost use Rattle.cluster.specs.State.{claims_of};
+ghost use Rattle.api_claim.specs.declared.types.ClaimStatus.{ClaimStatus};
+ghost use Rattle.ledger_core.specs.Owners.{has_pod, pod_in};
+ghost use Rattle.ledger_core.specs.Wrote.{IsTaken};
 ghost use Rattle.cluster.specs.declared.entry.Entry.{Entry};
 ghost use Rattle.cluster.specs.declared.entry.Event.{Event};
 ghost use Rattle.cluster.specs.History.{stand_of, state_at, state_of};
 ghost use Rattle.ledger_core.specs.Legal.{Legal, Step};
 ghost use Rattle.ledger_core.specs.Denied.{MayDeny};
-ghost use Rattle.ledger_core.specs.Headline.{IsGrantOf, IsVerdictOf};
+ghost use Rattle.ledger_core.specs.Headline.{IsAdoptionOf, IsGrantOf, IsVerdictOf};
 ghost use Rattle.ledger_core.specs.Limits.{ObjectsKept};
 ghost use Rattle.ledger_core.specs.Users.{PodsUseClaims, UsersAreBusy};
 ghost use Rattle.cluster.specs.Denied.{is_busy, is_user};
 ghost use Rattle.pool_view.specs.Names.{at_key};
 
 use alloc_rules::one_holder_is_kept;
-use allocations::budget_is_true;
+use allocations::{budget_is_true, grants_hold_once};
 use cluster::same_is_equal;
+use plan_check::checked_is_allocation;
 
 /// Each entry of a legal history may follow the entries before it, and each front of a legal history
 /// is legal.
@@ -51,9 +56,10 @@ pub fn verdicts_are_true()
 }
 
 /// If a legal history denies a command, its refusal is the first that holds of the command in the
-/// state before the denial, in the order of `State::first_refusal`. If it denies a document for an error, the error isn't out of memory; that the document
-/// has this error isn't said here, since a history holds no documents. The state after a denial is the
-/// one before it.
+/// state before the denial, in the order of `State::first_refusal`; of a status write of which none of
+/// these holds it is the first failure of its grant. If a document is denied for an error, the error isn't
+/// out of memory; that the document has this error isn't said here, since a history holds no documents.
+/// The state after a denial is the one before it.
 pub fn denials_change_nothing()
     ensures due { (front back : List Entry) (job : ℕ) (command : Command) (refusal : Refusal) →
         Legal (front ++ record { job = job; event = Event.Denied command refusal } ∷ back) → MayDeny (state_of front) command refusal }
@@ -61,21 +67,53 @@ pub fn denials_change_nothing()
         state_of (front ++ record { job = job; event = Event.Denied command refusal } ∷ []) ≡ state_of front }
 {}
 
-/// If a legal history denies a Schedule because a job has taken its pod, that job has reserved, and it
-/// isn't the one that is denied.
+/// If a legal history denies a Schedule or a Release because a job has taken its pod, that job has it,
+/// and it isn't the one that is denied.
 pub fn busy_is_another()
-    ensures { (front back : List Entry) (job holder : ℕ) (pod : Key) →
+    ensures schedule { (front back : List Entry) (job holder : ℕ) (pod : Key) →
         Legal (front ++ record { job = job; event = Event.Denied (Schedule pod) (Busy holder) } ∷ back) →
-        (has_reserved (stand_of front holder) ≡ true) × (holder ≢ job) }
+        (has_pod (stand_of front holder) ≡ true) × (holder ≢ job) }
+    ensures release { (front back : List Entry) (job holder : ℕ) (pod : Key) →
+        Legal (front ++ record { job = job; event = Event.Denied (Release pod) (Busy holder) } ∷ back) →
+        (has_pod (stand_of front holder) ≡ true) × (holder ≢ job) }
 {}
 
-/// Each user of a claim is a pod that is taken or bound, after a legal history and at each place of
-/// it: a pod that is Idle uses no claim.
+/// A pod that a job reserved, and neither bound nor gave up, is taken by that job after a legal history,
+/// whatever other jobs have done since: where all entries of the job are of the pod, and the job has a
+/// pod, this one is taken by it.
+pub fn pods_stay_taken()
+    ensures { (h : List Entry) (job : ℕ) (pod : Key) → Legal h →
+        ((e : Entry) (other : Key) → Contains h e → e.job ≡ job → pod_in e.event ≡ Some other → other ≡ pod) →
+        has_pod (stand_of h job) ≡ true →
+        (state : PodState) × ((node : List ℕ) × IsTaken (state_of h) pod job node state) }
+{}
+
+/// Pods of one name and uid have the same claims at any two places of a legal history.
+pub fn uids_keep_claims()
+    ensures { (h : List Entry) (first second : ℕ) (key : Key) (p q : PodState) → Legal h →
+        at_key (state_at h first).pods key ≡ Some p → at_key (state_at h second).pods key ≡ Some q →
+        p.pod.uid ≡ q.pod.uid → claims_of p ≡ claims_of q }
+{
+    same_is_equal();
+}
+
+/// Each adoption of a legal history grants an allocation of its claim, which was there and had no grant.
+pub fn adoptions_are_allocations()
+    ensures { (front back : List Entry) (job : ℕ) (claim : Key) (status : ClaimStatus) →
+        Legal (front ++ record { job = job; event = Event.Adopted claim status } ∷ back) → IsAdoptionOf front claim status }
+{
+    checked_is_allocation();
+}
+
+/// Each user of a claim is a pod that is taken or bound, and names the claim, after a legal history and
+/// at each place of it: a pod that is Idle uses no claim.
 pub fn users_are_busy()
     ensures now { (h : List Entry) → Legal h → UsersAreBusy (state_of h) }
     ensures always { (h : List Entry) (place : ℕ) → Legal h → UsersAreBusy (state_at h place) }
     ensures idle { (h : List Entry) (pod : Key) → Legal h → is_busy (at_key (state_of h).pods pod) ≡ false → is_user (state_of h) pod ≡ false }
-{}
+{
+    same_is_equal();
+}
 
 /// After a legal history and at each place of it, a pod that is taken or bound uses each of its
 /// claims, and the uses of one that is bound are written.
@@ -100,4 +138,6 @@ pub fn one_holder()
     ensures always { (h : List Entry) (place : ℕ) → Legal h → HeldOnce (state_at h place) }
 {
     one_holder_is_kept();
+    grants_hold_once();
+    checked_is_allocation();
 }

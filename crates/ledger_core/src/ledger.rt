@@ -1,36 +1,50 @@
-ghost use Rattle.std.specs.Prelude.{◌≡◌, ◌≤◌, ◌<◌, ◌^◌, ◌+◌, ◌-◌, [], length, ℕ, List, true, IfOk, OnOk, OnErr, IsErrOf, is_some, vec_len, option_copied, if◌then◌else◌, ◌==◌};
+ghost use Rattle.std.specs.Prelude.{◌≡◌, ◌≤◌, ◌<◌, ◌^◌, ◌+◌, [], length, ℕ, true, IfOk, OnOk, OnErr, IsErrOf, None, is_some, vec_len, option_copied};
 ghost use Rattle.std.specs.Vec.{vec_capacity};
-ghost use Rattle.cluster.specs.Ready.{object_of};
-ghost use Rattle.cluster.specs.Applied.{with_object};
-ghost use Rattle.cluster.specs.Reserved.{with_reserved};
-ghost use Rattle.alloc_rules.specs.Plans.{PlanTrue, VerdictTrue};
-ghost use Rattle.cluster.specs.declared.entry.Command.TheVariants.{Invalid};
+ghost use Rattle.std.specs.Map.{lookup};
+ghost use Rattle.counter_sets.specs.Holding.{AreHeld};
+ghost use Rattle.pool_view.specs.Names.{at_key, device_eq};
+ghost use Rattle.cluster.specs.declared.entry.Command.TheVariants.{Adopt, Invalid, Schedule};
+ghost use Rattle.cluster.specs.declared.entry.Event.TheVariants.{Adopted, Applied, Bound, Conflict, Contended, Deleted, Denied, Judged, Refused, Released, Reserved, Unreserved, Wrote};
 ghost use Rattle.cluster.specs.declared.entry.Refusal.TheVariants as refusal;
-ghost use Rattle.cluster.specs.declared.entry.Event.TheVariants.{Applied, Deleted, Reserved, Wrote, Bound, Judged, Denied};
-ghost use Rattle.cluster.specs.Stand.{has_reserved, may_try};
-ghost use Rattle.cluster.specs.Events.{allows, outcome_of, stand_after};
-ghost use Rattle.cluster.specs.Deleted.{without_object};
-ghost use Rattle.ledger_core.specs.Applied.{application};
-ghost use Rattle.ledger_core.specs.Deleted.{deletion, MayDelete};
-ghost use Rattle.ledger_core.specs.Wrote.{MayWrite};
-ghost use Rattle.ledger_core.specs.Bound.{MayBind};
-ghost use Rattle.cluster.specs.State.{has_room, taken_node, version_of};
+ghost use Rattle.cluster.specs.Applied.{with_object};
+ghost use Rattle.cluster.specs.Bound.{with_bound};
+ghost use Rattle.cluster.specs.Denied.{first_refusal};
+ghost use Rattle.cluster.specs.Events.{allows, outcome_of};
+ghost use Rattle.cluster.specs.Held.{held};
+ghost use Rattle.cluster.specs.History.{entry_at, stand_of, state_of};
+ghost use Rattle.cluster.specs.Ready.{object_of};
+ghost use Rattle.cluster.specs.Stand.{failures, has_failed, has_reserved, is_conflicted, is_fresh, may_try};
+ghost use Rattle.cluster.specs.State.{has_room, taken_node, use_in, version_of};
+ghost use Rattle.ledger_core.specs.Adopted.{MayAdopt, adoption};
+ghost use Rattle.ledger_core.specs.Applied.{MayApply, application};
 ghost use Rattle.ledger_core.specs.Begun.{Begins};
-ghost use Rattle.ledger_core.specs.Ledger.{appended, at, stand_in};
-ghost use Rattle.cluster.specs.History.{entry_at, state_of, stand_of};
-ghost use Rattle.ledger_core.specs.Legal.{Legal};
-ghost use Rattle.ledger_core.specs.Applied.{MayApply};
+ghost use Rattle.ledger_core.specs.Bound.{MayBind};
+ghost use Rattle.ledger_core.specs.Conflict.{IsNextUse, MayConflict, assumed_by, status_event};
+ghost use Rattle.ledger_core.specs.Deleted.{MayDelete, deletion};
 ghost use Rattle.ledger_core.specs.Denied.{MayDeny};
+ghost use Rattle.ledger_core.specs.Judged.{MayJudge};
+ghost use Rattle.ledger_core.specs.Ledger.{appended, at, stand_in};
+ghost use Rattle.ledger_core.specs.Legal.{Legal};
+ghost use Rattle.ledger_core.specs.Refused.{MayRefuse};
+ghost use Rattle.ledger_core.specs.Released.{MayRelease, release_of};
+ghost use Rattle.ledger_core.specs.Reserved.{IsPlanned, MayReserve, reservation};
+ghost use Rattle.ledger_core.specs.Unreserved.{MayUnreserve};
+ghost use Rattle.ledger_core.specs.Wrote.{MayWrite};
 
 use crate::LedgerError;
-use crate::room::{Stands, append, make_room, stand_in};
-use alloc_rules::plan_holds;
+use crate::headline::{one_holder, uids_keep_claims};
+use crate::holding::{adopt, free, remove, reserve};
+use crate::room::{Stands, append, failures, make_room, stand_in};
+use crate::snapshot::Snapshot;
+use api_claim::ClaimStatus;
 use cluster::{
-    Command, Entry, Event, Kept, Mode, Outcome, Phase, Plan, Ready, ReadyParts, Refusal, Stand,
-    State, Target, Verdict,
+    Command, Entry, Event, Failure, Kept, Mode, Outcome, Phase, Plan, Ready, ReadyParts, Refusal,
+    Stand, State, Target, Use, Verdict,
 };
-use dra_values::{Table, Text};
-use object_fields::{FieldError, Key, Kind};
+use counter_sets::Held;
+use dra_values::{Shared, Table, Text};
+use object_fields::{DeviceId, FieldError, Key, Kind};
+use plan_check::{check, check_status, checked_is_allocation, checked_is_known};
 use std::alloc::{AllocError, Global};
 use std::marker::Model;
 
@@ -44,12 +58,12 @@ pub struct Done {
 }
 
 /// How a pod's scheduling begins.
-#[derive(Clone, Copy, Debug, PartialEq, Eq, Drop)]
+#[derive(Drop)]
 pub enum Start {
     /// The command was denied, which ends its job.
     Denied(Done),
-    /// The pod is there and Idle, and a search may begin: so many entries stand in the history.
-    Seen(u64),
+    /// The pod is there and Idle, and a search over the present state may begin.
+    Seen(Snapshot),
 }
 
 /// A legal history, and the state after it.
@@ -57,6 +71,7 @@ pub enum Start {
 pub struct Ledger {
     entries: Vec<Entry>,
     state: State,
+    holders: Shared<Held>,
     stands: Stands,
     limit: u64,
 }
@@ -68,7 +83,7 @@ impl Model for Ledger {
 
     ghost view = { λ l. record { entries = l.entries.items; limit = l.limit } };
 
-    ghost invariant = { λ l. IsKept l.entries.items l.state l.stands l.limit };
+    ghost invariant = { λ l. IsKept l.entries.items l.state l.holders l.stands l.limit };
 }
 
 impl Ledger {
@@ -77,9 +92,12 @@ impl Ledger {
         requires { limit < 2 ^ 48 }
         ensures { IfOk result (λ ledger. ledger ≡ record { entries = []; limit = limit }) }
     {
+        let state = State::new(alloc)?;
+        let holders = no_holders(alloc)?;
         Ok(Ledger {
             entries: Vec::new(alloc),
-            state: State::new(alloc)?,
+            state,
+            holders,
             stands: Table::new(alloc),
             limit,
         })
@@ -106,6 +124,20 @@ impl Ledger {
         ensures { result.now ≡ state_of self.now.entries }
     {
         &self.state
+    }
+
+    /// The devices that claims hold after all entries, each with its claim.
+    pub fn holders(&self) -> &Held
+        ensures { AreHeld result.now (held (state_of self.now.entries)) }
+    {
+        &self.holders
+    }
+
+    /// The claim that holds a device, if one does. Takes no memory.
+    pub fn holder(&self, device: &DeviceId) -> Option<&Key>
+        ensures { option_copied result ≡ lookup (λ d. device_eq d device.now) (held (state_of self.now.entries)) }
+    {
+        self.holders.holder(device)
     }
 
     /// The entry at a place, from 1.
@@ -198,8 +230,9 @@ impl Ledger {
 
     /// Begins to schedule a pod: if a refusal of the command holds (`State::schedule_refusal`), the entry
     /// is a denial that carries the pod and the first such, and the state stays as it was; else the
-    /// pod is there and Idle, and nothing is appended. `Full` comes if a denial is due and the history
-    /// has its limit of entries, and `Memory` only if memory runs out; then nothing changed.
+    /// pod is there and Idle, nothing is appended, and a snapshot of the present state is returned. `Full`
+    /// comes if a denial is due and the history has its limit of entries, and `Memory` only if memory runs
+    /// out; then nothing changed.
     pub fn begin(&mut self, alloc: Global, job: u64, pod: &Key) -> Result<Start, LedgerError>
         requires { may_try (stand_of self.old.entries job) ≡ true }
         ensures begins { IfOk result (λ start. Begins self.old self.new job pod.now start) }
@@ -209,7 +242,10 @@ impl Ledger {
     {
         let at = self.len();
         match self.state.schedule_refusal(alloc, pod)? {
-            None => Ok(Start::Seen(at)),
+            None => {
+                let snapshot = take_snapshot(alloc, &mut self.state, &self.holders, at)?;
+                Ok(Start::Seen(snapshot))
+            }
             Some(refusal) => {
                 let pod = pod.copy(alloc)?;
                 let done = self.refuse(job, Command::Schedule(pod), refusal)?;
@@ -218,7 +254,11 @@ impl Ledger {
         }
     }
 
-    /// Takes the pod for the job, and makes the plan's grants.
+    /// Makes the grants of a plan that was true at its place, if nothing stands against it now, and takes the
+    /// pod for the job. If the pod can't be scheduled any more, the entry is a denial, and if the plan fails
+    /// against the present state (`plan_check::check`), it is a refusal that carries the first failure; then
+    /// the state stays as it was. `Full` comes if the history has its limit of entries, and `Memory` only if
+    /// memory runs out; then nothing changed.
     pub fn reserve(
         &mut self,
         alloc: Global,
@@ -226,28 +266,26 @@ impl Ledger {
         pod: &Key,
         plan: &Plan,
     ) -> Result<Done, LedgerError>
-        requires stand { allows (stand_of self.old.entries job) (Reserved pod.now plan.now) ≡ true }
-        requires plan { PlanTrue (state_of self.old.entries) pod.now plan.now }
-        requires at { plan.now.at ≡ length self.old.entries }
-        ensures ok { OnOk result (self.new ≡ appended self.old job (Reserved pod.now plan.now)) }
+        requires stand { may_try (stand_of self.old.entries job) ≡ true }
+        requires plan { IsPlanned self.old.entries pod.now plan.now }
+        ensures ok { OnOk result (self.new ≡ appended self.old job (reservation (state_of self.old.entries) pod.now plan.now)) }
         ensures place { IfOk result (λ done. done.place ≡ length self.new.entries) }
-        ensures outcome { IfOk result (λ done. done.outcome ≡ Outcome.Made) }
+        ensures outcome { IfOk result (λ done. done.outcome ≡ outcome_of (reservation (state_of self.old.entries) pod.now plan.now)) }
         ensures legal { Legal self.new.entries }
         ensures full { (n : ℕ) → IsErrOf result (LedgerError.Full n) → (length self.old.entries ≡ n) × (self.old.limit ≤ n) }
         ensures err { OnErr result (self.new ≡ self.old) }
     {
-        plan_holds();
-        let place = make_room(&mut self.entries, &mut self.stands, self.limit, job)?;
-        let (pod, plan) = grant(alloc, &mut self.state, job, pod, plan)?;
-        let event = Event::Reserved { pod, plan };
-        append(&mut self.entries, &mut self.stands, job, event);
-        Ok(Done {
-            place,
-            outcome: Outcome::Made,
-        })
+        match self.state.schedule_refusal(alloc, pod)? {
+            None => self.reserve_idle(alloc, job, pod, plan),
+            Some(refusal) => {
+                let pod = pod.copy(alloc)?;
+                self.refuse(job, Command::Schedule(pod), refusal)
+            }
+        }
     }
 
-    /// Writes the pod's use of its next claim.
+    /// Writes the pod's use of its next claim, if the claim has the version that it had when the job
+    /// reserved; else the entry is a conflict that carries both versions, and the state stays as it was.
     pub fn write_status(
         &mut self,
         alloc: Global,
@@ -256,24 +294,39 @@ impl Ledger {
         claim: &Key,
     ) -> Result<Done, LedgerError>
         requires stand { has_reserved (stand_of self.old.entries job) ≡ true }
-        requires step { MayWrite (state_of self.old.entries) pod.now job claim.now (version_of (state_of self.old.entries) claim.now) }
-        ensures ok { OnOk result (self.new ≡ appended self.old job (Wrote pod.now claim.now (version_of (state_of self.old.entries) claim.now))) }
+        requires step { (had : ℕ) × IsNextUse (state_of self.old.entries) pod.now job claim.now had }
+        ensures ok { OnOk result (self.new ≡ appended self.old job (status_event (state_of self.old.entries) pod.now claim.now)) }
         ensures place { IfOk result (λ done. done.place ≡ length self.new.entries) }
-        ensures outcome { IfOk result (λ done. done.outcome ≡ Outcome.Made) }
+        ensures outcome { IfOk result (λ done. done.outcome ≡ outcome_of (status_event (state_of self.old.entries) pod.now claim.now)) }
         ensures legal { Legal self.new.entries }
         ensures full { (n : ℕ) → IsErrOf result (LedgerError.Full n) → (length self.old.entries ≡ n) × (self.old.limit ≤ n) }
         ensures err { OnErr result (self.new ≡ self.old) }
     {
+        let had = assumed(&self.state, pod, claim);
+        let now = version(&self.state, claim);
+        if had == now {
+            self.write(alloc, job, pod, claim)
+        } else {
+            self.conflict(alloc, job, pod, claim, had, now)
+        }
+    }
+
+    /// Gives up what the job reserved, after a conflict: the pod's uses are taken away, claims without users
+    /// lose their grants, and the pod is Idle again.
+    pub fn unreserve(&mut self, alloc: Global, job: u64, pod: &Key) -> Result<Done, LedgerError>
+        requires stand { is_conflicted (stand_of self.old.entries job) ≡ true }
+        requires step { MayUnreserve (state_of self.old.entries) pod.now job }
+        ensures ok { OnOk result (self.new ≡ appended self.old job (Unreserved pod.now)) }
+        ensures place { IfOk result (λ done. done.place ≡ length self.new.entries) }
+        ensures outcome { IfOk result (λ done. done.outcome ≡ outcome_of (Unreserved pod.now)) }
+        ensures legal { Legal self.new.entries }
+        ensures full { (n : ℕ) → IsErrOf result (LedgerError.Full n) → (length self.old.entries ≡ n) × (self.old.limit ≤ n) }
+        ensures err { OnErr result (self.new ≡ self.old) }
+    {
+        one_holder();
         let place = make_room(&mut self.entries, &mut self.stands, self.limit, job)?;
-        let kept_pod = pod.copy(alloc)?;
-        let kept_claim = claim.copy(alloc)?;
-        let seen = version(&self.state, claim);
-        self.state.write(place, pod, claim);
-        let event = Event::Wrote {
-            pod: kept_pod,
-            claim: kept_claim,
-            seen,
-        };
+        let pod = free(alloc, &mut self.state, &mut self.holders, place, pod)?;
+        let event = Event::Unreserved(pod);
         append(&mut self.entries, &mut self.stands, job, event);
         Ok(Done {
             place,
@@ -287,20 +340,14 @@ impl Ledger {
         requires step { MayBind (state_of self.old.entries) pod.now job (taken_node (state_of self.old.entries) pod.now) }
         ensures ok { OnOk result (self.new ≡ appended self.old job (Bound pod.now (taken_node (state_of self.old.entries) pod.now))) }
         ensures place { IfOk result (λ done. done.place ≡ length self.new.entries) }
-        ensures outcome { IfOk result (λ done. done.outcome ≡ Outcome.Made) }
+        ensures outcome { IfOk result (λ done. done.outcome ≡ outcome_of (Bound pod.now (taken_node (state_of self.old.entries) pod.now))) }
         ensures legal { Legal self.new.entries }
         ensures full { (n : ℕ) → IsErrOf result (LedgerError.Full n) → (length self.old.entries ≡ n) × (self.old.limit ≤ n) }
         ensures err { OnErr result (self.new ≡ self.old) }
     {
         let place = make_room(&mut self.entries, &mut self.stands, self.limit, job)?;
-        let kept_pod = pod.copy(alloc)?;
-        let node = node_of(alloc, &self.state, pod)?;
-        let kept_node = node.copy(alloc)?;
-        self.state.bind(pod, node);
-        let event = Event::Bound {
-            pod: kept_pod,
-            node: kept_node,
-        };
+        let (pod, node) = bind(alloc, &mut self.state, pod)?;
+        let event = Event::Bound { pod, node };
         append(&mut self.entries, &mut self.stands, job, event);
         Ok(Done {
             place,
@@ -308,7 +355,7 @@ impl Ledger {
         })
     }
 
-    /// Says that a pod can't be scheduled.
+    /// Says that a pod can't be scheduled, by a verdict that was true at its place.
     pub fn record_verdict(
         &mut self,
         alloc: Global,
@@ -316,12 +363,11 @@ impl Ledger {
         pod: &Key,
         verdict: Verdict,
     ) -> Result<Done, LedgerError>
-        requires stand { allows (stand_of self.old.entries job) (Judged pod.now verdict) ≡ true }
-        requires verdict { VerdictTrue (state_of self.old.entries) pod.now verdict }
-        requires at { verdict.at ≡ length self.old.entries }
+        requires stand { may_try (stand_of self.old.entries job) ≡ true }
+        requires verdict { MayJudge self.old.entries pod.now verdict }
         ensures ok { OnOk result (self.new ≡ appended self.old job (Judged pod.now verdict)) }
         ensures place { IfOk result (λ done. done.place ≡ length self.new.entries) }
-        ensures outcome { IfOk result (λ done. done.outcome ≡ Outcome.Made) }
+        ensures outcome { IfOk result (λ done. done.outcome ≡ outcome_of (Judged pod.now verdict)) }
         ensures legal { Legal self.new.entries }
         ensures full { (n : ℕ) → IsErrOf result (LedgerError.Full n) → (length self.old.entries ≡ n) × (self.old.limit ≤ n) }
         ensures err { OnErr result (self.new ≡ self.old) }
@@ -334,6 +380,83 @@ impl Ledger {
             place,
             outcome: Outcome::Made,
         })
+    }
+
+    /// Says that as many attempts to schedule a pod have failed as the job has made, which ends it.
+    pub fn record_contended(
+        &mut self,
+        alloc: Global,
+        job: u64,
+        pod: &Key,
+    ) -> Result<Done, LedgerError>
+        requires stand { has_failed (stand_of self.old.entries job) ≡ true }
+        ensures ok { OnOk result (self.new ≡ appended self.old job (Contended pod.now (failures (stand_of self.old.entries job)))) }
+        ensures place { IfOk result (λ done. done.place ≡ length self.new.entries) }
+        ensures outcome { IfOk result (λ done. done.outcome ≡ outcome_of (Contended pod.now (failures (stand_of self.old.entries job)))) }
+        ensures legal { Legal self.new.entries }
+        ensures full { (n : ℕ) → IsErrOf result (LedgerError.Full n) → (length self.old.entries ≡ n) × (self.old.limit ≤ n) }
+        ensures err { OnErr result (self.new ≡ self.old) }
+    {
+        let attempts = failures(self.stand(job));
+        let place = make_room(&mut self.entries, &mut self.stands, self.limit, job)?;
+        let pod = pod.copy(alloc)?;
+        let event = Event::Contended { pod, attempts };
+        append(&mut self.entries, &mut self.stands, job, event);
+        Ok(Done {
+            place,
+            outcome: Outcome::Made,
+        })
+    }
+
+    /// Takes the uses of a bound pod away: claims without users lose their grants, and the pod is Idle again.
+    /// If a refusal of the command holds (`State::release_refusal`), the entry is a denial that carries the
+    /// pod and the first such, and the state stays as it was. `Full` comes if the history has its limit of
+    /// entries, and `Memory` only if memory runs out; then nothing changed.
+    pub fn release(&mut self, alloc: Global, job: u64, pod: &Key) -> Result<Done, LedgerError>
+        requires { is_fresh (stand_of self.old.entries job) ≡ true }
+        ensures ok { OnOk result (self.new ≡ appended self.old job (release_of (state_of self.old.entries) pod.now)) }
+        ensures place { IfOk result (λ done. done.place ≡ length self.new.entries) }
+        ensures outcome { IfOk result (λ done. done.outcome ≡ outcome_of (release_of (state_of self.old.entries) pod.now)) }
+        ensures legal { Legal self.new.entries }
+        ensures full { (n : ℕ) → IsErrOf result (LedgerError.Full n) → (length self.old.entries ≡ n) × (self.old.limit ≤ n) }
+        ensures err { OnErr result (self.new ≡ self.old) }
+    {
+        match self.state.release_refusal(pod) {
+            None => self.release_bound(alloc, job, pod),
+            Some(refusal) => {
+                let pod = pod.copy(alloc)?;
+                self.refuse(job, Command::Release(pod), refusal)
+            }
+        }
+    }
+
+    /// Grants a claim what a status write says, published and without users. If a refusal of the command
+    /// holds (`State::status_refusal`), or else the grant isn't an allocation of the claim
+    /// (`plan_check::check_status`), the entry is a denial that carries the claim, the status and the first
+    /// such, and the state stays as it was. `Full` comes if the history has its limit of entries, and
+    /// `Memory` only if memory runs out; then nothing changed.
+    pub fn adopt(
+        &mut self,
+        alloc: Global,
+        job: u64,
+        claim: &Key,
+        status: ClaimStatus,
+    ) -> Result<Done, LedgerError>
+        requires { is_fresh (stand_of self.old.entries job) ≡ true }
+        ensures ok { OnOk result (self.new ≡ appended self.old job (adoption (state_of self.old.entries) claim.now status)) }
+        ensures place { IfOk result (λ done. done.place ≡ length self.new.entries) }
+        ensures outcome { IfOk result (λ done. done.outcome ≡ outcome_of (adoption (state_of self.old.entries) claim.now status)) }
+        ensures legal { Legal self.new.entries }
+        ensures full { (n : ℕ) → IsErrOf result (LedgerError.Full n) → (length self.old.entries ≡ n) × (self.old.limit ≤ n) }
+        ensures err { OnErr result (self.new ≡ self.old) }
+    {
+        match self.state.status_refusal(claim, &status) {
+            None => self.adopt_free(alloc, job, claim, status),
+            Some(refusal) => {
+                let claim = claim.copy(alloc)?;
+                self.refuse(job, Command::Adopt { claim, status }, refusal)
+            }
+        }
     }
 }
 
@@ -384,14 +507,11 @@ impl Ledger {
         ensures full { (n : ℕ) → IsErrOf result (LedgerError.Full n) → (length self.old.entries ≡ n) × (self.old.limit ≤ n) }
         ensures err { OnErr result (self.new ≡ self.old) }
     {
+        one_holder();
         let place = make_room(&mut self.entries, &mut self.stands, self.limit, job)?;
-        let target = remove(alloc, &mut self.state, target)?;
-        append(
-            &mut self.entries,
-            &mut self.stands,
-            job,
-            Event::Deleted(target),
-        );
+        let target = remove(alloc, &mut self.state, &mut self.holders, target)?;
+        let event = Event::Deleted(target);
+        append(&mut self.entries, &mut self.stands, job, event);
         Ok(Done {
             place,
             outcome: Outcome::Made,
@@ -417,6 +537,243 @@ impl Ledger {
             outcome: Outcome::Denied,
         })
     }
+
+    /// Reserves by a plan for a pod that is there and Idle, or says what stands against the plan.
+    fn reserve_idle(
+        &mut self,
+        alloc: Global,
+        job: u64,
+        pod: &Key,
+        plan: &Plan,
+    ) -> Result<Done, LedgerError>
+        requires stand { may_try (stand_of self.old.entries job) ≡ true }
+        requires plan { IsPlanned self.old.entries pod.now plan.now }
+        requires unrefused { first_refusal (state_of self.old.entries) (Schedule pod.now) ≡ None }
+        ensures ok { OnOk result (self.new ≡ appended self.old job (reservation (state_of self.old.entries) pod.now plan.now)) }
+        ensures place { IfOk result (λ done. done.place ≡ length self.new.entries) }
+        ensures outcome { IfOk result (λ done. done.outcome ≡ outcome_of (reservation (state_of self.old.entries) pod.now plan.now)) }
+        ensures legal { Legal self.new.entries }
+        ensures full { (n : ℕ) → IsErrOf result (LedgerError.Full n) → (length self.old.entries ≡ n) × (self.old.limit ≤ n) }
+        ensures err { OnErr result (self.new ≡ self.old) }
+    {
+        checked_is_known();
+        checked_is_allocation();
+        uids_keep_claims();
+        match check(alloc, &self.state, &self.holders, pod, plan)? {
+            None => self.take(alloc, job, pod, plan),
+            Some(why) => self.refuse_plan(alloc, job, pod, plan, why),
+        }
+    }
+
+    /// Says what stands against a plan.
+    fn refuse_plan(
+        &mut self,
+        alloc: Global,
+        job: u64,
+        pod: &Key,
+        plan: &Plan,
+        why: Failure,
+    ) -> Result<Done, LedgerError>
+        requires stand { may_try (stand_of self.old.entries job) ≡ true }
+        requires refused { MayRefuse self.old.entries pod.now plan.now why }
+        ensures ok { OnOk result (self.new ≡ appended self.old job (Refused pod.now plan.now why)) }
+        ensures place { IfOk result (λ done. done.place ≡ length self.new.entries) }
+        ensures outcome { IfOk result (λ done. done.outcome ≡ Outcome.Refused) }
+        ensures legal { Legal self.new.entries }
+        ensures full { (n : ℕ) → IsErrOf result (LedgerError.Full n) → (length self.old.entries ≡ n) × (self.old.limit ≤ n) }
+        ensures err { OnErr result (self.new ≡ self.old) }
+    {
+        let place = make_room(&mut self.entries, &mut self.stands, self.limit, job)?;
+        let (pod, plan) = copies(alloc, pod, plan)?;
+        let event = Event::Refused { pod, plan, why };
+        append(&mut self.entries, &mut self.stands, job, event);
+        Ok(Done {
+            place,
+            outcome: Outcome::Refused,
+        })
+    }
+
+    /// Reserves by a plan that nothing stands against.
+    fn take(&mut self, alloc: Global, job: u64, pod: &Key, plan: &Plan) -> Result<Done, LedgerError>
+        requires stand { may_try (stand_of self.old.entries job) ≡ true }
+        requires reserved { MayReserve self.old.entries pod.now plan.now }
+        ensures ok { OnOk result (self.new ≡ appended self.old job (Reserved pod.now plan.now)) }
+        ensures place { IfOk result (λ done. done.place ≡ length self.new.entries) }
+        ensures outcome { IfOk result (λ done. done.outcome ≡ Outcome.Made) }
+        ensures legal { Legal self.new.entries }
+        ensures full { (n : ℕ) → IsErrOf result (LedgerError.Full n) → (length self.old.entries ≡ n) × (self.old.limit ≤ n) }
+        ensures err { OnErr result (self.new ≡ self.old) }
+    {
+        one_holder();
+        let place = make_room(&mut self.entries, &mut self.stands, self.limit, job)?;
+        let (pod, plan) = reserve(alloc, &mut self.state, &mut self.holders, job, pod, plan)?;
+        let event = Event::Reserved { pod, plan };
+        append(&mut self.entries, &mut self.stands, job, event);
+        Ok(Done {
+            place,
+            outcome: Outcome::Made,
+        })
+    }
+
+    /// Writes the pod's use of a claim, which has the version that it had when the job reserved.
+    fn write(
+        &mut self,
+        alloc: Global,
+        job: u64,
+        pod: &Key,
+        claim: &Key,
+    ) -> Result<Done, LedgerError>
+        requires stand { has_reserved (stand_of self.old.entries job) ≡ true }
+        requires step { MayWrite (state_of self.old.entries) pod.now job claim.now (version_of (state_of self.old.entries) claim.now) }
+        ensures ok { OnOk result (self.new ≡ appended self.old job (Wrote pod.now claim.now (version_of (state_of self.old.entries) claim.now))) }
+        ensures place { IfOk result (λ done. done.place ≡ length self.new.entries) }
+        ensures outcome { IfOk result (λ done. done.outcome ≡ Outcome.Made) }
+        ensures legal { Legal self.new.entries }
+        ensures full { (n : ℕ) → IsErrOf result (LedgerError.Full n) → (length self.old.entries ≡ n) × (self.old.limit ≤ n) }
+        ensures err { OnErr result (self.new ≡ self.old) }
+    {
+        let place = make_room(&mut self.entries, &mut self.stands, self.limit, job)?;
+        let kept_pod = pod.copy(alloc)?;
+        let kept_claim = claim.copy(alloc)?;
+        let seen = version(&self.state, claim);
+        self.state.write(alloc, place, pod, claim)?;
+        let event = Event::Wrote {
+            pod: kept_pod,
+            claim: kept_claim,
+            seen,
+        };
+        append(&mut self.entries, &mut self.stands, job, event);
+        Ok(Done {
+            place,
+            outcome: Outcome::Made,
+        })
+    }
+
+    /// Says that a claim has another version than it had when the job reserved.
+    fn conflict(
+        &mut self,
+        alloc: Global,
+        job: u64,
+        pod: &Key,
+        claim: &Key,
+        had: u64,
+        now: u64,
+    ) -> Result<Done, LedgerError>
+        requires stand { has_reserved (stand_of self.old.entries job) ≡ true }
+        requires differ { MayConflict (state_of self.old.entries) pod.now job claim.now had now }
+        ensures ok { OnOk result (self.new ≡ appended self.old job (Conflict pod.now claim.now had now)) }
+        ensures place { IfOk result (λ done. done.place ≡ length self.new.entries) }
+        ensures outcome { IfOk result (λ done. done.outcome ≡ Outcome.Conflicted) }
+        ensures legal { Legal self.new.entries }
+        ensures full { (n : ℕ) → IsErrOf result (LedgerError.Full n) → (length self.old.entries ≡ n) × (self.old.limit ≤ n) }
+        ensures err { OnErr result (self.new ≡ self.old) }
+    {
+        let place = make_room(&mut self.entries, &mut self.stands, self.limit, job)?;
+        let pod = pod.copy(alloc)?;
+        let claim = claim.copy(alloc)?;
+        let event = Event::Conflict {
+            pod,
+            claim,
+            had,
+            now,
+        };
+        append(&mut self.entries, &mut self.stands, job, event);
+        Ok(Done {
+            place,
+            outcome: Outcome::Conflicted,
+        })
+    }
+
+    /// Takes the uses of a bound pod away.
+    fn release_bound(&mut self, alloc: Global, job: u64, pod: &Key) -> Result<Done, LedgerError>
+        requires stand { is_fresh (stand_of self.old.entries job) ≡ true }
+        requires released { MayRelease (state_of self.old.entries) pod.now }
+        ensures ok { OnOk result (self.new ≡ appended self.old job (Released pod.now)) }
+        ensures place { IfOk result (λ done. done.place ≡ length self.new.entries) }
+        ensures outcome { IfOk result (λ done. done.outcome ≡ Outcome.Made) }
+        ensures legal { Legal self.new.entries }
+        ensures full { (n : ℕ) → IsErrOf result (LedgerError.Full n) → (length self.old.entries ≡ n) × (self.old.limit ≤ n) }
+        ensures err { OnErr result (self.new ≡ self.old) }
+    {
+        one_holder();
+        let place = make_room(&mut self.entries, &mut self.stands, self.limit, job)?;
+        let pod = free(alloc, &mut self.state, &mut self.holders, place, pod)?;
+        let event = Event::Released(pod);
+        append(&mut self.entries, &mut self.stands, job, event);
+        Ok(Done {
+            place,
+            outcome: Outcome::Made,
+        })
+    }
+
+    /// Grants a claim, which is there without a grant, what a status write says, or refuses that.
+    fn adopt_free(
+        &mut self,
+        alloc: Global,
+        job: u64,
+        claim: &Key,
+        status: ClaimStatus,
+    ) -> Result<Done, LedgerError>
+        requires stand { is_fresh (stand_of self.old.entries job) ≡ true }
+        requires unrefused { first_refusal (state_of self.old.entries) (Adopt claim.now status) ≡ None }
+        ensures ok { OnOk result (self.new ≡ appended self.old job (adoption (state_of self.old.entries) claim.now status)) }
+        ensures place { IfOk result (λ done. done.place ≡ length self.new.entries) }
+        ensures outcome { IfOk result (λ done. done.outcome ≡ outcome_of (adoption (state_of self.old.entries) claim.now status)) }
+        ensures legal { Legal self.new.entries }
+        ensures full { (n : ℕ) → IsErrOf result (LedgerError.Full n) → (length self.old.entries ≡ n) × (self.old.limit ≤ n) }
+        ensures err { OnErr result (self.new ≡ self.old) }
+    {
+        match check_status(alloc, &self.state, &self.holders, claim, &status)? {
+            None => self.make_grant(alloc, job, claim, status),
+            Some(failure) => {
+                let claim = claim.copy(alloc)?;
+                let refusal = Refusal::Failure(failure);
+                self.refuse(job, Command::Adopt { claim, status }, refusal)
+            }
+        }
+    }
+
+    /// Grants a claim what a status write says, of which nothing refuses it.
+    fn make_grant(
+        &mut self,
+        alloc: Global,
+        job: u64,
+        claim: &Key,
+        status: ClaimStatus,
+    ) -> Result<Done, LedgerError>
+        requires stand { is_fresh (stand_of self.old.entries job) ≡ true }
+        requires adopted { MayAdopt (state_of self.old.entries) claim.now status }
+        ensures ok { OnOk result (self.new ≡ appended self.old job (Adopted claim.now status)) }
+        ensures place { IfOk result (λ done. done.place ≡ length self.new.entries) }
+        ensures outcome { IfOk result (λ done. done.outcome ≡ Outcome.Made) }
+        ensures legal { Legal self.new.entries }
+        ensures full { (n : ℕ) → IsErrOf result (LedgerError.Full n) → (length self.old.entries ≡ n) × (self.old.limit ≤ n) }
+        ensures err { OnErr result (self.new ≡ self.old) }
+    {
+        one_holder();
+        let place = make_room(&mut self.entries, &mut self.stands, self.limit, job)?;
+        let claim = adopt(
+            alloc,
+            &mut self.state,
+            &mut self.holders,
+            place,
+            claim,
+            &status,
+        )?;
+        let event = Event::Adopted { claim, status };
+        append(&mut self.entries, &mut self.stands, job, event);
+        Ok(Done {
+            place,
+            outcome: Outcome::Made,
+        })
+    }
+}
+
+/// No device is held.
+fn no_holders(alloc: Global) -> Result<Shared<Held>, AllocError>
+    ensures { IfOk result (λ holders. AreHeld holders []) }
+{
+    Shared::new(alloc, Held::new(alloc))
 }
 
 /// Takes all memory for an entry, and puts its object.
@@ -446,35 +803,6 @@ fn put_object(
     Ok(place)
 }
 
-/// Takes an object away, and answers its kind and name again.
-fn remove(alloc: Global, state: &mut State, target: &Target) -> Result<Target, AllocError>
-    ensures kept { IfOk result (λ kept. kept ≡ target.now) }
-    ensures ok { OnOk result (state.new ≡ without_object target.now state.old) }
-    ensures err { OnErr result (state.new ≡ state.old) }
-{
-    let kept = target.copy(alloc)?;
-    state.remove(alloc, target)?;
-    Ok(kept)
-}
-
-/// Makes the plan's grants, and answers the pod's key and the plan again.
-fn grant(
-    alloc: Global,
-    state: &mut State,
-    job: u64,
-    pod: &Key,
-    plan: &Plan,
-) -> Result<(Key, Plan), AllocError>
-    ensures kept { IfOk result (λ kept. (kept.0 ≡ pod.now) × (kept.1 ≡ plan.now)) }
-    ensures ok { OnOk result (state.new ≡ with_reserved job pod.now plan.now state.old) }
-    ensures err { OnErr result (state.new ≡ state.old) }
-{
-    let kept_pod = pod.copy(alloc)?;
-    let kept_plan = plan.copy(alloc)?;
-    state.reserve(alloc, job, pod, plan)?;
-    Ok((kept_pod, kept_plan))
-}
-
 /// The version of a claim that is there.
 fn version(state: &State, claim: &Key) -> u64
     ensures { result ≡ version_of state.now claim.now }
@@ -482,6 +810,35 @@ fn version(state: &State, claim: &Key) -> u64
     match state.claims.get(claim) {
         None => 0,
         Some(claim) => claim.claim.version,
+    }
+}
+
+/// Equal copies of a pod's key and a plan.
+fn copies(alloc: Global, pod: &Key, plan: &Plan) -> Result<(Key, Plan), AllocError>
+    ensures { IfOk result (λ copies. (copies.0 ≡ pod.now) × (copies.1 ≡ plan.now)) }
+{
+    let pod = pod.copy(alloc)?;
+    let plan = plan.copy(alloc)?;
+    Ok((pod, plan))
+}
+
+/// The version of a claim that a pod assumed, if it has.
+fn assumed(state: &State, pod: &Key, claim: &Key) -> u64
+    ensures { result ≡ assumed_by (use_in pod.now (at_key state.now.claims claim.now)) }
+{
+    match state.claims.get(claim) {
+        None => 0,
+        Some(claim) => assumed_in(&claim.users, pod),
+    }
+}
+
+fn assumed_in(users: &Table<Key, Use>, pod: &Key) -> u64
+    ensures { result ≡ assumed_by (at_key users.now pod.now) }
+{
+    match users.get(pod) {
+        None => 0,
+        Some(Use::Assumed(seen)) => *seen,
+        Some(Use::Written) => 0,
     }
 }
 
@@ -496,4 +853,34 @@ fn node_of(alloc: Global, state: &State, pod: &Key) -> Result<Text, AllocError>
             Phase::Idle | Phase::Bound(_) => Text::from_str(alloc, ""),
         },
     }
+}
+
+/// Binds a pod to the node that it is taken for, and returns its key again, and the node.
+fn bind(alloc: Global, state: &mut State, pod: &Key) -> Result<(Key, Text), AllocError>
+    ensures kept { IfOk result (λ kept. (kept.0 ≡ pod.now) × (kept.1 ≡ taken_node state.old pod.now)) }
+    ensures ok { OnOk result (state.new ≡ with_bound pod.now (taken_node state.old pod.now) state.old) }
+    ensures err { OnErr result (state.new ≡ state.old) }
+{
+    let kept = pod.copy(alloc)?;
+    let node = node_of(alloc, state, pod)?;
+    let kept_node = node.copy(alloc)?;
+    state.bind(alloc, pod, node)?;
+    Ok((kept, kept_node))
+}
+
+/// A snapshot of the state, whose slices are sorted for the searches.
+fn take_snapshot(
+    alloc: Global,
+    state: &mut State,
+    holders: &Shared<Held>,
+    at: u64,
+) -> Result<Snapshot, AllocError>
+    requires { AreHeld holders.now (held state.old) }
+    ensures same { state.new ≡ state.old }
+    ensures seen { IfOk result (λ snapshot. snapshot ≡ record { at = at; state = state.old }) }
+{
+    state.sort(alloc)?;
+    let state = state.share()?;
+    let holders = holders.share()?;
+    Ok(Snapshot::of(at, state, holders))
 }

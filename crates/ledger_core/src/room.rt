@@ -42,6 +42,7 @@ pub fn append(entries: &mut Vec<Entry>, stands: &mut Stands, job: u64, event: Ev
     requires room { vec_len entries.old < vec_capacity entries.old }
     requires row { is_some (at stands.old job) ≡ true }
     requires few { length entries.old.items < 2 ^ 48 }
+    requires tries { failures (stand_in stands.old job) < 2 ^ 48 }
     ensures entries { entries.new.items ≡ entries.old.items ++ record { job = job; event = event } ∷ [] }
     ensures stands { (j : ℕ) → stand_in stands.new j ≡ (if job == j then stand_after (stand_in stands.old job) (length entries.old.items + 1) event else stand_in stands.old j) }
 {
@@ -84,7 +85,7 @@ fn set_stand(stands: &mut Stands, job: u64, stand: Stand)
 }
 
 /// How many attempts of a job have failed.
-fn failures(stand: Stand) -> u64
+pub fn failures(stand: Stand) -> u64
     ensures { result ≡ failures stand }
 {
     match stand {
@@ -93,7 +94,9 @@ fn failures(stand: Stand) -> u64
     }
 }
 
+/// What an event leaves of a job that stood so.
 fn stand_after(stand: Stand, place: u64, event: &Event) -> Stand
+    requires { failures stand < 2 ^ 48 }
     ensures { result ≡ stand_after stand place event.now }
 {
     match event {
@@ -101,7 +104,12 @@ fn stand_after(stand: Stand, place: u64, event: &Event) -> Stand
         | Event::Deleted(_)
         | Event::Bound { .. }
         | Event::Judged { .. }
+        | Event::Contended { .. }
+        | Event::Released(_)
+        | Event::Adopted { .. }
         | Event::Denied { .. } => Stand::Ended(place),
         Event::Reserved { .. } | Event::Wrote { .. } => Stand::Reserved(failures(stand)),
+        Event::Conflict { .. } => Stand::Conflicted(failures(stand)),
+        Event::Refused { .. } | Event::Unreserved(_) => Stand::Failed(failures(stand) + 1),
     }
 }

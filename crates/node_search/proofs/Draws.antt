@@ -28,11 +28,11 @@ use Rattle.node_search.proofs.Places.{all_at}
 no_parts : (a s : ℕ) → a ≡ 0 → s ≡ 0 → a + s ≡ 0
 no_parts a s e h = omega (arith, e, h)
 
-no_flat_sum : {X Y : Type 0} (f : Y → ℕ) (g : X → List Y) (xs : List X) → ((i : ℕ) (x : X) → slice_get xs i ≡ Some x → sum_by f (g x) ≡ 0) → sum_by f (flat_map g xs) ≡ 0
+pub no_flat_sum : {X Y : Type 0} (f : Y → ℕ) (g : X → List Y) (xs : List X) → ((i : ℕ) (x : X) → slice_get xs i ≡ Some x → sum_by f (g x) ≡ 0) → sum_by f (flat_map g xs) ≡ 0
 no_flat_sum f g [] h = refl
 no_flat_sum f g (x ∷ xs) h = sum_by-append f (g x) (flat_map g xs) ∙ no_parts (sum_by f (g x)) (sum_by f (flat_map g xs)) (h 0 x refl) (no_flat_sum f g xs (λ i y e. h (suc i) y e))
 
-no_map_sum : {X Y : Type 0} (f : Y → ℕ) (g : X → Y) (xs : List X) → ((i : ℕ) (x : X) → slice_get xs i ≡ Some x → f (g x) ≡ 0) → sum_by f (map g xs) ≡ 0
+pub no_map_sum : {X Y : Type 0} (f : Y → ℕ) (g : X → Y) (xs : List X) → ((i : ℕ) (x : X) → slice_get xs i ≡ Some x → f (g x) ≡ 0) → sum_by f (map g xs) ≡ 0
 no_map_sum f g [] h = refl
 no_map_sum f g (x ∷ xs) h = sum_by-cons f (g x) (map g xs) ∙ no_parts (f (g x)) (sum_by f (map g xs)) (h 0 x refl) (no_map_sum f g xs (λ i y e. h (suc i) y e))
 
@@ -140,7 +140,7 @@ device_sum x c i d limits there =
 
 -- ---- the held devices of a slice
 
-kept_none : (f : Offered → ℕ) (b : Bool) (o : Offered) (os : List Offered) → f o ≡ 0 → sum_by f os ≡ 0 → sum_by f (cond b (o ∷ os) os) ≡ 0
+pub kept_none : (f : Offered → ℕ) (b : Bool) (o : Offered) (os : List Offered) → f o ≡ 0 → sum_by f os ≡ 0 → sum_by f (cond b (o ∷ os) os) ≡ 0
 kept_none f true o os e h = sum_by-cons f o os ∙ no_parts (f o) (sum_by f os) e h
 kept_none f false o os e h = h
 

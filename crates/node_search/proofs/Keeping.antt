@@ -73,15 +73,23 @@ drawn_own_by h x c true limits e some = refl
 drawn_own_by h x c false limits e some = let none = held_draw_none h x c limits (other_value x c e) in absurd (omega (arith, none, some))
 
 -- only from counters of the slice
-drawn_own : (h : Holders) (x : ResourceSlice) (c : CounterId) → IsWithinLimits x → 0 < drawn_by c (offered_held h x) → text_eq x.name c.slice ≡ true
+pub drawn_own : (h : Holders) (x : ResourceSlice) (c : CounterId) → IsWithinLimits x → 0 < drawn_by c (offered_held h x) → text_eq x.name c.slice ≡ true
 drawn_own h x c limits some = drawn_own_by h x c (text_eq x.name c.slice) limits refl some
 
-first_fits : (n s : ℕ) → n ≡ 0 → s ≤ sum_most → n + s ≤ sum_most
+pub first_fits : (n s : ℕ) → n ≡ 0 → s ≤ sum_most → n + s ≤ sum_most
 first_fits n s e h = omega (arith, e, h)
 
 -- the first that draws from a counter
 pub held_fits : (h : Holders) (x : ResourceSlice) (c : CounterId) (n : ℕ) → IsWithinLimits x → (text_eq x.name c.slice ≡ true → n ≡ 0) → 0 < drawn_by c (offered_held h x) → n + drawn_by c (offered_held h x) ≤ sum_most
 held_fits h x c n limits nothing some = first_fits n (drawn_by c (offered_held h x)) (nothing (drawn_own h x c limits some)) (held_draw_most h x c limits)
+
+-- what is drawn fits, before the first slice and behind one more
+pub none_fits : (n : ℕ) → n ≡ 0 → n ≤ sum_most
+none_fits n e = omega (arith, e)
+
+pub still_fits : (n s : ℕ) → n ≤ sum_most → (0 < s → n + s ≤ sum_most) → n + s ≤ sum_most
+still_fits n zero h f = omega (arith, h)
+still_fits n (suc s) h f = f (omega arith)
 
 -- a slice of another name
 pub still_none : (h : Holders) (x y : ResourceSlice) (c : CounterId) (n m : ℕ) → IsWithinLimits x → x.name ≢ y.name → text_eq y.name c.slice ≡ true → m ≡ n + drawn_by c (offered_held h x) → n ≡ 0 → m ≡ 0

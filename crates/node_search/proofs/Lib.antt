@@ -3,6 +3,7 @@ pub mod Alike
 pub mod Draws
 pub mod Named
 pub mod Keeping
+pub mod OfDevices
 pub mod Valued
 pub mod Lifted
 pub mod Held

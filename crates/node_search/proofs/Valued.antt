@@ -49,7 +49,7 @@ draws_own x [] = tt
 draws_own x (k ∷ ks) = all_joined (λ (d : Draw). d.counter.slice ≡ x.name) (draws_from x k) (flat_map (draws_from x) ks) (amounts_own x k.set k.amounts) (draws_own x ks)
 
 -- a device draws from counters of its slice
-own_counter : (o : Offered) (d : Draw) → Contains (draws_of o) d → d.counter.slice ≡ o.slice.name
+pub own_counter : (o : Offered) (d : Draw) → Contains (draws_of o) d → d.counter.slice ≡ o.slice.name
 unfolding draws_of
 own_counter o d h = all_in (λ (e : Draw). e.counter.slice ≡ o.slice.name) (draws_of o) d (draws_own o.slice o.device.consumes) h
 

@@ -2,3 +2,4 @@ pub mod Holding
 pub mod Counting
 pub mod Searches
 pub mod Apart
+pub mod Counted

@@ -3,9 +3,14 @@
 #![tactic(auto)]
 
 mod apart;
+mod counted;
 mod holders;
 mod search;
 mod totals;
 mod wanted;
 
+pub use apart::{devices_differ, slices_differ};
+pub use holders::holders_of;
 pub use search::PodSearch;
+pub use totals::totals_of;
+pub use wanted::wanted_claims;

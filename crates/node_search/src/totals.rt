@@ -1,13 +1,13 @@
 //! The counters of the usable slices, with what held devices draw from them.
 
-ghost use Rattle.std.specs.Prelude.{◌≡◌, ℕ, List, false, IfOk, map};
+ghost use Rattle.std.specs.Prelude.{◌≡◌, ◌≤◌, ℕ, List, false, IfOk, map};
 ghost use Rattle.object_fields.specs.declared.key.DeviceId.{DeviceId};
 ghost use Rattle.object_fields.specs.declared.key.Key.{Key};
 ghost use Rattle.api_slice.specs.Limits.{IsWithinLimits};
 ghost use Rattle.pool_view.specs.Usable.{usable_slices};
 ghost use Rattle.counter_sets.specs.Draws.{CounterId, drawn};
 ghost use Rattle.counter_sets.specs.Holding.{AreHeld};
-ghost use Rattle.counter_sets.specs.Totals.{drawn_in, keeps};
+ghost use Rattle.counter_sets.specs.Totals.{drawn_in, keeps, sum_most};
 ghost use Rattle.request_rules.specs.Lists.{Each};
 ghost use Rattle.node_search.specs.Counting.{KeepsDraws, NamesDiffer, kept_from};
 
@@ -46,17 +46,19 @@ fn add_held(totals: &mut Totals, slices: &[&ResourceSlice], holders: &Held)
     requires names { NamesDiffer (map (λ s. s.now) slices.now) }
     ensures drawn { (pairs : List (DeviceId × Key)) → AreHeld holders.now pairs → (c : CounterId) → drawn_in totals.new c ≡ drawn (map (λ s. s.now) slices.now) pairs c }
     ensures same { (c : CounterId) → keeps totals.new c ≡ keeps totals.old c }
+    ensures most { (c : CounterId) → drawn_in totals.new c ≤ sum_most }
 {
     for slice in slices {
         totals.add_held(slice, holders);
     }
 }
 
-/// The counters of the usable slices of an inventory, with what the held devices of these slices draw.
-/// `AllocError` only if memory runs out.
+/// The counters of the usable slices of an inventory, with what the held devices of these slices draw,
+/// which is below 2^128. `AllocError` only if memory runs out.
 pub fn totals_of(alloc: Global, inventory: &Inventory, holders: &Held) -> Result<Totals, AllocError>
     ensures drawn { IfOk result (λ totals. (pairs : List (DeviceId × Key)) → AreHeld holders.now pairs → (c : CounterId) → drawn_in totals c ≡ drawn (usable_slices inventory.now) pairs c) }
     ensures kept { IfOk result (λ totals. KeepsDraws totals (usable_slices inventory.now)) }
+    ensures most { IfOk result (λ totals. (c : CounterId) → drawn_in totals c ≤ sum_most) }
 {
     slices_differ(inventory);
     let slices = usable(alloc, inventory)?;

@@ -1,5 +1,4 @@
-pub mod Created
-pub mod JobSteps
+pub mod Orders
 pub mod Stopping
 pub mod Known
 pub mod Running

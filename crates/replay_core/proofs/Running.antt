@@ -14,7 +14,7 @@ use Rattle.replay_core.specs.declared.work.Work.{Work}
 use Rattle.replay_core.specs.Script.{at_each, commands_of}
 use Rattle.replay_core.specs.Built.{is_built}
 use Rattle.replay_core.specs.declared.options.ReplayOptions.{ReplayOptions}
-use Rattle.replay_core.specs.Jobs.{AllMade, JobRun, RunFrom, RunOf}
+use Rattle.replay_core.specs.Jobs.{AllOwn, JobRun, RunFrom, RunOf}
 use Rattle.replay_core.specs.Lines.{Did, RanNext, new_lines}
 use Rattle.replay_core.specs.Replay.{IsRun}
 use Rattle.replay_core.specs.Progress.{IsReady, IsSound, Standing}
@@ -57,13 +57,13 @@ RunOf-more b a done mid at c seg n is run built job =
     (RunFrom-more b a 0 [] (commands_of done) mid c seg run built (subst (λ (k : ℕ). JobRun k c b a mid seg) eq job))
 
 -- a job's entries leave other jobs as they stood
-pub own_only : StandLaw → (job : ℕ) (c : Command) (begun b : ℕ) (before seg : List Entry) (other : ℕ) → AllMade job c begun b before seg → (job ≡ other → ⊥) → stand_of (before ++ seg) other ≡ stand_of before other
-unfolding AllMade
-own_only law job c begun b before [] other made apart = ap (λ (h : List Entry). stand_of h other) (append-nil before)
-own_only law job c begun b before (e ∷ es) other made apart =
-    let differs : eqb e.job other ≡ false = ne_eqb e.job other (λ same. apart (sym made.0.own ∙ same)) in
+pub own_only : StandLaw → (job : ℕ) (before seg : List Entry) (other : ℕ) → AllOwn job seg → (job ≡ other → ⊥) → stand_of (before ++ seg) other ≡ stand_of before other
+unfolding AllOwn
+own_only law job before [] other own apart = ap (λ (h : List Entry). stand_of h other) (append-nil before)
+own_only law job before (e ∷ es) other own apart =
+    let differs : eqb e.job other ≡ false = ne_eqb e.job other (λ same. apart (sym own.0 ∙ same)) in
     ap (λ (h : List Entry). stand_of h other) (sym (append_assoc before (e ∷ []) es))
-    ∙ own_only law job c begun b (before ++ e ∷ []) es other made.1 apart
+    ∙ own_only law job (before ++ e ∷ []) es other own.1 apart
     ∙ law before e other
     ∙ ap (λ (t : Bool). cond t (stand_after (stand_of before other) (length before + 1) e.event) (stand_of before other)) differs
 
@@ -108,14 +108,14 @@ ready_more stands options c old new before after r did =
     let ran = did.ran in
     let grown : new.ledger.entries ≡ old.ledger.entries ++ ran.segment = ap (λ (h : History). h.entries) ran.is in
     let same : new.ledger.limit ≡ old.ledger.limit = ap (λ (h : History). h.limit) ran.is in
-    let some = has_entry old.ledger.entries ran.segment (old.commands + 1) ran.run.place (r.fresh (old.commands + 1) (omega arith)) ran.run.ended in
+    let some = has_entry old.ledger.entries ran.segment (old.commands + 1) ran.run.run.place (r.fresh (old.commands + 1) (omega arith)) ran.run.run.ended in
     let longer : length new.ledger.entries ≡ length old.ledger.entries + length ran.segment = ap (λ (h : List Entry). length h) grown ∙ length-append old.ledger.entries ran.segment in
     record {
       fresh = λ job above.
           let past : old.commands < job = omega (arith, did.counted) in
           let apart : old.commands + 1 ≡ job → ⊥ = λ e. omega (arith, did.counted) in
           ap (λ (h : List Entry). stand_of h job) grown
-          ∙ own_only stands (old.commands + 1) c (length old.ledger.entries) options.budget old.ledger.entries ran.segment job ran.run.made apart
+          ∙ own_only stands (old.commands + 1) old.ledger.entries ran.segment job ran.run.own apart
           ∙ r.fresh job past;
       few = omega (arith, did.counted, r.few, some, longer);
       small = subst (λ (n : ℕ). n < 2 ^ 48) (sym same) r.small;

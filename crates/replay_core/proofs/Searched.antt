@@ -2,19 +2,33 @@
 use Rattle.std.proofs.Common.{ℕ, ◌+◌, ◌≡◌, ◌∙◌, ◌⊎◌, inl, inr, List, [], ◌∷◌, ◌++◌, length, refl, sym, ap, subst, arith, append_assoc, append-nil, length-append}
 use Rattle.cluster.specs.declared.entry.Entry.{Entry}
 use Rattle.commands.specs.declared.command.Command.{Command}
-use Rattle.replay_core.specs.Jobs.{AllMade, IsMade, IsSearched, RunFrom, RunOf}
+use Rattle.sched_job.specs.Histories.{Each}
+use Rattle.sched_job.specs.Runs.{JobKept, JobStep, Run, Timed}
+use Rattle.replay_core.specs.Jobs.{AllOwn, JobRun, RunFrom, RunOf, run_after}
 
--- the entry tells of a search within the budget, which began at some place
+-- the entry tells of a search of its job's run, which looks at so many items of a node's walk
 abbrev pub TellsOf : ℕ → List Entry → Entry → Type 0
-TellsOf budget before e = (begun : ℕ) × IsSearched before e.job begun budget e.event
+TellsOf budget before e = (c : Run) × (c.budget ≡ budget) × Timed c before e.event
+
+-- what is said of each entry is said of one of them
+each_at : (P : List Entry → Entry → Type 0) (before front : List Entry) (e : Entry) (back : List Entry) → Each P before (front ++ e ∷ back) → P (before ++ front) e
+unfolding Each
+each_at P before [] e back all = subst (λ (b : List Entry). P b e) (sym (append-nil before)) all.0
+each_at P before (d ∷ front) e back all = subst (λ (b : List Entry). P b e) (append_assoc before (d ∷ []) front) (each_at P (before ++ d ∷ []) front e back all.1)
+
+own_at : (job : ℕ) (front : List Entry) (e : Entry) (back : List Entry) → AllOwn job (front ++ e ∷ back) → e.job ≡ job
+unfolding AllOwn
+own_at job [] e back own = own.0
+own_at job (d ∷ front) e back own = own_at job front e back own.1
 
 -- an entry of a job tells so
-made_tells : (job : ℕ) (c : Command) (begun budget : ℕ) (before front : List Entry) (e : Entry) (back : List Entry) → AllMade job c begun budget before (front ++ e ∷ back) → TellsOf budget (before ++ front) e
-unfolding AllMade
-made_tells job c begun budget before [] e back all =
-    (begun, subst (λ (b : List Entry). IsSearched b e.job begun budget e.event) (sym (append-nil before)) (subst (λ (j : ℕ). IsSearched before j begun budget e.event) (sym all.0.own) all.0.searched))
-made_tells job c begun budget before (d ∷ front) e back all =
-    subst (λ (b : List Entry). TellsOf budget b e) (append_assoc before (d ∷ []) front) (made_tells job c begun budget (before ++ d ∷ []) front e back all.1)
+made_tells : (job : ℕ) (c : Command) (budget attempts : ℕ) (before front : List Entry) (e : Entry) (back : List Entry) → JobRun job c budget attempts before (front ++ e ∷ back) → TellsOf budget (before ++ front) e
+made_tells job c budget attempts before front e back run =
+    let kept : JobKept (run_after job run.order budget before) ((before ++ front) ++ e ∷ back) =
+    subst (λ (h : List Entry). JobKept (run_after job run.order budget before) h) (sym (append_assoc before front (e ∷ back))) run.run.kept in
+    let step : JobStep (run_after job run.order budget before) (before ++ front) e.event =
+    each_at (λ b x. x.job ≡ job → JobStep (run_after job run.order budget before) b x.event) [] (before ++ front) e back kept (own_at job front e back run.own) in
+    (run_after job run.order budget before, refl, step.timed)
 
 -- a run goes on from the entries before it
 pub record GoesFrom (before after : List Entry) : Type 0 where
@@ -78,7 +92,7 @@ run_tells budget attempts n before (c ∷ cs) front e back r =
     let goes : GoesFrom (before ++ seg) (before ++ (front ++ e ∷ back)) = run_goes budget attempts (n + 1) (before ++ seg) cs (before ++ (front ++ e ∷ back)) r.3 in
     let joined : seg ++ goes.rest ≡ front ++ e ∷ back = same_front before (seg ++ goes.rest) (front ++ e ∷ back) (sym (append_assoc before seg goes.rest) ∙ sym goes.is) in
     elim (stands_in seg goes.rest front e back joined) as (λ _. TellsOf budget (before ++ front) e) [
-      | inl f ↦ made_tells (n + 1) c (length before) budget before front e f.more (subst (λ (l : List Entry). AllMade (n + 1) c (length before) budget before l) f.is r.2.made)
+      | inl f ↦ made_tells (n + 1) c budget attempts before front e f.more (subst (λ (l : List Entry). JobRun (n + 1) c budget attempts before l) f.is r.2)
       | inr s ↦
           subst (λ (l : List Entry). TellsOf budget l e) (append_assoc before seg s.behind ∙ ap (λ (l : List Entry). before ++ l) (sym s.is))
           (run_tells budget attempts (n + 1) (before ++ seg) cs s.behind e back

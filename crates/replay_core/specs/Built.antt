@@ -9,4 +9,5 @@ is_built (command.Apply object) = true
 is_built (command.Invalid error) = true
 is_built (command.Delete target) = true
 is_built (command.Schedule pod) = true
+is_built (command.Release pod) = true
 is_built command.NotBuilt = false

@@ -1,7 +1,6 @@
 pub mod Script
 pub mod Jobs
 pub mod Built
-pub mod Claims
 pub mod Doing
 pub mod Stops
 pub mod Lines

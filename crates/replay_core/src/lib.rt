@@ -1,8 +1,6 @@
 //! Replays a script: reads its commands, does each as a job of a ledger, and prints what was decided.
 #![tactic(auto)]
 
-mod built;
-mod claims;
 mod jobs;
 mod laws;
 mod options;

@@ -70,7 +70,14 @@ pub fn do_next<K: Sink>(
 {
     let from = work.ledger.len();
     let job = work.commands + 1;
-    let done = do_command(alloc, &mut work.ledger, job, command, options.budget);
+    let done = do_command(
+        alloc,
+        &mut work.ledger,
+        job,
+        command,
+        options.budget,
+        options.attempts,
+    );
     let _entries = work.ledger.len();
     match done {
         Ok(()) => {

@@ -60,6 +60,7 @@ fn push_command(alloc: Global, command: &Command, text: &mut String) -> Result<(
         Command::Invalid(error) => write!(text, "invalid {}", error_text(alloc, error)?),
         Command::NotBuilt => text.push_str("not built"),
         Command::Schedule(key) => write!(text, "schedule {key}"),
+        Command::Release(key) => write!(text, "release {key}"),
         Command::Delete(target) => push_target(target, text),
         Command::Apply(ready) => push_object(ready.object(), text),
     }

@@ -1,13 +1,11 @@
 use Rattle.std.proofs.Common.{◌≡◌, ◌++◌}
 use Rattle.std.specs.List.{AllByRecursion}
 use Rattle.std.specs.Map.{keys_of}
-use Rattle.allocations.specs.Claims.{wanted}
 use Rattle.alloc_rules.specs.Plans.{CauseBy, nodes_of}
 use Rattle.alloc_rules.proofs.nodes.try_nodes.Given as goal
 
 abbrev pub invariant-loop-node : goal.invariant-loop-node
 invariant-loop-node l = record {
-  search_is : l.search ≡ record { state = l.state; claims = wanted l.state l.pod };
   names_are : nodes_of l.passed ++ keys_of l.node-iterator ≡ keys_of l.state.inventory.nodes;
   causes : AllByRecursion (λ p. CauseBy l.state l.pod l.budget p.node p.cause) l.passed;
 }

@@ -7,12 +7,14 @@ use Rattle.cluster.specs.Held.{HeldOnce}
 use Rattle.cluster.specs.declared.entry.Command.{Command}
 use Rattle.cluster.specs.declared.entry.Refusal.{Refusal}
 use Rattle.cluster.specs.declared.entry.Entry.{Entry}
-use Rattle.cluster.specs.declared.entry.Event.TheVariants.{Reserved, Judged, Denied}
-use Rattle.ledger_core.specs.Legal.{Legal}
+use Rattle.cluster.specs.declared.entry.Event.TheVariants.{Reserved, Refused, Judged, Adopted, Denied}
+use Rattle.ledger_core.specs.Legal.{Legal, Step}
+use Rattle.api_claim.specs.declared.types.ClaimStatus.{ClaimStatus}
+use Rattle.cluster.specs.declared.failure.Failure.{Failure}
 use Rattle.ledger_core.specs.Denied.{MayDeny}
 use Rattle.cluster.specs.History.{state_at, state_of}
 use Rattle.alloc_rules.specs.Plans.{VerdictBy}
-use Rattle.ledger_core.specs.Headline.{IsGrantOf, IsVerdictOf}
+use Rattle.ledger_core.specs.Headline.{IsAdoptionOf, IsGrantOf, IsVerdictOf}
 use Rattle.ledger_core.specs.Limits.{ObjectsKept}
 use Rattle.ledger_core.specs.Users.{PodsUseClaims, UsersAreBusy}
 use Rattle.commands.specs.declared.command.Command as script
@@ -37,6 +39,12 @@ BudgetLaw = (budget attempts : ℕ) (commands : List script.Command) (front back
 DenialLaw : Type 0
 DenialLaw = (front back : List Entry) (job : ℕ) (command : Command) (refusal : Refusal) → Legal (front ++ record { job = job; event = Denied command refusal } ∷ back) → MayDeny (state_of front) command refusal
 
+AdoptionLaw : Type 0
+AdoptionLaw = (front back : List Entry) (job : ℕ) (claim : Key) (status : ClaimStatus) → Legal (front ++ record { job = job; event = Adopted claim status } ∷ back) → IsAdoptionOf front claim status
+
+StepLaw : Type 0
+StepLaw = (front : List Entry) (e : Entry) (back : List Entry) → Legal (front ++ e ∷ back) → Step front e
+
 HolderLaw : Type 0
 HolderLaw = (h : List Entry) (place : ℕ) → Legal h → HeldOnce (state_at h place)
 
@@ -49,9 +57,9 @@ UserLaw = (h : List Entry) (place : ℕ) → Legal h → UsersAreBusy (state_at 
 UseLaw : Type 0
 UseLaw = (h : List Entry) (place : ℕ) → Legal h → PodsUseClaims (state_at h place)
 
-replayed : (options : ReplayOptions) (left before after : Option (List ℕ)) → GrantLaw → VerdictLaw → BudgetLaw → DenialLaw → HolderLaw → LimitLaw → UserLaw → UseLaw → EndsDone options left before after → Replayed options left before after
-unfolding GrantLaw VerdictLaw BudgetLaw DenialLaw HolderLaw LimitLaw UserLaw UseLaw
-replayed options left before after grants verdicts budgets denials holders limits users uses d = record {
+replayed : (options : ReplayOptions) (left before after : Option (List ℕ)) → GrantLaw → VerdictLaw → BudgetLaw → StepLaw → AdoptionLaw → DenialLaw → HolderLaw → LimitLaw → UserLaw → UseLaw → EndsDone options left before after → Replayed options left before after
+unfolding GrantLaw VerdictLaw BudgetLaw StepLaw AdoptionLaw DenialLaw HolderLaw LimitLaw UserLaw UseLaw
+replayed options left before after grants verdicts budgets steps adoptions denials holders limits users uses d = record {
   ends = d;
   history = record {
     grants = λ front back job pod plan e. grants front back job pod plan (subst (λ (h : List Entry). Legal h) e d.run.legal);
@@ -59,6 +67,8 @@ replayed options left before after grants verdicts budgets denials holders limit
     budgets = λ front back job pod verdict e.
         verdict_names (state_at front verdict.at) pod options.budget verdict
         (budgets options.budget options.attempts (commands_of d.done) front back job pod verdict (subst (λ (h : List Entry). RunOf options.budget options.attempts (commands_of d.done) h) e d.run.run));
+    refusals = λ front back job pod plan why e. (steps front (record { job = job; event = Refused pod plan why }) back (subst (λ (h : List Entry). Legal h) e d.run.legal)).stands;
+    adoptions = λ front back job claim status e. adoptions front back job claim status (subst (λ (h : List Entry). Legal h) e d.run.legal);
     denials = λ front back job command refusal e. denials front back job command refusal (subst (λ (h : List Entry). Legal h) e d.run.legal);
     holders = λ place. holders d.history place d.run.legal;
     limits = λ place. limits d.history place d.run.legal;
@@ -68,8 +78,8 @@ replayed options left before after grants verdicts budgets denials holders limit
 }
 
 pub returns-in-Some-clause-done : goal.returns-in-Some-clause-done
-unfolding GrantLaw VerdictLaw BudgetLaw DenialLaw HolderLaw LimitLaw UserLaw UseLaw
+unfolding GrantLaw VerdictLaw BudgetLaw StepLaw AdoptionLaw DenialLaw HolderLaw LimitLaw UserLaw UseLaw
 returns-in-Some-clause-done g c = λ is.
     asks (map string_bytes c.args.words.now.items) _ c.options_of.result c.in-Some.options (search rules) c.in-Some.is
-    (replayed c.in-Some.options _ _ _ c.grants_are_allocations.ensures c.verdicts_are_true.ensures c.runs_search_within.ensures.verdicts c.denials_change_nothing.ensures.due c.one_holder.ensures.always c.objects_keep_limits.ensures.always c.users_are_busy.ensures.always c.pods_use_claims.ensures.always
+    (replayed c.in-Some.options _ _ _ c.grants_are_allocations.ensures c.verdicts_are_true.ensures c.runs_search_within.ensures.verdicts c.legal_steps.ensures.step c.adoptions_are_allocations.ensures c.denials_change_nothing.ensures.due c.one_holder.ensures.always c.objects_keep_limits.ensures.always c.users_are_busy.ensures.always c.pods_use_claims.ensures.always
     (rw is at c.replay.ensures.ends))

@@ -3,8 +3,10 @@ use Rattle.ledger_core.proofs.headline.one_holder.Goals as goal
 
 pub returns-clause-now : goal.returns-clause-now
 returns-clause-now c =
-    once_now c.one_holder_is_kept.ensures.empty c.one_holder_is_kept.ensures.applied c.one_holder_is_kept.ensures.deleted c.one_holder_is_kept.ensures.reserved c.one_holder_is_kept.ensures.written c.one_holder_is_kept.ensures.bound
+    let kept = c.one_holder_is_kept.ensures in
+    once_now kept.empty kept.applied kept.deleted kept.reserved kept.written kept.bound c.grants_hold_once.ensures c.checked_is_allocation.ensures.status
 
 pub returns-clause-always : goal.returns-clause-always
 returns-clause-always c =
-    once_at c.one_holder_is_kept.ensures.empty c.one_holder_is_kept.ensures.applied c.one_holder_is_kept.ensures.deleted c.one_holder_is_kept.ensures.reserved c.one_holder_is_kept.ensures.written c.one_holder_is_kept.ensures.bound
+    let kept = c.one_holder_is_kept.ensures in
+    once_at kept.empty kept.applied kept.deleted kept.reserved kept.written kept.bound c.grants_hold_once.ensures c.checked_is_allocation.ensures.status

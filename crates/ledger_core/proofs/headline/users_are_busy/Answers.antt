@@ -2,10 +2,10 @@ use Rattle.ledger_core.proofs.Using.{busy_at, busy_now, idle_now}
 use Rattle.ledger_core.proofs.headline.users_are_busy.Goals as goal
 
 pub returns-clause-now : goal.returns-clause-now
-returns-clause-now c = busy_now
+returns-clause-now c = busy_now c.same_is_equal.ensures.claims
 
 pub returns-clause-always : goal.returns-clause-always
-returns-clause-always c = busy_at
+returns-clause-always c = busy_at c.same_is_equal.ensures.claims
 
 pub returns-clause-idle : goal.returns-clause-idle
-returns-clause-idle c = idle_now
+returns-clause-idle c = idle_now c.same_is_equal.ensures.claims

@@ -1,9 +1,10 @@
-use Rattle.std.proofs.Common.{◌≡◌, ◌∙◌, List, [], map, take, refl, sym, ap, arith}
+use Rattle.std.proofs.Common.{ℕ, ◌≡◌, ◌≤◌, ◌∙◌, List, [], map, take, refl, sym, ap, subst, arith}
 use Rattle.object_fields.specs.declared.key.DeviceId.{DeviceId}
 use Rattle.object_fields.specs.declared.key.Key.{Key}
 use Rattle.counter_sets.specs.Draws.{CounterId, drawn, drawn_by, held_devices}
-use Rattle.counter_sets.specs.Totals.{drawn_in}
-use Rattle.node_search.proofs.Keeping.{held_fits, held_kept, still_none}
+use Rattle.counter_sets.specs.Holding.{offered_held}
+use Rattle.counter_sets.specs.Totals.{drawn_in, sum_most}
+use Rattle.node_search.proofs.Keeping.{held_fits, held_kept, none_fits, still_fits, still_none}
 use Rattle.node_search.proofs.Places.{item_at, take_next}
 use Rattle.node_search.proofs.totals.add_held.Goals as goal
 
@@ -16,6 +17,7 @@ loop-slice-init c = record {
   same = λ k. refl;
   drawn_so = λ pairs held k. c.requires.none k ∙ sym (none_of pairs k);
   none = λ k j y le e own. c.requires.none k;
+  most = λ k. none_fits (drawn_in c.args.totals.now k) (c.requires.none k);
 }
 
 pub add_held-requires-clause-kept : goal.add_held-requires-clause-kept
@@ -43,4 +45,9 @@ loop-slice-preserved c =
           (c.requires.limits c.loop-slice.slice-index c.slice-item.result.now at)
           (c.requires.names c.loop-slice.slice-index j c.slice-item.result.now y (omega (arith, le)) at e) own (c.add_held.ensures.drawn k)
           (c.loop-slice.invariant.none k j y (omega (arith, le)) e own);
+      most = λ k.
+          subst (λ (n : ℕ). n ≤ sum_most) (sym (c.add_held.ensures.drawn k))
+          (still_fits (drawn_in c.loop-slice.totals k) (drawn_by k (offered_held c.args.holders.now c.slice-item.result.now)) (c.loop-slice.invariant.most k)
+          (held_fits c.args.holders.now c.slice-item.result.now k (drawn_in c.loop-slice.totals k) (c.requires.limits c.loop-slice.slice-index c.slice-item.result.now at)
+          (λ own. c.loop-slice.invariant.none k c.loop-slice.slice-index c.slice-item.result.now (omega arith) at own)));
     }

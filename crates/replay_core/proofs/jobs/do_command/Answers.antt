@@ -1,12 +1,14 @@
-use Rattle.std.proofs.Common.{refl, rules}
-use Rattle.replay_core.specs.Doing.{IsFull}
-use Rattle.replay_core.proofs.JobSteps.{begun_at_first, met_from}
+use Rattle.std.proofs.Common.{rules, ◌≡◌, ◌∙◌, ◌≤◌, length, sym}
+use Rattle.replay_core.proofs.Orders.{met_alone, ran_alone}
 use Rattle.replay_core.proofs.jobs.do_command.Goals as goal
 
-pub returns-then-not-is_built-clause-begun : goal.returns-then-not-is_built-clause-begun
-returns-then-not-is_built-clause-begun c = λ attempts some. begun_at_first c.args.job c.args.command c.args.budget attempts c.args.ledger.now c.args.ledger.now refl c.requires some
+pub returns-in_err-run_alone-in-Some-clause-full : goal.returns-in_err-run_alone-in-Some-clause-full
+returns-in_err-run_alone-in-Some-clause-full c = λ n e.
+    let both : (length c.run_alone.new.ledger.entries ≡ n) × (c.run_alone.new.ledger.limit ≤ n) = search (rules, e) in
+    met_alone c.args.job c.args.command c.in-Some.order c.args.budget c.args.attempts c.args.ledger.now c.run_alone.new.ledger n (sym c.order_of.ensures ∙ c.in-Some.is) c.run_alone.ensures.extends c.run_alone.ensures.limit
+    c.in_err-run_alone-in-Some.ensures.begun both.0 both.1
 
-pub returns-in_err-do_built-clause-full : goal.returns-in_err-do_built-clause-full
-returns-in_err-do_built-clause-full c = λ n e attempts some.
-    let full : IsFull c.do_built.new.ledger n = search (rules, e) in
-    met_from c.args.job c.args.command c.args.budget attempts c.args.ledger.now c.do_built.new.ledger n (search rules) (c.in_err-do_built.ensures.begun attempts some) full
+pub returns-in_ok-run_alone-in-Some-clause-ran : goal.returns-in_ok-run_alone-in-Some-clause-ran
+returns-in_ok-run_alone-in-Some-clause-ran c =
+    ran_alone c.args.job c.args.command c.in-Some.order c.args.budget c.args.attempts c.args.ledger.now c.run_alone.new.ledger (sym c.order_of.ensures ∙ c.in-Some.is) c.run_alone.ensures.extends c.run_alone.ensures.limit
+    c.in_ok-run_alone-in-Some.ensures.run

@@ -1,9 +1,16 @@
+use Rattle.std.proofs.Common.{subst}
 use Rattle.cluster.specs.declared.entry.Event.TheVariants.{Judged, Reserved}
+use Rattle.cluster.specs.History.{state_at}
+use Rattle.alloc_rules.specs.Plans.{PlanBy, VerdictBy}
 use Rattle.replay_core.proofs.Searched.{entry_tells}
 use Rattle.replay_core.proofs.laws.runs_search_within.Goals as goal
 
 pub returns-clause-plans : goal.returns-clause-plans
-returns-clause-plans c = λ budget attempts commands front back job pod plan run. (entry_tells budget attempts commands front (record { job = job; event = Reserved pod plan }) back run).1.1
+returns-clause-plans c = λ budget attempts commands front back job pod plan run.
+    let tells = entry_tells budget attempts commands front (record { job = job; event = Reserved pod plan }) back run in
+    subst (λ b. PlanBy (state_at front plan.at) pod b plan) tells.1 tells.2.by
 
 pub returns-clause-verdicts : goal.returns-clause-verdicts
-returns-clause-verdicts c = λ budget attempts commands front back job pod verdict run. (entry_tells budget attempts commands front (record { job = job; event = Judged pod verdict }) back run).1.1
+returns-clause-verdicts c = λ budget attempts commands front back job pod verdict run.
+    let tells = entry_tells budget attempts commands front (record { job = job; event = Judged pod verdict }) back run in
+    subst (λ b. VerdictBy (state_at front verdict.at) pod b verdict) tells.1 tells.2.by

@@ -4,7 +4,7 @@ use Rattle.replay_core.proofs.work.do_next.Goals as goal
 
 pub returns-in-Ok-print_from-2-clause-stops : goal.returns-in-Ok-print_from-2-clause-stops
 returns-in-Ok-print_from-2-clause-stops g c = record {
-  met = c.do_command-done.ensures.full c.in-Err-Full.count (search rules) c.args.options.attempts c.requires.attempts;
+  met = c.do_command-done.ensures.full c.in-Err-Full.count (search rules);
   printed = search rules;
 }
 
@@ -14,6 +14,6 @@ returns-in-Err-print_from-clause-stops g c =
     (g.K.Sink.written c.args.output.now) (g.K.Sink.written c.print_from-in-Err-Full.new.output) c.in-Err-print_from.error c.write_status-in-Err-print_from.result
     c.write_status-in-Err-print_from.ensures (record {
       count = c.in-Err-Full.count;
-      met = c.do_command-done.ensures.full c.in-Err-Full.count (search rules) c.args.options.attempts c.requires.attempts;
+      met = c.do_command-done.ensures.full c.in-Err-Full.count (search rules);
       printed = search rules;
     })

@@ -1,5 +1,4 @@
-use Rattle.std.proofs.Common.{◌≡◌, ◌∙◌, ap, refl}
-use Rattle.cluster.specs.Prepared.{placed}
+use Rattle.std.proofs.Common.{◌≡◌, ◌∙◌, refl}
 use Rattle.cluster.specs.Reserved.{with_grants, with_joins}
 use Rattle.cluster.proofs.Preparing.{placed_is}
 use Rattle.cluster.proofs.state.State.reserve.Goals as goal
@@ -10,5 +9,5 @@ returns-clause-ok c =
     let plan = c.args.plan.now in
     let claims = c.args.self.now.claims in
     let made : c.place.new.claims ≡ with_joins pod plan.joins (with_grants plan.node pod plan.grants claims) =
-    c.place.ensures ∙ ap (λ us. placed us claims) c.in_ok-uses.ensures ∙ placed_is pod plan claims in
-    rw (made, c.set_phase.ensures, c.in_ok-node.ensures) refl
+    c.place.ensures ∙ rw (c.in_ok-claims.ensures.value, c.in_ok-uses.ensures, c.deref.ensures) (placed_is pod plan claims) in
+    rw (made, c.set_phase.ensures, c.in_ok-pods.ensures.value, c.in_ok-node.ensures) refl

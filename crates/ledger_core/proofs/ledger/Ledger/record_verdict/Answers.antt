@@ -3,15 +3,19 @@ use Rattle.cluster.specs.declared.entry.Entry.{Entry}
 use Rattle.cluster.specs.declared.entry.Event.TheVariants.{Judged}
 use Rattle.ledger_core.specs.Ledger.{History}
 use Rattle.ledger_core.specs.Legal.{Step}
-use Rattle.ledger_core.proofs.Histories.{judged_now}
-use Rattle.ledger_core.proofs.Keeping.{kept_more}
+use Rattle.ledger_core.proofs.Keeping.{few_tries, kept_more}
 use Rattle.ledger_core.proofs.ledger.Ledger.record_verdict.Goals as goal
 
 pub invariant_of-self-2 : goal.invariant_of-self-2
 invariant_of-self-2 c =
+    let kept = c.self.invariant in
+    let room = c.in_ok-place.ensures in
     let e : Entry = record { job = c.args.job; event = Judged c.args.pod.now c.args.verdict } in
-    let step = subst (λ (h : History). Step h.entries e) (sym c.self.view_is) (record { allowed = c.requires.stand; stands = judged_now _ _ _ c.requires.at c.requires.verdict }) in
-    rw (c.append.ensures.entries, c.in_ok-place.ensures.entries, c.in_ok-pod.ensures) (kept_more _ e _ _ _ _ _ _ c.self.invariant step c.in_ok-place.ensures.within refl c.in_ok-place.ensures.stands (rw c.in_ok-place.ensures.entries at c.append.ensures.stands))
+    let step = subst (λ (h : History). Step h.entries e) (sym c.self.view_is) (record { allowed = c.requires.stand; stands = c.requires.verdict }) in
+    rw (c.append.ensures.entries, room.entries, c.in_ok-pod.ensures) (kept_more _ e _ _ _ _ _ _ _ _ kept step room.within refl kept.holders_are room.stands (rw room.entries at c.append.ensures.stands))
 
 pub returns-clause-legal : goal.returns-clause-legal
 returns-clause-legal c = (invariant_of-self-2 c).legal
+
+pub append-requires-clause-tries : goal.append-requires-clause-tries
+append-requires-clause-tries c = few_tries _ _ _ _ _ _ c.args.job c.self.invariant c.in_ok-place.ensures.stands

@@ -1,0 +1,12 @@
+mod AllPlain
+mod ClaimBack
+mod Decimals
+mod FullNames
+mod ObjectsBack
+mod Order
+mod Padded
+mod Plain
+mod Readings
+mod Requests
+mod Statuses
+mod Tables

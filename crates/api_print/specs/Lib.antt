@@ -1,0 +1,12 @@
+pub mod Shapes
+pub mod Metadata
+pub mod Nodes
+pub mod Classes
+pub mod Pods
+pub mod Selectors
+pub mod Devices
+pub mod Slices
+pub mod Claims
+pub mod Status
+pub mod Objects
+pub mod ReadBack

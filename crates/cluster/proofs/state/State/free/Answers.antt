@@ -1,0 +1,15 @@
+use Rattle.std.proofs.Common.{◌≡◌, ◌∙◌, refl}
+use Rattle.pool_view.specs.Names.{at_key}
+use Rattle.cluster.specs.Freed.{claims_by, with_freed}
+use Rattle.cluster.proofs.Freeing.{left_is}
+use Rattle.cluster.proofs.state.State.free.Goals as goal
+
+pub returns-clause-ok : goal.returns-clause-ok
+returns-clause-ok c =
+    let place = c.args.place in
+    let pod = c.args.pod.now in
+    let claims = c.args.self.now.claims in
+    let there = at_key c.args.self.now.pods pod in
+    let made : c.leave.new.claims ≡ with_freed place pod (claims_by there) claims =
+    c.leave.ensures ∙ rw (c.in_ok-claims.ensures.value, c.in_ok-left.ensures, c.deref.ensures, c.get.ensures, c.deref-2.ensures) (left_is place pod claims there) in
+    rw (made, c.set_phase.ensures, c.in_ok-pods.ensures.value) refl

@@ -1,0 +1,15 @@
+-- A bound pod gives its claims back.
+use Rattle.std.specs.Prelude.{ℕ}
+use Rattle.object_fields.specs.declared.key.Key.{Key}
+use Rattle.cluster.specs.declared.entry.Stand.{Stand}
+use Rattle.cluster.specs.declared.entry.Stand.TheVariants as stand
+use Rattle.cluster.specs.declared.state.State.{State}
+use Rattle.cluster.specs.Freed.{without_uses}
+
+-- the pod's uses, which are all written, are taken away, and it is Idle
+abbrev pub with_released : ℕ → Key → State → State
+with_released place pod s = without_uses place pod s
+
+-- its job is ended
+abbrev pub released_leaves : ℕ → Stand
+released_leaves place = stand.Ended place

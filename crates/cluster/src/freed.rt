@@ -1,0 +1,191 @@
+ghost use Rattle.std.specs.Prelude.{◌≡◌, ◌++◌, IfOk, Some, map, option_copied, option_map};
+ghost use Rattle.cluster.specs.Freed.{freed, freed_by, freed_version, grant_left, without_user};
+ghost use Rattle.cluster.specs.Leaving.{leaving, leaving_by, leaving_each, left, left_at};
+ghost use Rattle.cluster.specs.Tables.{changed_at};
+
+use crate::{ClaimState, Granted, PodState, Use};
+use api_cluster::{Pod, PodResourceClaim};
+use dra_values::{Duplicate, Shared, Table, Text};
+use object_fields::Key;
+use pool_view::Stored;
+use ready_objects::ReadyClaim;
+use std::alloc::{AllocError, Global};
+
+/// A claim as it is without a pod's use.
+#[derive(Drop)]
+pub struct Leaving {
+    claim: Key,
+    /// `None` if the claim isn't there.
+    state: Option<ClaimState>,
+}
+
+/// What the claims of a pod are without its uses, by the entry at this place; none if the pod isn't
+/// there. `AllocError` comes only if memory runs out.
+pub fn prepare_free(
+    alloc: Global,
+    claims: &Table<Key, ClaimState>,
+    place: u64,
+    pod: &Key,
+    state: Option<&PodState>,
+) -> Result<Vec<Leaving>, AllocError>
+    ensures { IfOk result (λ claims_left. claims_left.items ≡ leaving_by place pod.now claims.now (option_copied state.entry)) }
+{
+    match state {
+        None => Ok(Vec::new(alloc)),
+        Some(state) => prepare_each(alloc, claims, place, pod, &state.pod.object),
+    }
+}
+
+fn prepare_each(
+    alloc: Global,
+    claims: &Table<Key, ClaimState>,
+    place: u64,
+    pod: &Key,
+    named: &Pod,
+) -> Result<Vec<Leaving>, AllocError>
+    ensures { IfOk result (λ claims_left. claims_left.items ≡ leaving_each place pod.now claims.now named.now) }
+{
+    let mut claims_left = Vec::new(alloc);
+    for claim in named.claims.as_slice() {
+        claims_left.push(prepare_leaving(alloc, claims, place, pod, &named.key.namespace, claim)?)?;
+    }
+    Ok(claims_left)
+}
+
+fn prepare_leaving(
+    alloc: Global,
+    claims: &Table<Key, ClaimState>,
+    place: u64,
+    pod: &Key,
+    namespace: &Text,
+    claim: &PodResourceClaim,
+) -> Result<Leaving, AllocError>
+    ensures { IfOk result (λ l. l ≡ leaving place pod.now claims.now namespace.now claim.now) }
+{
+    let claim = Key {
+        namespace: namespace.copy(alloc)?,
+        name: claim.claim.copy(alloc)?,
+    };
+    let state = freed_at(alloc, place, pod, claims.get(&claim))?;
+    Ok(Leaving { claim, state })
+}
+
+fn freed_at(
+    alloc: Global,
+    place: u64,
+    pod: &Key,
+    state: Option<&ClaimState>,
+) -> Result<Option<ClaimState>, AllocError>
+    ensures { IfOk result (λ s. s ≡ option_map (freed place pod.now) (option_copied state.entry)) }
+{
+    match state {
+        None => Ok(None),
+        Some(state) => Ok(Some(freed(alloc, place, pod, state)?)),
+    }
+}
+
+/// The claim without the pod's use, where it has one.
+fn freed(alloc: Global, place: u64, pod: &Key, state: &ClaimState) -> Result<ClaimState, AllocError>
+    ensures { IfOk result (λ s. s ≡ freed place pod.now state.now) }
+{
+    match state.users.get(pod) {
+        None => state.duplicate(alloc),
+        Some(how) => without_use(alloc, place, pod, how, state),
+    }
+}
+
+/// The claim without the pod's use, which it has.
+fn without_use(
+    alloc: Global,
+    place: u64,
+    pod: &Key,
+    how: &Use,
+    state: &ClaimState,
+) -> Result<ClaimState, AllocError>
+    ensures { IfOk result (λ s. s ≡ freed_by place pod.now (Some how.now) state.now) }
+{
+    let claim = freed_claim(alloc, place, how, &state.claim)?;
+    let users = without_user(alloc, pod, &state.users)?;
+    let grant = grant_left(alloc, &users, &state.grant)?;
+    Ok(ClaimState {
+        claim,
+        grant,
+        users,
+    })
+}
+
+fn freed_claim(
+    alloc: Global,
+    place: u64,
+    how: &Use,
+    claim: &Stored<Shared<ReadyClaim>>,
+) -> Result<Stored<Shared<ReadyClaim>>, AllocError>
+    ensures { IfOk result (λ c. c ≡ record claim.now { version = freed_version place how.now claim.now.version }) }
+{
+    let mut freed = claim.duplicate(alloc)?;
+    freed.version = freed_version(place, how, claim.version);
+    Ok(freed)
+}
+
+fn freed_version(place: u64, how: &Use, version: u64) -> u64
+    ensures { result ≡ freed_version place how.now version }
+{
+    match how {
+        Use::Assumed(_) => version,
+        Use::Written => place,
+    }
+}
+
+fn without_user(
+    alloc: Global,
+    pod: &Key,
+    users: &Table<Key, Use>,
+) -> Result<Shared<Table<Key, Use>>, AllocError>
+    ensures { IfOk result (λ us. us ≡ without_user pod.now users.now) }
+{
+    let mut users = users.copy(alloc)?;
+    users.remove(pod);
+    Shared::new(alloc, users)
+}
+
+/// The grant of a claim with these users, of which there may be none.
+fn grant_left(
+    alloc: Global,
+    users: &Table<Key, Use>,
+    grant: &Option<Shared<Granted>>,
+) -> Result<Option<Shared<Granted>>, AllocError>
+    ensures { IfOk result (λ g. g ≡ grant_left users.now grant.now) }
+{
+    if users.is_empty() {
+        Ok(None)
+    } else {
+        grant.duplicate(alloc)
+    }
+}
+
+/// Puts what was prepared into the claims. Takes no memory.
+pub fn leave(claims: &mut Table<Key, ClaimState>, claims_left: Vec<Leaving>)
+    ensures { claims.new ≡ left claims_left.items claims.old }
+{
+    for leaving in claims_left {
+        put(claims, leaving);
+    }
+}
+
+fn put(claims: &mut Table<Key, ClaimState>, leaving: Leaving)
+    ensures { claims.new ≡ left_at leaving.claim leaving.state claims.old }
+{
+    let Leaving { claim, state } = leaving;
+    if let Some(state) = state {
+        set_state(claims, &claim, state);
+    }
+}
+
+/// Puts a claim into the stead of the one at its key, where it is there.
+fn set_state(claims: &mut Table<Key, ClaimState>, claim: &Key, state: ClaimState)
+    ensures { claims.new ≡ changed_at claim.now (λ _. state) claims.old }
+{
+    if let Some(old) = claims.get_mut(claim) {
+        *old = state;
+    }
+}

@@ -1,0 +1,21 @@
+use Rattle.std.proofs.Common.{refl, sym, subst}
+use Rattle.cluster.specs.declared.entry.Entry.{Entry}
+use Rattle.cluster.specs.declared.entry.Event.TheVariants.{Conflict}
+use Rattle.ledger_core.specs.Ledger.{History}
+use Rattle.ledger_core.specs.Legal.{Step}
+use Rattle.ledger_core.proofs.Keeping.{few_tries, kept_more}
+use Rattle.ledger_core.proofs.ledger.Ledger.conflict.Goals as goal
+
+pub invariant_of-self-2 : goal.invariant_of-self-2
+invariant_of-self-2 c =
+    let kept = c.self.invariant in
+    let room = c.in_ok-place.ensures in
+    let e : Entry = record { job = c.args.job; event = Conflict c.args.pod.now c.args.claim.now c.args.had c.args.now } in
+    let step = subst (λ (h : History). Step h.entries e) (sym c.self.view_is) (record { allowed = c.requires.stand; stands = c.requires.differ }) in
+    rw (c.append.ensures.entries, room.entries, c.in_ok-pod.ensures, c.in_ok-claim.ensures) (kept_more _ e _ _ _ _ _ _ _ _ kept step room.within refl kept.holders_are room.stands c.append.ensures.stands)
+
+pub returns-clause-legal : goal.returns-clause-legal
+returns-clause-legal c = (invariant_of-self-2 c).legal
+
+pub append-requires-clause-tries : goal.append-requires-clause-tries
+append-requires-clause-tries c = few_tries _ _ _ _ _ _ c.args.job c.self.invariant c.in_ok-place.ensures.stands

@@ -1,0 +1,457 @@
+//! The claims that hold devices, changed with each kind of entry.
+
+ghost use Rattle.std.specs.Prelude.{◌≡◌, ◌++◌, [], IfOk, OnOk, OnErr, map};
+ghost use Rattle.object_fields.specs.declared.key.DeviceId.{DeviceId};
+ghost use Rattle.pool_view.specs.Names.{at_key};
+ghost use Rattle.counter_sets.specs.Holding.{holder_in};
+ghost use Rattle.cluster.specs.Adopted.{result_of, with_adopted};
+ghost use Rattle.cluster.specs.Deleted.{without_object};
+ghost use Rattle.cluster.specs.Freed.{without_uses};
+ghost use Rattle.cluster.specs.Reserved.{with_reserved};
+ghost use Rattle.request_rules.specs.Lists.{add_some};
+ghost use Rattle.ledger_core.specs.Holding.{given_each, given_one, given_to, grant_at, left_by, left_each, left_of, left_one, lost_among, lost_at, lost_by, lost_of, lost_with};
+
+use allocations::keys_of_pod;
+use api_claim::{ClaimStatus, StatusResult};
+use cluster::{ClaimState, DeviceResult, Grant, Granted, Plan, State, Target};
+use counter_sets::Held;
+use dra_values::{Duplicate, Seq, Shared, Table};
+use object_fields::Key;
+use std::alloc::{AllocError, Global};
+
+/// Gives a claim the device of a result, unless the result has admin access.
+fn give(
+    alloc: Global,
+    holders: &mut Held,
+    claim: &Key,
+    found: &DeviceResult,
+) -> Result<(), AllocError>
+    ensures ok { OnOk result ((id : DeviceId) → holder_in holders.new id ≡ given_one claim.now found.now id (holder_in holders.old id)) }
+    ensures err { OnErr result (holders.new ≡ holders.old) }
+{
+    if found.admin {
+        return Ok(());
+    }
+    let claim = claim.copy(alloc)?;
+    holders.insert(&found.device, claim, alloc)
+}
+
+/// Gives a claim the devices of results without admin access. After an error it may have some of them.
+fn give_all(
+    alloc: Global,
+    holders: &mut Held,
+    claim: &Key,
+    results: &[DeviceResult],
+) -> Result<(), AllocError>
+    ensures ok { OnOk result ((id : DeviceId) → holder_in holders.new id ≡ given_to claim.now results.now id (holder_in holders.old id)) }
+    ensures others { (id : DeviceId) → left_of results.now id (holder_in holders.new id) ≡ left_of results.now id (holder_in holders.old id) }
+{
+    for found in results {
+        give(alloc, holders, claim, found)?;
+    }
+    Ok(())
+}
+
+/// Gives each claim its devices. After an error some of them may be given.
+fn give_each(alloc: Global, holders: &mut Held, grants: &[Grant]) -> Result<(), AllocError>
+    ensures ok { OnOk result ((id : DeviceId) → holder_in holders.new id ≡ given_each grants.now id (holder_in holders.old id)) }
+    ensures others { (id : DeviceId) → left_each grants.now id (holder_in holders.new id) ≡ left_each grants.now id (holder_in holders.old id) }
+{
+    for grant in grants {
+        give_all(alloc, holders, &grant.claim, grant.results.as_slice())?;
+    }
+    Ok(())
+}
+
+/// Gives the device of a result back, unless the result has admin access.
+fn leave(holders: &mut Held, found: &DeviceResult)
+    ensures { (id : DeviceId) → holder_in holders.new id ≡ left_one found.now id (holder_in holders.old id) }
+{
+    if !found.admin {
+        holders.remove(&found.device);
+    }
+}
+
+/// Gives the devices of results without admin access back.
+fn leave_all(holders: &mut Held, results: &[DeviceResult])
+    ensures { (id : DeviceId) → holder_in holders.new id ≡ left_of results.now id (holder_in holders.old id) }
+{
+    for found in results {
+        leave(holders, found);
+    }
+}
+
+/// Gives the devices of these grants back.
+fn leave_each(holders: &mut Held, grants: &[Grant])
+    ensures { (id : DeviceId) → holder_in holders.new id ≡ left_each grants.now id (holder_in holders.old id) }
+{
+    for grant in grants {
+        leave_all(holders, grant.results.as_slice());
+    }
+}
+
+/// Gives the devices of grants that go back.
+fn leave_lost(holders: &mut Held, lost: &[Shared<Granted>])
+    ensures { (id : DeviceId) → holder_in holders.new id ≡ left_by lost.now id (holder_in holders.old id) }
+{
+    for grant in lost {
+        leave_all(holders, grant.results.as_slice());
+    }
+}
+
+// ---- a plan's grants
+
+/// Gives the claims of a plan their devices, which are free. `AllocError` comes only if memory runs out,
+/// and then each device is held as it was.
+fn hold_plan(alloc: Global, holders: &mut Held, grants: &[Grant]) -> Result<(), AllocError>
+    requires { (id : DeviceId) → left_each grants.now id (holder_in holders.old id) ≡ holder_in holders.old id }
+    ensures ok { OnOk result ((id : DeviceId) → holder_in holders.new id ≡ given_each grants.now id (holder_in holders.old id)) }
+    ensures err { OnErr result ((id : DeviceId) → holder_in holders.new id ≡ holder_in holders.old id) }
+{
+    match give_each(alloc, holders, grants) {
+        Ok(()) => Ok(()),
+        Err(error) => {
+            leave_each(holders, grants);
+            Err(error)
+        }
+    }
+}
+
+fn reserve_held(
+    alloc: Global,
+    state: &mut State,
+    holders: &mut Held,
+    job: u64,
+    pod: &Key,
+    plan: &Plan,
+) -> Result<(), AllocError>
+    requires { (id : DeviceId) → left_each plan.now.grants id (holder_in holders.old id) ≡ holder_in holders.old id }
+    ensures ok { OnOk result (state.new ≡ with_reserved job pod.now plan.now state.old) }
+    ensures given { OnOk result ((id : DeviceId) → holder_in holders.new id ≡ given_each plan.now.grants id (holder_in holders.old id)) }
+    ensures err { OnErr result (state.new ≡ state.old) }
+    ensures same { OnErr result ((id : DeviceId) → holder_in holders.new id ≡ holder_in holders.old id) }
+{
+    hold_plan(alloc, holders, plan.grants.as_slice())?;
+    match state.reserve(alloc, job, pod, plan) {
+        Ok(()) => Ok(()),
+        Err(error) => {
+            leave_each(holders, plan.grants.as_slice());
+            Err(error)
+        }
+    }
+}
+
+/// Makes a plan's grants, whose devices are free, and returns the pod's key and the plan again.
+/// `AllocError` comes only if memory runs out, and then the state is as it was, and each device is held
+/// as it was.
+pub fn reserve(
+    alloc: Global,
+    state: &mut State,
+    holders: &mut Shared<Held>,
+    job: u64,
+    pod: &Key,
+    plan: &Plan,
+) -> Result<(Key, Plan), AllocError>
+    requires { (id : DeviceId) → left_each plan.now.grants id (holder_in holders.old id) ≡ holder_in holders.old id }
+    ensures kept { IfOk result (λ kept. (kept.0 ≡ pod.now) × (kept.1 ≡ plan.now)) }
+    ensures ok { OnOk result (state.new ≡ with_reserved job pod.now plan.now state.old) }
+    ensures given { OnOk result ((id : DeviceId) → holder_in holders.new id ≡ given_each plan.now.grants id (holder_in holders.old id)) }
+    ensures err { OnErr result (state.new ≡ state.old) }
+    ensures same { OnErr result ((id : DeviceId) → holder_in holders.new id ≡ holder_in holders.old id) }
+{
+    let kept_pod = pod.copy(alloc)?;
+    let kept_plan = plan.copy(alloc)?;
+    reserve_held(alloc, state, holders.change(alloc)?, job, pod, plan)?;
+    Ok((kept_pod, kept_plan))
+}
+
+// ---- the uses of a pod
+
+/// The grant of a claim whose only user is the pod.
+fn lost_by(
+    alloc: Global,
+    pod: &Key,
+    claim: &ClaimState,
+) -> Result<Option<Shared<Granted>>, AllocError>
+    ensures { IfOk result (λ lost. lost ≡ lost_by pod.now claim.now) }
+{
+    if claim.users.contains_key(pod) && claim.users.len() == 1 {
+        claim.grant.duplicate(alloc)
+    } else {
+        Ok(None)
+    }
+}
+
+fn lost_at(
+    alloc: Global,
+    claims: &Table<Key, ClaimState>,
+    pod: &Key,
+    claim: &Key,
+) -> Result<Option<Shared<Granted>>, AllocError>
+    ensures { IfOk result (λ lost. lost ≡ lost_at pod.now (at_key claims.now claim.now)) }
+{
+    match claims.get(claim) {
+        None => Ok(None),
+        Some(claim) => lost_by(alloc, pod, claim),
+    }
+}
+
+/// Puts a grant that goes at the end, where there is one.
+fn add_lost(
+    lost: &mut Vec<Shared<Granted>>,
+    grant: Option<Shared<Granted>>,
+) -> Result<(), AllocError>
+    ensures { OnOk result (lost.new.items ≡ lost.old.items ++ add_some grant []) }
+{
+    if let Some(grant) = grant {
+        lost.push(grant)?;
+    }
+    Ok(())
+}
+
+fn lost_among(
+    alloc: Global,
+    claims: &Table<Key, ClaimState>,
+    pod: &Key,
+    keys: &[Key],
+) -> Result<Vec<Shared<Granted>>, AllocError>
+    ensures { IfOk result (λ lost. lost.items ≡ lost_among pod.now claims.now keys.now) }
+{
+    let mut lost = Vec::new(alloc);
+    for key in keys {
+        add_lost(&mut lost, lost_at(alloc, claims, pod, key)?)?;
+    }
+    Ok(lost)
+}
+
+/// The grants that go with the uses of a pod.
+fn lost_with(alloc: Global, state: &State, pod: &Key) -> Result<Vec<Shared<Granted>>, AllocError>
+    ensures { IfOk result (λ lost. lost.items ≡ lost_with state.now pod.now) }
+{
+    match state.pods.get(pod) {
+        None => Ok(Vec::new(alloc)),
+        Some(found) => {
+            let keys = keys_of_pod(alloc, &found.pod.object)?;
+            lost_among(alloc, &state.claims, pod, keys.as_slice())
+        }
+    }
+}
+
+fn free_held(
+    alloc: Global,
+    state: &mut State,
+    holders: &mut Held,
+    place: u64,
+    pod: &Key,
+) -> Result<(), AllocError>
+    ensures ok { OnOk result (state.new ≡ without_uses place pod.now state.old) }
+    ensures left { OnOk result ((id : DeviceId) → holder_in holders.new id ≡ left_by (lost_with state.old pod.now) id (holder_in holders.old id)) }
+    ensures err { OnErr result (state.new ≡ state.old) }
+    ensures same { OnErr result (holders.new ≡ holders.old) }
+{
+    let lost = lost_with(alloc, state, pod)?;
+    state.free(alloc, place, pod)?;
+    leave_lost(holders, &lost);
+    Ok(())
+}
+
+/// Takes the uses of a pod away, by the entry at this place, and returns its key again. `AllocError`
+/// comes only if memory runs out, and then nothing changed.
+pub fn free(
+    alloc: Global,
+    state: &mut State,
+    holders: &mut Shared<Held>,
+    place: u64,
+    pod: &Key,
+) -> Result<Key, AllocError>
+    ensures kept { IfOk result (λ kept. kept ≡ pod.now) }
+    ensures ok { OnOk result (state.new ≡ without_uses place pod.now state.old) }
+    ensures left { OnOk result ((id : DeviceId) → holder_in holders.new id ≡ left_by (lost_with state.old pod.now) id (holder_in holders.old id)) }
+    ensures err { OnErr result (state.new ≡ state.old) }
+    ensures same { OnErr result (holders.new ≡ holders.old) }
+{
+    let kept = pod.copy(alloc)?;
+    free_held(alloc, state, holders.change(alloc)?, place, pod)?;
+    Ok(kept)
+}
+
+// ---- objects that are taken away
+
+/// The grant of a claim, if it is there and has one.
+fn grant_at(
+    alloc: Global,
+    claims: &Table<Key, ClaimState>,
+    claim: &Key,
+) -> Result<Option<Shared<Granted>>, AllocError>
+    ensures { IfOk result (λ grant. grant ≡ grant_at (at_key claims.now claim.now)) }
+{
+    match claims.get(claim) {
+        None => Ok(None),
+        Some(claim) => claim.grant.duplicate(alloc),
+    }
+}
+
+/// The grant that goes with an object.
+fn lost_of(
+    alloc: Global,
+    state: &State,
+    target: &Target,
+) -> Result<Option<Shared<Granted>>, AllocError>
+    ensures { IfOk result (λ lost. lost ≡ lost_of state.now target.now) }
+{
+    match target {
+        Target::Claim(key) => grant_at(alloc, &state.claims, key),
+        Target::Node(_) | Target::Slice(_) | Target::Class(_) | Target::Pod(_) => Ok(None),
+    }
+}
+
+/// Takes an object away, with whose grant these results go.
+fn remove_held(
+    alloc: Global,
+    state: &mut State,
+    holders: &mut Held,
+    target: &Target,
+    results: &[DeviceResult],
+) -> Result<(), AllocError>
+    ensures ok { OnOk result (state.new ≡ without_object target.now state.old) }
+    ensures left { OnOk result ((id : DeviceId) → holder_in holders.new id ≡ left_of results.now id (holder_in holders.old id)) }
+    ensures err { OnErr result (state.new ≡ state.old) }
+    ensures same { OnErr result (holders.new ≡ holders.old) }
+{
+    state.remove(alloc, target)?;
+    leave_all(holders, results);
+    Ok(())
+}
+
+fn remove_with(
+    alloc: Global,
+    state: &mut State,
+    holders: &mut Shared<Held>,
+    target: &Target,
+    lost: Option<Shared<Granted>>,
+) -> Result<(), AllocError>
+    ensures ok { OnOk result (state.new ≡ without_object target.now state.old) }
+    ensures left { OnOk result ((id : DeviceId) → holder_in holders.new id ≡ left_by (add_some lost []) id (holder_in holders.old id)) }
+    ensures err { OnErr result (state.new ≡ state.old) }
+    ensures same { OnErr result (holders.new ≡ holders.old) }
+{
+    match lost {
+        None => state.remove(alloc, target),
+        Some(grant) => {
+            let results = grant.results.as_slice();
+            remove_held(alloc, state, holders.change(alloc)?, target, results)
+        }
+    }
+}
+
+/// Takes an object away, and returns its kind and name again. `AllocError` comes only if memory runs
+/// out, and then nothing changed.
+pub fn remove(
+    alloc: Global,
+    state: &mut State,
+    holders: &mut Shared<Held>,
+    target: &Target,
+) -> Result<Target, AllocError>
+    ensures kept { IfOk result (λ kept. kept ≡ target.now) }
+    ensures ok { OnOk result (state.new ≡ without_object target.now state.old) }
+    ensures left { OnOk result ((id : DeviceId) → holder_in holders.new id ≡ left_by (add_some (lost_of state.old target.now) []) id (holder_in holders.old id)) }
+    ensures err { OnErr result (state.new ≡ state.old) }
+    ensures same { OnErr result (holders.new ≡ holders.old) }
+{
+    let kept = target.copy(alloc)?;
+    let lost = lost_of(alloc, state, target)?;
+    remove_with(alloc, state, holders, target, lost)?;
+    Ok(kept)
+}
+
+// ---- the grant of a status write
+
+fn device_result(alloc: Global, found: &StatusResult) -> Result<DeviceResult, AllocError>
+    ensures { IfOk result (λ r. r ≡ result_of found.now) }
+{
+    Ok(DeviceResult {
+        name: found.request.copy(alloc)?,
+        device: found.device.copy(alloc)?,
+        admin: found.admin,
+    })
+}
+
+/// The results of a status write as those of a grant.
+fn status_results(alloc: Global, status: &ClaimStatus) -> Result<Seq<DeviceResult>, AllocError>
+    ensures { IfOk result (λ results. results ≡ map result_of status.now.results) }
+{
+    let mut results = Seq::empty(alloc);
+    for found in status.results.as_slice() {
+        results.push(device_result(alloc, found)?)?;
+    }
+    Ok(results)
+}
+
+/// Gives a claim the devices of results without admin access, which are free. `AllocError` comes only if
+/// memory runs out, and then each device is held as it was.
+fn hold_results(
+    alloc: Global,
+    holders: &mut Held,
+    claim: &Key,
+    results: &[DeviceResult],
+) -> Result<(), AllocError>
+    requires { (id : DeviceId) → left_of results.now id (holder_in holders.old id) ≡ holder_in holders.old id }
+    ensures ok { OnOk result ((id : DeviceId) → holder_in holders.new id ≡ given_to claim.now results.now id (holder_in holders.old id)) }
+    ensures err { OnErr result ((id : DeviceId) → holder_in holders.new id ≡ holder_in holders.old id) }
+{
+    match give_all(alloc, holders, claim, results) {
+        Ok(()) => Ok(()),
+        Err(error) => {
+            leave_all(holders, results);
+            Err(error)
+        }
+    }
+}
+
+fn adopt_held(
+    alloc: Global,
+    state: &mut State,
+    holders: &mut Held,
+    place: u64,
+    claim: &Key,
+    status: &ClaimStatus,
+) -> Result<(), AllocError>
+    requires { (id : DeviceId) → left_of (map result_of status.now.results) id (holder_in holders.old id) ≡ holder_in holders.old id }
+    ensures ok { OnOk result (state.new ≡ with_adopted place claim.now status.now state.old) }
+    ensures given { OnOk result ((id : DeviceId) → holder_in holders.new id ≡ given_to claim.now (map result_of status.now.results) id (holder_in holders.old id)) }
+    ensures err { OnErr result (state.new ≡ state.old) }
+    ensures same { OnErr result ((id : DeviceId) → holder_in holders.new id ≡ holder_in holders.old id) }
+{
+    let results = status_results(alloc, status)?;
+    hold_results(alloc, holders, claim, results.as_slice())?;
+    match state.adopt(alloc, place, claim, status) {
+        Ok(()) => Ok(()),
+        Err(error) => {
+            leave_all(holders, results.as_slice());
+            Err(error)
+        }
+    }
+}
+
+/// Grants a claim what a status write says, whose devices are free, by the entry at this place, and
+/// returns the claim's key again. `AllocError` comes only if memory runs out, and then the state is as
+/// it was, and each device is held as it was.
+pub fn adopt(
+    alloc: Global,
+    state: &mut State,
+    holders: &mut Shared<Held>,
+    place: u64,
+    claim: &Key,
+    status: &ClaimStatus,
+) -> Result<Key, AllocError>
+    requires { (id : DeviceId) → left_of (map result_of status.now.results) id (holder_in holders.old id) ≡ holder_in holders.old id }
+    ensures kept { IfOk result (λ kept. kept ≡ claim.now) }
+    ensures ok { OnOk result (state.new ≡ with_adopted place claim.now status.now state.old) }
+    ensures given { OnOk result ((id : DeviceId) → holder_in holders.new id ≡ given_to claim.now (map result_of status.now.results) id (holder_in holders.old id)) }
+    ensures err { OnErr result (state.new ≡ state.old) }
+    ensures same { OnErr result ((id : DeviceId) → holder_in holders.new id ≡ holder_in holders.old id) }
+{
+    let kept = claim.copy(alloc)?;
+    adopt_held(alloc, state, holders.change(alloc)?, place, claim, status)?;
+    Ok(kept)
+}

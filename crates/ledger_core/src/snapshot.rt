@@ -1,0 +1,60 @@
+ghost use Rattle.std.specs.Prelude.{◌≡◌};
+ghost use Rattle.cluster.specs.Held.{held};
+ghost use Rattle.counter_sets.specs.Holding.{AreHeld};
+
+use cluster::State;
+use counter_sets::Held;
+use dra_values::Shared;
+use std::marker::Model;
+
+/// The state after so many entries, with the holders of its devices. It shares them with the ledger, which
+/// changes copies of its own as long as the snapshot is there.
+#[derive(Drop)]
+pub struct Snapshot {
+    at: u64,
+    state: State,
+    holders: Shared<Held>,
+}
+
+impl Model for Snapshot {
+    ghost use Rattle.counter_sets.specs.Holding.{AreHeld};
+    ghost use Rattle.cluster.specs.Held.{held};
+    ghost use Rattle.ledger_core.specs.Snapshot.{Seen};
+
+    ghost Value = { Seen };
+
+    ghost view = { λ s. record { at = s.at; state = s.state } };
+
+    ghost invariant = { λ s. AreHeld s.holders (held s.state) };
+}
+
+impl Snapshot {
+    /// The snapshot of a state after so many entries.
+    pub(crate) fn of(at: u64, state: State, holders: Shared<Held>) -> Snapshot
+        requires { AreHeld holders (held state) }
+        ensures { result ≡ record { at = at; state = state } }
+    {
+        Snapshot { at, state, holders }
+    }
+
+    /// How many entries stood in the history.
+    pub fn at(&self) -> u64
+        ensures { result ≡ self.now.at }
+    {
+        self.at
+    }
+
+    /// The state after them.
+    pub fn state(&self) -> &State
+        ensures { result.now ≡ self.now.state }
+    {
+        &self.state
+    }
+
+    /// The devices that claims hold in this state, each with its claim.
+    pub fn holders(&self) -> &Held
+        ensures { AreHeld result.now (held self.now.state) }
+    {
+        &self.holders
+    }
+}

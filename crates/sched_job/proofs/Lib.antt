@@ -1,0 +1,13 @@
+pub mod Growing
+pub mod Runnings
+pub mod Finishing
+pub mod Turning
+pub mod Thinking
+pub mod Stepping
+pub mod Ending
+pub mod Keys
+pub mod Steadying
+pub mod Undisturbed
+pub mod Unfailing
+pub mod Fewer
+pub mod Others

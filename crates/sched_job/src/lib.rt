@@ -1,0 +1,14 @@
+//! Jobs as machines of small steps over one shared history.
+#![tactic(auto)]
+
+mod alone;
+mod due;
+mod laws;
+mod steps;
+mod turns;
+mod work;
+
+pub use alone::run_alone;
+pub use laws::{alone_is_undisturbed, runs_go_on, turns_are_few, turns_move_on};
+pub use steps::run_steps;
+pub use work::{Command, Next, Stage, Work};

@@ -1,0 +1,104 @@
+ghost use Rattle.std.specs.Prelude.{◌≡◌, ◌≤◌, ◌<◌, ◌∷◌, [], ℕ, List, length, slice_index, false, IfOk, OnErr, IsErrOf};
+ghost use Rattle.cluster.specs.declared.entry.Entry.{Entry};
+ghost use Rattle.cluster.specs.History.{stand_of};
+ghost use Rattle.ledger_core.specs.Legal.{Legal};
+ghost use Rattle.sched_job.specs.Moves.{Fits};
+ghost use Rattle.sched_job.specs.Runs.{Run, Running, is_ended};
+ghost use Rattle.sched_job.specs.Steps.{jobs_of, Differ, Extends, AllNew, AllFit, AllEnds, Ran, Went, WentAt, Walk};
+
+use crate::{Next, Work, runs_go_on};
+use cluster::Stand;
+use ledger_core::{Ledger, LedgerError};
+use std::alloc::Global;
+
+fn is_ended(stand: Stand) -> bool
+    ensures { result ≡ is_ended stand }
+{
+    match stand {
+        Stand::Ended(_) => true,
+        Stand::Fresh | Stand::Reserved(_) | Stand::Conflicted(_) | Stand::Failed(_) => false,
+    }
+}
+
+/// One turn of the work, and the search where it is due, unless its job has ended. Returns how many turns
+/// that were.
+pub fn go(
+    alloc: Global,
+    ledger: &mut Ledger,
+    work: &mut Work,
+    budget: u64,
+) -> Result<u64, LedgerError>
+    requires { Fits ledger.old.entries work.old }
+    ensures went { IfOk result (λ turns. Went budget ledger.old ledger.new work.old work.new turns) }
+    ensures full { (n : ℕ) → IsErrOf result (LedgerError.Full n) → (length ledger.new.entries ≡ n) × (ledger.new.limit ≤ n) }
+    ensures few { IfOk result (λ turns. turns ≤ 1) }
+    ensures extends { Extends (work.old.job ∷ []) ledger.old.entries ledger.new.entries }
+    ensures limit { ledger.new.limit ≡ ledger.old.limit }
+    ensures job { work.new.job ≡ work.old.job }
+    ensures command { work.new.command ≡ work.old.command }
+    ensures running { (c : Run) → c.budget ≡ budget → Running c ledger.old.entries work.old → Running c ledger.new.entries work.new }
+    ensures begun { OnErr result (is_ended (stand_of ledger.new.entries work.old.job) ≡ false) }
+    ensures within { length ledger.new.entries ≤ ledger.new.limit }
+    ensures legal { Legal ledger.new.entries }
+{
+    let _len = ledger.len();
+    if is_ended(ledger.stand(work.job)) {
+        return Ok(0);
+    }
+    match work.turn(alloc, ledger)? {
+        Next::Think => work.think(alloc, budget)?,
+        Next::Again | Next::Ended(_) => (),
+    }
+    Ok(1)
+}
+
+fn go_at(
+    alloc: Global,
+    ledger: &mut Ledger,
+    works: &mut [Work],
+    at: usize,
+    budget: u64,
+) -> Result<u64, LedgerError>
+    requires place { at < length works.old }
+    requires fit { AllFit ledger.old.entries works.old }
+    ensures went { IfOk result (λ turns. WentAt budget ledger.old ledger.new works.old works.new at turns) }
+    ensures full { (n : ℕ) → IsErrOf result (LedgerError.Full n) → (length ledger.new.entries ≡ n) × (ledger.new.limit ≤ n) }
+    ensures few { IfOk result (λ turns. turns ≤ 1) }
+    ensures ran { (from : ℕ) (jobs : List ℕ) (h : List Entry) → Differ jobs → Ran from budget jobs h ledger.old.entries works.old → Ran from budget jobs h ledger.new.entries works.new }
+    ensures limit { ledger.new.limit ≡ ledger.old.limit }
+    ensures legal { Legal ledger.new.entries }
+{
+    runs_go_on();
+    go(alloc, ledger, &mut works[at], budget)
+}
+
+/// Makes one turn for each step, of the work at that index, with the search after it where one is due; a
+/// work whose job has ended is passed over. Returns how many turns there were. Whatever it returns, the
+/// history extends the old one by entries of these jobs, each job that has ended was run to its end, and
+/// each other one was begun. `Full` comes only if the history has its limit of entries, and `Memory` only
+/// if memory runs out.
+pub fn run_steps(
+    alloc: Global,
+    ledger: &mut Ledger,
+    works: &mut [Work],
+    steps: &[usize],
+    budget: u64,
+) -> Result<u64, LedgerError>
+    requires places { (k : ℕ) → k < length steps.now → slice_index steps.now k < length works.old }
+    requires differ { Differ (jobs_of works.old) }
+    requires fresh { AllNew ledger.old.entries works.old }
+    ensures ran { Ran (length ledger.old.entries) budget (jobs_of works.old) ledger.old.entries ledger.new.entries works.new }
+    ensures legal { Legal ledger.new.entries }
+    ensures ends { AllEnds (length ledger.old.entries) budget ledger.new.entries works.new }
+    ensures walk { IfOk result (λ turns. Walk budget steps.now ledger.old works.old ledger.new works.new turns) }
+    ensures full { (n : ℕ) → IsErrOf result (LedgerError.Full n) → (length ledger.new.entries ≡ n) × (ledger.new.limit ≤ n) }
+    ensures limit { ledger.new.limit ≡ ledger.old.limit }
+{
+    runs_go_on();
+    let mut turns = 0;
+    let _len = ledger.len();
+    for step in steps {
+        turns += go_at(alloc, ledger, works, *step, budget)?;
+    }
+    Ok(turns)
+}

@@ -1,0 +1,169 @@
+ghost use Rattle.std.specs.Prelude.{◌≡◌, ◌≤◌, ℕ, List, length, IfOk, OnOk, OnErr, IsErrOf};
+ghost use Rattle.cluster.specs.declared.entry.Entry.{Entry};
+ghost use Rattle.cluster.specs.History.{stand_of};
+ghost use Rattle.ledger_core.specs.Legal.{Legal};
+ghost use Rattle.sched_job.specs.Moves.{answer, moved, move_of, stage_after, Fits};
+ghost use Rattle.sched_job.specs.Runs.{Run, Running, IsStaged};
+ghost use Rattle.sched_job.specs.Steps.{IsSearched, Thought, ThoughtOf};
+
+use crate::turns::step;
+use alloc_rules::{Decision, decide, may_schedule};
+use api_claim::ClaimStatus;
+use cluster::{Mode, Ready, Stand, Target};
+use ledger_core::{Ledger, LedgerError, Snapshot, histories_grow, legal_steps};
+use object_fields::{FieldError, Key};
+use std::alloc::{AllocError, Global};
+use std::mem;
+
+/// What a job is to do.
+#[derive(Drop)]
+pub enum Command {
+    /// To create or update an object whose selectors are compiled, by the mode.
+    Apply(Ready, Mode),
+    /// To refuse a document, whose fields or selectors have this first error.
+    Invalid(FieldError),
+    /// To take an object away.
+    Delete(Target),
+    /// To find devices for a pod, and to bind it to their node, in at most so many attempts.
+    Schedule(Key, u64),
+    /// To take the uses of a bound pod away.
+    Release(Key),
+    /// To grant a claim what a status write says.
+    Adopt(Key, ClaimStatus),
+}
+
+/// What a work keeps between two turns.
+#[derive(Drop)]
+pub enum Stage {
+    /// Nothing.
+    Ready,
+    /// A search is due over this snapshot.
+    Seen(Snapshot),
+    /// What a search found.
+    Chosen(Decision),
+}
+
+/// The work of one job.
+#[derive(Drop)]
+pub struct Work {
+    pub job: u64,
+    pub command: Command,
+    pub stage: Stage,
+}
+
+/// How a job goes on after a turn.
+#[derive(Clone, Copy, Debug, PartialEq, Eq, Drop)]
+pub enum Next {
+    /// By a search (`Work::think`) before the next turn.
+    Think,
+    /// By another turn.
+    Again,
+    /// It has ended: this is the place of its last entry.
+    Ended(u64),
+}
+
+impl Work {
+    /// The work of a job that has no entry yet. Takes no memory.
+    pub fn new(job: u64, command: Command) -> Work
+        ensures { result ≡ record { job = job; command = command; stage = Stage.Ready } }
+    {
+        Work {
+            job,
+            command,
+            stage: Stage::Ready,
+        }
+    }
+
+    /// Makes the job's next step, which appends at most one entry: the one that the history so far, the
+    /// command and the last search ask for (`move_of`). It returns `Ended` if and only if the job has
+    /// ended, `Think` if a snapshot of the present state was taken, and else `Again`. `Full` comes only if
+    /// the history has its limit of entries, and `Memory` only if memory runs out; then nothing changed.
+    pub fn turn(&mut self, alloc: Global, ledger: &mut Ledger) -> Result<Next, LedgerError>
+        requires { Fits ledger.old.entries self.old }
+        ensures ok { OnOk result (ledger.new ≡ moved ledger.old self.old.job (move_of ledger.old.entries self.old)) }
+        ensures job { self.new.job ≡ self.old.job }
+        ensures command { self.new.command ≡ self.old.command }
+        ensures stage { OnOk result (self.new.stage ≡ stage_after ledger.old.entries self.old) }
+        ensures answer { IfOk result (λ next. next ≡ answer (stand_of ledger.new.entries self.old.job) self.new.stage) }
+        ensures full { (n : ℕ) → IsErrOf result (LedgerError.Full n) → (length ledger.old.entries ≡ n) × (ledger.old.limit ≤ n) }
+        ensures err { OnErr result (ledger.new ≡ ledger.old) }
+        ensures err_work { OnErr result (self.new ≡ self.old) }
+        ensures running { (c : Run) → Running c ledger.old.entries self.old → Running c ledger.new.entries self.new }
+        ensures legal { Legal ledger.new.entries }
+        ensures within { length ledger.new.entries ≤ ledger.new.limit }
+    {
+        histories_grow();
+        legal_steps();
+        let _before = ledger.len();
+        self.stage = step(alloc, ledger, self.job, &self.command, &self.stage)?;
+        let _len = ledger.len();
+        Ok(answer(ledger.stand(self.job), &self.stage))
+    }
+
+    /// Makes the search that is due over a snapshot, in which each search of a node looks at no more items
+    /// of its walk than the budget says, and drops the snapshot. It reads no ledger. `AllocError` only
+    /// if memory runs out.
+    pub fn think(&mut self, alloc: Global, budget: u64) -> Result<(), AllocError>
+        ensures job { self.new.job ≡ self.old.job }
+        ensures command { self.new.command ≡ self.old.command }
+        ensures thought { OnOk result (Thought budget self.old.command self.old.stage self.new.stage) }
+        ensures running { (c : Run) (h : List Entry) → c.budget ≡ budget → Running c h self.old → Running c h self.new }
+    {
+        let stage = mem::replace(&mut self.stage, Stage::Ready);
+        self.stage = thought(alloc, &self.command, stage, budget)?;
+        Ok(())
+    }
+}
+
+fn answer(stand: Stand, stage: &Stage) -> Next
+    ensures { result ≡ answer stand stage.now }
+{
+    match stand {
+        Stand::Ended(place) => Next::Ended(place),
+        Stand::Fresh | Stand::Reserved(_) | Stand::Conflicted(_) | Stand::Failed(_) => match stage {
+            Stage::Seen(_) => Next::Think,
+            Stage::Ready | Stage::Chosen(_) => Next::Again,
+        },
+    }
+}
+
+fn thought(alloc: Global, command: &Command, stage: Stage, budget: u64) -> Result<Stage, AllocError>
+    ensures thought { IfOk result (λ made. Thought budget command.now stage made) }
+{
+    match command {
+        Command::Schedule(pod, _) => searched(alloc, pod, stage, budget),
+        Command::Apply(..)
+        | Command::Invalid(_)
+        | Command::Delete(_)
+        | Command::Release(_)
+        | Command::Adopt(..) => Ok(stage),
+    }
+}
+
+fn searched(alloc: Global, pod: &Key, stage: Stage, budget: u64) -> Result<Stage, AllocError>
+    ensures thought { IfOk result (λ made. ThoughtOf budget pod.now stage made) }
+{
+    match stage {
+        Stage::Seen(snapshot) => choose(alloc, pod, &snapshot, budget),
+        Stage::Ready | Stage::Chosen(_) => Ok(stage),
+    }
+}
+
+/// Decides on a pod over a snapshot, if the pod is there and Idle.
+fn choose(alloc: Global, pod: &Key, snapshot: &Snapshot, budget: u64) -> Result<Stage, AllocError>
+    ensures { IfOk result (λ made. IsSearched snapshot.now pod.now budget made) }
+{
+    if may_schedule(snapshot.state(), pod) {
+        let decision = decide(
+            alloc,
+            snapshot.state(),
+            snapshot.holders(),
+            pod,
+            snapshot.at(),
+            budget,
+        )?;
+        Ok(Stage::Chosen(decision))
+    } else {
+        Ok(Stage::Ready)
+    }
+}
