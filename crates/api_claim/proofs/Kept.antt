@@ -12,7 +12,7 @@ use Rattle.object_fields.specs.Lists.{each, each_at, each_beside, each_from, eac
 use Rattle.object_fields.specs.Names.{is_dns_label, label_most}
 use Rattle.object_fields.specs.Selectors.{selector_at, selectors_at, selectors_most}
 use Rattle.object_fields.specs.declared.error.FieldError.{FieldError}
-use Rattle.object_fields.specs.declared.kind.Kind.TheVariants.{Doubled, Missing, NotOne, OutOfRange, TooMany, WrongType}
+use Rattle.object_fields.specs.declared.kind.FieldErrorKind.TheVariants.{Doubled, Missing, NotOne, OutOfRange, TooMany, WrongType}
 use Rattle.object_fields.specs.declared.path.Step.{Step}
 use Rattle.object_fields.specs.declared.path.Step.TheVariants.{Member, Place}
 use Rattle.api_claim.specs.Asks.{admin_at, all_at, ask_at, asked_at, count_at, count_most, exactly_at, exactly_in, first_available_at, left_out_at, mode_at, mode_with, subrequest_in}

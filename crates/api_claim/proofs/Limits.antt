@@ -9,7 +9,7 @@ use Rattle.object_fields.specs.Meta.{meta_at}
 use Rattle.object_fields.specs.Names.{is_dns_name}
 use Rattle.object_fields.specs.Qualified.{cut_at, domain_and_id, domain_most, id_most, is_c_identifier}
 use Rattle.object_fields.specs.declared.error.FieldError.{FieldError}
-use Rattle.object_fields.specs.declared.kind.Kind.TheVariants.{BadName, TooLong, Unknown}
+use Rattle.object_fields.specs.declared.kind.FieldErrorKind.TheVariants.{BadName, TooLong, Unknown}
 use Rattle.object_fields.specs.declared.meta.ObjectMeta.{ObjectMeta}
 use Rattle.object_fields.specs.declared.meta.Scope.{Scope}
 use Rattle.object_fields.specs.declared.meta.Scope.TheVariants.{Namespaced}

@@ -10,7 +10,7 @@ use Rattle.object_fields.specs.Lists.{each_beside}
 use Rattle.object_fields.specs.Meta.{meta_at}
 use Rattle.object_fields.specs.NewNames.{IsNewNameReading, IsTakenName, doubled_at, is_among, label_of, named, names_in}
 use Rattle.object_fields.specs.declared.error.FieldError.{FieldError}
-use Rattle.object_fields.specs.declared.kind.Kind.TheVariants.{Doubled, Missing, NotOne, TooMany, WrongType}
+use Rattle.object_fields.specs.declared.kind.FieldErrorKind.TheVariants.{Doubled, Missing, NotOne, TooMany, WrongType}
 use Rattle.object_fields.specs.declared.meta.Scope.TheVariants.{Namespaced}
 use Rattle.object_fields.specs.declared.path.Step.{Step}
 use Rattle.object_fields.specs.declared.path.Step.TheVariants.{Member}

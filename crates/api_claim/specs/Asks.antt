@@ -7,7 +7,7 @@ use Rattle.object_fields.specs.Fields.{field_error, list_at, natural_at, object_
 use Rattle.object_fields.specs.Lists.{each}
 use Rattle.object_fields.specs.Selectors.{selectors_at}
 use Rattle.object_fields.specs.declared.error.FieldError.{FieldError}
-use Rattle.object_fields.specs.declared.kind.Kind.TheVariants.{NotSupported}
+use Rattle.object_fields.specs.declared.kind.FieldErrorKind.TheVariants.{NotSupported}
 use Rattle.object_fields.specs.declared.path.Step.{Step}
 use Rattle.object_fields.specs.declared.path.Step.TheVariants.{Member}
 use Rattle.api_claim.specs.Lists.{has_some}

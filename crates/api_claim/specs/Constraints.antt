@@ -5,7 +5,7 @@ use Rattle.object_fields.specs.Fields.{error_at, list_at, object_value, optional
 use Rattle.object_fields.specs.Lists.{each_at, each_in}
 use Rattle.object_fields.specs.Qualified.{cut_at, domain_and_id}
 use Rattle.object_fields.specs.declared.error.FieldError.{FieldError}
-use Rattle.object_fields.specs.declared.kind.Kind.TheVariants.{BadName, Unknown}
+use Rattle.object_fields.specs.declared.kind.FieldErrorKind.TheVariants.{BadName, Unknown}
 use Rattle.object_fields.specs.declared.path.Step.{Step}
 use Rattle.object_fields.specs.declared.path.Step.TheVariants.{Member}
 use Rattle.object_fields.specs.declared.qualified.QualName.{QualName}

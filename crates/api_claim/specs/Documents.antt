@@ -4,7 +4,7 @@ use Rattle.serde_json.specs.Data.{Data, Items, no_items}
 use Rattle.serde_json.specs.Find.{as_array}
 use Rattle.object_fields.specs.Fields.{dns_label_at, error_at, member_of, object_value, unless, ◌>>=◌}
 use Rattle.object_fields.specs.declared.error.FieldError.{FieldError}
-use Rattle.object_fields.specs.declared.kind.Kind.TheVariants.{NotOne}
+use Rattle.object_fields.specs.declared.kind.FieldErrorKind.TheVariants.{NotOne}
 use Rattle.object_fields.specs.declared.path.Step.{Step}
 use Rattle.api_claim.specs.Requests.{has_one_kind}
 

@@ -5,7 +5,7 @@ use Rattle.std.specs.Str.{bytes_eq}
 use Rattle.serde_json.specs.Data.{Data, null, boolean, number, string, array, object, Items, no_items, item}
 use Rattle.object_fields.specs.Fields.{dns_label_at, field_error, member_of, short_list_at, unless, ◌>>=◌}
 use Rattle.object_fields.specs.declared.error.FieldError.{FieldError}
-use Rattle.object_fields.specs.declared.kind.Kind.TheVariants.{Doubled, Missing}
+use Rattle.object_fields.specs.declared.kind.FieldErrorKind.TheVariants.{Doubled, Missing}
 use Rattle.object_fields.specs.declared.path.Step.{Step}
 
 abbrev pub has_items : Items → Bool

@@ -5,7 +5,7 @@ use Rattle.serde_json.specs.Data.{Data, Items}
 use Rattle.object_fields.specs.Fields.{error_at, member_of, object_value, short_list_at, unless, ◌>>=◌}
 use Rattle.object_fields.specs.Lists.{each, each_beside}
 use Rattle.object_fields.specs.declared.error.FieldError.{FieldError}
-use Rattle.object_fields.specs.declared.kind.Kind.TheVariants.{NotOne}
+use Rattle.object_fields.specs.declared.kind.FieldErrorKind.TheVariants.{NotOne}
 use Rattle.object_fields.specs.declared.path.Step.{Step}
 use Rattle.object_fields.specs.declared.path.Step.TheVariants.{Member}
 use Rattle.api_claim.specs.Asks.{asked_at}

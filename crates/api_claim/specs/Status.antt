@@ -8,7 +8,7 @@ use Rattle.object_fields.specs.Lists.{each}
 use Rattle.object_fields.specs.Meta.{meta_at}
 use Rattle.object_fields.specs.declared.error.FieldError.{FieldError}
 use Rattle.object_fields.specs.declared.key.DeviceId.{DeviceId}
-use Rattle.object_fields.specs.declared.kind.Kind.TheVariants.{NotSupported}
+use Rattle.object_fields.specs.declared.kind.FieldErrorKind.TheVariants.{NotSupported}
 use Rattle.object_fields.specs.declared.meta.Scope.TheVariants.{Namespaced}
 use Rattle.object_fields.specs.declared.path.Step.{Step}
 use Rattle.object_fields.specs.declared.path.Step.TheVariants.{Member}

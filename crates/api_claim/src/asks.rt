@@ -7,7 +7,7 @@ use crate::lists::has_some;
 use crate::types::{AllocationMode, DeviceAsk, ExactDeviceRequest};
 use dra_values::{Seq, Text};
 use object_fields::{
-    FieldError, Kind, Path, ReadItem, list, object, optional_natural, optional_text,
+    FieldError, FieldErrorKind, Path, ReadItem, list, object, optional_natural, optional_text,
     optional_truth, read_items, read_selectors, text, unset, value_object,
 };
 use serde_json::Value;
@@ -150,6 +150,6 @@ fn all_asked(alloc: Global, path: &Path, word: &str) -> Result<bool, FieldError>
     } else if word == "All" {
         Ok(true)
     } else {
-        Err(FieldError::of_field(alloc, path, "allocationMode", Kind::NotSupported))
+        Err(FieldError::of_field(alloc, path, "allocationMode", FieldErrorKind::NotSupported))
     }
 }

@@ -8,8 +8,8 @@ use crate::lists::has_text;
 use crate::types::DeviceConstraint;
 use dra_values::{Seq, Text};
 use object_fields::{
-    FieldError, Kind, Path, QualName, borrowed, optional_list, optional_short_list, or_memory,
-    unset, value_object, value_text,
+    FieldError, FieldErrorKind, Path, QualName, borrowed, optional_list, optional_short_list,
+    or_memory, unset, value_object, value_text,
 };
 use serde_json::Value;
 use std::alloc::Global;
@@ -114,7 +114,7 @@ fn read_known(alloc: Global, value: &Value, path: &Path, names: &[Text]) -> Resu
     if has_text(names, text.as_str()) {
         Ok(text)
     } else {
-        Err(FieldError::at(alloc, path, Kind::Unknown))
+        Err(FieldError::at(alloc, path, FieldErrorKind::Unknown))
     }
 }
 
@@ -132,6 +132,6 @@ fn read_full_name(alloc: Global, path: &Path, text: &str) -> Result<QualName, Fi
 {
     match text.split_once('/') {
         Some(_) => QualName::read(alloc, path, text, ""),
-        None => Err(FieldError::at(alloc, path, Kind::BadName)),
+        None => Err(FieldError::at(alloc, path, FieldErrorKind::BadName)),
     }
 }

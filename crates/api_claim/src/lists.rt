@@ -4,7 +4,7 @@ ghost use Rattle.object_fields.specs.Fields.{Gives, Reads};
 ghost use Rattle.api_claim.specs.Lists as fields;
 
 use dra_values::Text;
-use object_fields::{FieldError, Kind, Path, member, read_dns_label, short_list};
+use object_fields::{FieldError, FieldErrorKind, Path, member, read_dns_label, short_list};
 use serde_json::Value;
 use std::alloc::Global;
 
@@ -23,7 +23,7 @@ pub(crate) fn some_items<'a>(
     let items = short_list(alloc, object, path, name, most)?;
     match items.first() {
         Some(_) => Ok(items),
-        None => Err(FieldError::of_field(alloc, path, name, Kind::Missing)),
+        None => Err(FieldError::of_field(alloc, path, name, FieldErrorKind::Missing)),
     }
 }
 
@@ -39,7 +39,7 @@ pub(crate) fn read_new_name(
 {
     let name = read_dns_label(alloc, object, path, "name")?;
     if has_text(before, name.as_str()) {
-        return Err(FieldError::of_field(alloc, path, "name", Kind::Doubled));
+        return Err(FieldError::of_field(alloc, path, "name", FieldErrorKind::Doubled));
     }
     Ok(name)
 }

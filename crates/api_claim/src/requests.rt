@@ -10,7 +10,7 @@ use crate::lists::{has_some, read_new_name, some_items};
 use crate::types::{DeviceRequest, DeviceSubRequest, RequestKind};
 use dra_values::{Seq, Text};
 use object_fields::{
-    FieldError, Kind, Path, member, or_memory, read_items, short_list, value_object,
+    FieldError, FieldErrorKind, Path, member, or_memory, read_items, short_list, value_object,
 };
 use serde_json::Value;
 use std::alloc::{AllocError, Global};
@@ -81,7 +81,7 @@ fn read_name(alloc: Global, value: &Value, path: &Path, before: &[Text]) -> Resu
     if has_one_kind(request) {
         Ok(name)
     } else {
-        Err(FieldError::at(alloc, path, Kind::NotOne))
+        Err(FieldError::at(alloc, path, FieldErrorKind::NotOne))
     }
 }
 

@@ -10,8 +10,8 @@ use crate::lists::{has_some, some_items};
 use crate::types::{ClaimStatus, StatusResult};
 use dra_values::{Seq, Text};
 use object_fields::{
-    DeviceId, FieldError, Kind, ObjectMeta, Path, ReadItem, Scope, member, object, or_memory,
-    read_items, text, unset, value_object,
+    DeviceId, FieldError, FieldErrorKind, ObjectMeta, Path, ReadItem, Scope, member, object,
+    or_memory, read_items, text, unset, value_object,
 };
 use serde_json::Value;
 use std::alloc::Global;
@@ -138,7 +138,12 @@ fn read_node(alloc: Global, allocation: &Value, path: &Path) -> Result<Text, Fie
     let selector = object(alloc, allocation, path, "nodeSelector")?;
     match selector_node(selector) {
         Some(node) => or_memory(alloc, Text::from_str(alloc, node)),
-        None => Err(FieldError::of_field(alloc, path, "nodeSelector", Kind::NotSupported)),
+        None => Err(FieldError::of_field(
+            alloc,
+            path,
+            "nodeSelector",
+            FieldErrorKind::NotSupported,
+        )),
     }
 }
 

@@ -6,7 +6,7 @@ use Rattle.object_fields.specs.Fields.{field_error, object_at, object_value, opt
 use Rattle.object_fields.specs.Lists.{each_at}
 use Rattle.object_fields.specs.Meta.{meta_at}
 use Rattle.object_fields.specs.declared.error.FieldError.{FieldError}
-use Rattle.object_fields.specs.declared.kind.Kind.TheVariants.{NotSupported}
+use Rattle.object_fields.specs.declared.kind.FieldErrorKind.TheVariants.{NotSupported}
 use Rattle.object_fields.specs.declared.meta.Scope.TheVariants.{Namespaced}
 use Rattle.object_fields.specs.declared.path.Step.{Step}
 use Rattle.object_fields.specs.declared.path.Step.TheVariants.{Member}

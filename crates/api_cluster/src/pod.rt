@@ -8,8 +8,8 @@ use crate::laws::limits_are_kept;
 use crate::types::{Pod, PodResourceClaim};
 use dra_values::{Seq, Text};
 use object_fields::{
-    FieldError, Kind, ObjectMeta, Path, ReadItem, Scope, optional_items, optional_object, text,
-    unset, value_object,
+    FieldError, FieldErrorKind, ObjectMeta, Path, ReadItem, Scope, optional_items, optional_object,
+    text, unset, value_object,
 };
 use serde_json::Value;
 use std::alloc::Global;
@@ -75,7 +75,7 @@ fn read_node(alloc: Global, spec: &Value, path: &Path) -> Result<(), FieldError>
     if is_no_name(spec.get("nodeName")) {
         Ok(())
     } else {
-        Err(FieldError::of_field(alloc, path, "nodeName", Kind::NotSupported))
+        Err(FieldError::of_field(alloc, path, "nodeName", FieldErrorKind::NotSupported))
     }
 }
 

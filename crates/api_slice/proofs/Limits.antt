@@ -9,7 +9,7 @@ use Rattle.object_fields.specs.Limits.{MetaKept, VersionKept}
 use Rattle.object_fields.specs.Meta.{meta_at, name_most}
 use Rattle.object_fields.specs.Names.{is_dns_name, is_pool_name, pool_most}
 use Rattle.object_fields.specs.declared.error.FieldError.{FieldError}
-use Rattle.object_fields.specs.declared.kind.Kind.TheVariants.{Doubled, TooMany}
+use Rattle.object_fields.specs.declared.kind.FieldErrorKind.TheVariants.{Doubled, TooMany}
 use Rattle.object_fields.specs.declared.meta.ObjectMeta.{ObjectMeta}
 use Rattle.object_fields.specs.declared.meta.Scope.{Scope}
 use Rattle.object_fields.specs.declared.meta.Scope.TheVariants.{Cluster}

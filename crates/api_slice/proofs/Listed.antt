@@ -9,7 +9,7 @@ use Rattle.object_fields.specs.Lists.{each_beside, each_from as fields_from}
 use Rattle.object_fields.specs.Meta.{meta_at}
 use Rattle.object_fields.specs.NewNames.{IsNewNameReading, IsTakenName, doubled_at, is_among, label_of, named, names_in}
 use Rattle.object_fields.specs.declared.error.FieldError.{FieldError}
-use Rattle.object_fields.specs.declared.kind.Kind.TheVariants.{Doubled, Missing, TooMany, WrongType}
+use Rattle.object_fields.specs.declared.kind.FieldErrorKind.TheVariants.{Doubled, Missing, TooMany, WrongType}
 use Rattle.object_fields.specs.declared.meta.Scope.TheVariants.{Cluster}
 use Rattle.object_fields.specs.declared.path.Step.{Step}
 use Rattle.object_fields.specs.declared.path.Step.TheVariants as step

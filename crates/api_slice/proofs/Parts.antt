@@ -15,7 +15,7 @@ use Rattle.serde_json.specs.Find.{as_object}
 use Rattle.object_fields.specs.Fields.{dns_label_at, error_at, field_error, if_there, list_at, member_of, object_value, optional_at, signed_at, some_or, table_at, text_at, truth_at, unless, ◌>>=◌}
 use Rattle.object_fields.specs.Names.{is_dns_label, label_most}
 use Rattle.object_fields.specs.declared.error.FieldError.{FieldError}
-use Rattle.object_fields.specs.declared.kind.Kind.TheVariants.{BadVersion, Doubled, NotOne, TooLong, TooMany, Missing, Unknown, WrongType}
+use Rattle.object_fields.specs.declared.kind.FieldErrorKind.TheVariants.{BadVersion, Doubled, NotOne, TooLong, TooMany, Missing, Unknown, WrongType}
 use Rattle.object_fields.specs.declared.path.Step.{Step}
 use Rattle.object_fields.specs.declared.path.Step.TheVariants as step
 use Rattle.object_fields.specs.declared.qualified.QualName.{QualName}

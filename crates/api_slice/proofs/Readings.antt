@@ -16,7 +16,7 @@ use Rattle.object_fields.specs.Fields.{dns_label_at, error_at, field_error, if_t
 use Rattle.object_fields.specs.Names.{is_dns_label, is_dns_name, label_most}
 use Rattle.object_fields.specs.Qualified.{cut_at, domain_and_id, domain_most, id_alone, id_most, is_c_identifier, qual_name_in, qualified_from}
 use Rattle.object_fields.specs.declared.error.FieldError.{FieldError}
-use Rattle.object_fields.specs.declared.kind.Kind.TheVariants.{BadName, Doubled, OutOfRange, TooLong, TooMany}
+use Rattle.object_fields.specs.declared.kind.FieldErrorKind.TheVariants.{BadName, Doubled, OutOfRange, TooLong, TooMany}
 use Rattle.object_fields.specs.declared.path.Step.{Step}
 use Rattle.object_fields.specs.declared.path.Step.TheVariants as step
 use Rattle.object_fields.specs.declared.qualified.QualName.{QualName}

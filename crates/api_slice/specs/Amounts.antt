@@ -7,13 +7,13 @@ use Rattle.quantity.specs.declared.error.QuantityError.{QuantityError}
 use Rattle.quantity.specs.declared.error.QuantityError.TheVariants as quantity
 use Rattle.object_fields.specs.Fields.{error_at, field_at, object_value, some_or, ◌>>=◌}
 use Rattle.object_fields.specs.declared.error.FieldError.{FieldError}
-use Rattle.object_fields.specs.declared.kind.Kind.{Kind}
-use Rattle.object_fields.specs.declared.kind.Kind.TheVariants.{BadQuantity, OutOfRange, WrongType}
+use Rattle.object_fields.specs.declared.kind.FieldErrorKind.{FieldErrorKind}
+use Rattle.object_fields.specs.declared.kind.FieldErrorKind.TheVariants.{BadQuantity, OutOfRange, WrongType}
 use Rattle.object_fields.specs.declared.path.Step.{Step}
 use Rattle.object_fields.specs.declared.path.Step.TheVariants.{Member}
 
 -- the kind of a text's fault
-abbrev pub quantity_kind : QuantityError → Kind
+abbrev pub quantity_kind : QuantityError → FieldErrorKind
 quantity_kind quantity.BadText = BadQuantity
 quantity_kind quantity.TooPrecise = BadQuantity
 quantity_kind quantity.OutOfRange = OutOfRange

@@ -4,7 +4,7 @@ use Rattle.std.specs.BTreeMap.{insert_entry}
 use Rattle.serde_json.specs.Data.{Data, Members, no_members, member}
 use Rattle.object_fields.specs.Fields.{field_error, object_value, optional_at, table_at, unless, unset_at, ◌>>=◌}
 use Rattle.object_fields.specs.declared.error.FieldError.{FieldError}
-use Rattle.object_fields.specs.declared.kind.Kind.TheVariants.{TooMany}
+use Rattle.object_fields.specs.declared.kind.FieldErrorKind.TheVariants.{TooMany}
 use Rattle.object_fields.specs.declared.path.Step.{Step}
 use Rattle.object_fields.specs.declared.path.Step.TheVariants.{Member, Key}
 use Rattle.object_fields.specs.declared.qualified.QualName.{QualName}

@@ -9,7 +9,7 @@ use Rattle.serde_json.specs.Data.{Data, Items, no_items, item, Members, no_membe
 use Rattle.object_fields.specs.Names.{is_dns_label, label_most}
 use Rattle.object_fields.specs.Fields.{dns_label_at, field_error, list_at, name_in, object_value, optional_at, table_at, unless, ◌>>=◌}
 use Rattle.object_fields.specs.declared.error.FieldError.{FieldError}
-use Rattle.object_fields.specs.declared.kind.Kind.TheVariants.{Doubled}
+use Rattle.object_fields.specs.declared.kind.FieldErrorKind.TheVariants.{Doubled}
 use Rattle.object_fields.specs.declared.path.Step.{Step}
 use Rattle.object_fields.specs.declared.path.Step.TheVariants.{Member, Place, Key}
 use Rattle.api_slice.specs.Amounts.{amount_of}

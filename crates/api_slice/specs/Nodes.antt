@@ -5,7 +5,7 @@ use Rattle.serde_json.specs.Data.{Data}
 use Rattle.node_select.specs.declared.selector.Selector.{Selector}
 use Rattle.object_fields.specs.Fields.{error_at, field_at, optional_at, some_or, text_at, truth_at, ◌>>=◌}
 use Rattle.object_fields.specs.declared.error.FieldError.{FieldError}
-use Rattle.object_fields.specs.declared.kind.Kind.TheVariants.{NotOne}
+use Rattle.object_fields.specs.declared.kind.FieldErrorKind.TheVariants.{NotOne}
 use Rattle.object_fields.specs.declared.path.Step.{Step}
 use Rattle.object_fields.specs.declared.path.Step.TheVariants.{Member}
 use Rattle.api_slice.specs.Selectors.{selector_of}

@@ -10,7 +10,7 @@ use Rattle.node_select.specs.declared.requirement.Test.TheVariants.{OneOf, NoneO
 use Rattle.node_select.specs.declared.selector.Selector.{Selector}
 use Rattle.object_fields.specs.Fields.{error_at, field_error, list_at, object_value, optional_at, some_or, text_at, text_value, unless, ◌>>=◌}
 use Rattle.object_fields.specs.declared.error.FieldError.{FieldError}
-use Rattle.object_fields.specs.declared.kind.Kind.TheVariants.{NotOne, NotSupported, WrongType}
+use Rattle.object_fields.specs.declared.kind.FieldErrorKind.TheVariants.{NotOne, NotSupported, WrongType}
 use Rattle.object_fields.specs.declared.path.Step.{Step}
 use Rattle.object_fields.specs.declared.path.Step.TheVariants.{Member, Place}
 use Rattle.api_slice.specs.Lists.{each, items_or_none}

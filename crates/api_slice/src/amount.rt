@@ -2,7 +2,7 @@ ghost use Rattle.serde_json.specs.View.{number_view, view};
 ghost use Rattle.object_fields.specs.Fields.{Reads};
 ghost use Rattle.api_slice.specs.Amounts as fields;
 
-use object_fields::{FieldError, Kind, Path, field, value_object};
+use object_fields::{FieldError, FieldErrorKind, Path, field, value_object};
 use quantity::{Quantity, QuantityError};
 use serde_json::{Number, Value};
 use std::alloc::Global;
@@ -32,7 +32,7 @@ fn quantity_of(alloc: Global, value: &Value, path: &Path) -> Result<Quantity, Fi
     match value {
         Value::String(text) => quantity_in(alloc, path, text.as_str()),
         Value::Number(number) => number_quantity(alloc, path, number),
-        _ => Err(FieldError::at(alloc, path, Kind::WrongType)),
+        _ => Err(FieldError::at(alloc, path, FieldErrorKind::WrongType)),
     }
 }
 
@@ -41,8 +41,12 @@ fn quantity_in(alloc: Global, path: &Path, text: &str) -> Result<Quantity, Field
 {
     match Quantity::parse(text.as_bytes()) {
         Ok(quantity) => Ok(quantity),
-        Err(QuantityError::OutOfRange) => Err(FieldError::at(alloc, path, Kind::OutOfRange)),
-        Err(_) => Err(FieldError::at(alloc, path, Kind::BadQuantity)),
+        Err(QuantityError::OutOfRange) => Err(FieldError::at(
+            alloc,
+            path,
+            FieldErrorKind::OutOfRange,
+        )),
+        Err(_) => Err(FieldError::at(alloc, path, FieldErrorKind::BadQuantity)),
     }
 }
 
@@ -52,9 +56,9 @@ fn number_quantity(alloc: Global, path: &Path, number: &Number) -> Result<Quanti
     if let Some(number) = number.as_i64() {
         whole_quantity(alloc, path, number)
     } else if number.is_u64() {
-        Err(FieldError::at(alloc, path, Kind::OutOfRange))
+        Err(FieldError::at(alloc, path, FieldErrorKind::OutOfRange))
     } else {
-        Err(FieldError::at(alloc, path, Kind::WrongType))
+        Err(FieldError::at(alloc, path, FieldErrorKind::WrongType))
     }
 }
 
@@ -64,7 +68,7 @@ fn whole_quantity(alloc: Global, path: &Path, number: i64) -> Result<Quantity, F
 {
     match Quantity::from_nanos(i128::from(number) * ONE) {
         Some(quantity) => Ok(quantity),
-        None => Err(FieldError::at(alloc, path, Kind::OutOfRange)),
+        None => Err(FieldError::at(alloc, path, FieldErrorKind::OutOfRange)),
     }
 }
 
@@ -76,7 +80,7 @@ pub(crate) fn read_amount(alloc: Global, value: &Value, path: &Path) -> Result<Q
     let object = value_object(alloc, value, path)?;
     let quantity = read_quantity(alloc, object, path, "value")?;
     if quantity.nanos() < 0 {
-        Err(FieldError::of_field(alloc, path, "value", Kind::OutOfRange))
+        Err(FieldError::of_field(alloc, path, "value", FieldErrorKind::OutOfRange))
     } else {
         Ok(quantity)
     }

@@ -8,7 +8,7 @@ use crate::qualified::new_name;
 use crate::types::Attribute;
 use dra_values::{Table, Text};
 use object_fields::{
-    FieldError, Kind, Path, QualName, borrowed, member, optional_signed, optional_table,
+    FieldError, FieldErrorKind, Path, QualName, borrowed, member, optional_signed, optional_table,
     optional_truth, or_memory, value_object,
 };
 use semver::Version;
@@ -77,7 +77,7 @@ fn read_attribute(alloc: Global, value: &Value, path: &Path) -> Result<Attribute
     let version = read_version(alloc, object, path)?;
     match one_value(number, truth, string, version) {
         Some(attribute) => Ok(attribute),
-        None => Err(FieldError::at(alloc, path, Kind::NotOne)),
+        None => Err(FieldError::at(alloc, path, FieldErrorKind::NotOne)),
     }
 }
 
@@ -134,7 +134,7 @@ fn short_text<'a>(
 {
     let text = borrowed(alloc, object, path, name)?;
     if char_count(text) > CHARS_MOST {
-        Err(FieldError::of_field(alloc, path, name, Kind::TooLong))
+        Err(FieldError::of_field(alloc, path, name, FieldErrorKind::TooLong))
     } else {
         Ok(text)
     }
@@ -156,7 +156,7 @@ fn check_version(alloc: Global, text: &str, path: &Path) -> Result<(), FieldErro
             if error == semver::Error::from(AllocError) {
                 Err(FieldError::memory(alloc))
             } else {
-                Err(FieldError::of_field(alloc, path, "version", Kind::BadVersion))
+                Err(FieldError::of_field(alloc, path, "version", FieldErrorKind::BadVersion))
             }
         }
     }

@@ -8,7 +8,7 @@ use crate::lists::{count_in, exceed};
 use crate::qualified::new_name;
 use dra_values::Table;
 use object_fields::{
-    FieldError, Kind, Path, QualName, optional_table, or_memory, unset, value_object,
+    FieldError, FieldErrorKind, Path, QualName, optional_table, or_memory, unset, value_object,
 };
 use quantity::Quantity;
 use serde_json::{Map, Value};
@@ -43,7 +43,7 @@ fn check_together(alloc: Global, device: &Value, path: &Path) -> Result<(), Fiel
 {
     let attributes = count_in(device, "attributes");
     if exceed(TOGETHER_MOST, attributes, count_in(device, "capacity")) {
-        Err(FieldError::of_field(alloc, path, "capacity", Kind::TooMany))
+        Err(FieldError::of_field(alloc, path, "capacity", FieldErrorKind::TooMany))
     } else {
         Ok(())
     }

@@ -8,7 +8,8 @@ use crate::lists::{count_on, items_or_none};
 use crate::types::{CounterConsumption, CounterSet};
 use dra_values::{Seq, Table, Text};
 use object_fields::{
-    ByName, FieldError, HasName, Kind, Path, optional_list, or_memory, table, text, value_object,
+    ByName, FieldError, FieldErrorKind, HasName, Path, optional_list, or_memory, table, text,
+    value_object,
 };
 use quantity::Quantity;
 use serde_json::{Map, Value};
@@ -98,10 +99,10 @@ fn undrawn_set<'a>(
     ensures { Gives (λ s. s.now) result (fields.undrawn_set sets.now path.now draws.now name.now) }
 {
     let Some(counters) = sets.find(name) else {
-        return Err(FieldError::of_field(alloc, path, "counterSet", Kind::Unknown));
+        return Err(FieldError::of_field(alloc, path, "counterSet", FieldErrorKind::Unknown));
     };
     if draws.has(name) {
-        Err(FieldError::of_field(alloc, path, "counterSet", Kind::Doubled))
+        Err(FieldError::of_field(alloc, path, "counterSet", FieldErrorKind::Doubled))
     } else {
         Ok(counters)
     }
@@ -158,6 +159,6 @@ fn known_counter(
     if counters.contains_key(&name) {
         Ok(name)
     } else {
-        Err(FieldError::at(alloc, path, Kind::Unknown))
+        Err(FieldError::at(alloc, path, FieldErrorKind::Unknown))
     }
 }

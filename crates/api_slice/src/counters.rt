@@ -8,8 +8,8 @@ use crate::lists::{count_on, items_or_none};
 use crate::types::CounterSet;
 use dra_values::{Table, Text};
 use object_fields::{
-    ByName, FieldError, HasName, Kind, Path, label_of, optional_list, or_memory, read_dns_label,
-    table, value_object,
+    ByName, FieldError, FieldErrorKind, HasName, Path, label_of, optional_list, or_memory,
+    read_dns_label, table, value_object,
 };
 use quantity::Quantity;
 use serde_json::{Map, Value};
@@ -67,7 +67,7 @@ fn new_set_name(
     let object = value_object(alloc, value, path)?;
     let name = read_dns_label(alloc, object, path, "name")?;
     if sets.has(&name) {
-        Err(FieldError::of_field(alloc, path, "name", Kind::Doubled))
+        Err(FieldError::of_field(alloc, path, "name", FieldErrorKind::Doubled))
     } else {
         Ok(name)
     }

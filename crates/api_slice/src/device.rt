@@ -19,15 +19,15 @@ use crate::properties::Properties;
 use crate::types::{Attribute, CounterConsumption, CounterSet, Device, Nodes};
 use dra_values::{Seq, Table, Text};
 use object_fields::{
-    ByName, FieldError, Kind, Path, QualName, optional_short_list, or_memory, read_dns_label,
-    unset, value_object,
+    ByName, FieldError, FieldErrorKind, Path, QualName, optional_short_list, or_memory,
+    read_dns_label, unset, value_object,
 };
 use quantity::Quantity;
 use serde_json::Value;
 use std::alloc::{AllocError, Global};
 
 /// The most devices of a slice (API reference of `resource.k8s.io/v1`).
-const DEVICES_MOST: usize = 128;
+const MAX_DEVICES_PER_SLICE: usize = 128;
 
 /// The devices of a spec; none where they are missing. Each row of fields is read of all devices
 /// before the next row of any. The driver, the counter sets and `per_device`, whether each device
@@ -43,7 +43,7 @@ pub(crate) fn read_devices(
     ensures { Reads result
         (fields.devices_at driver.now sets.now per_device path.now (view spec.now)) }
 {
-    let values = optional_short_list(alloc, spec, path, "devices", DEVICES_MOST)?;
+    let values = optional_short_list(alloc, spec, path, "devices", MAX_DEVICES_PER_SLICE)?;
     let path = path.member(alloc, "devices")?;
     read_rows(
         alloc,
@@ -132,7 +132,7 @@ fn new_device_name(
     let object = value_object(alloc, value, path)?;
     let name = read_dns_label(alloc, object, path, "name")?;
     if names.has(&name) {
-        Err(FieldError::of_field(alloc, path, "name", Kind::Doubled))
+        Err(FieldError::of_field(alloc, path, "name", FieldErrorKind::Doubled))
     } else {
         Ok(name)
     }

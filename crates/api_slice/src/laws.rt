@@ -2,7 +2,7 @@ ghost use Rattle.std.specs.Prelude.{◌≡◌, ◌++◌, ◌∷◌, [], ℕ, Lis
 ghost use Rattle.serde_json.specs.Data.{Data, Items};
 ghost use Rattle.object_fields.specs.NewNames.{AreNew, IsDoubled, doubled_at, is_among, label_of, names_in};
 ghost use Rattle.object_fields.specs.declared.error.FieldError.{FieldError};
-ghost use Rattle.object_fields.specs.declared.kind.Kind.TheVariants.{Doubled};
+ghost use Rattle.object_fields.specs.declared.kind.FieldErrorKind.TheVariants.{Doubled};
 ghost use Rattle.object_fields.specs.declared.path.Step.{Step};
 ghost use Rattle.object_fields.specs.declared.path.Step.TheVariants.{Place};
 ghost use Rattle.object_fields.specs.Lists.{each};

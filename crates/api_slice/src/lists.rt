@@ -3,7 +3,7 @@ ghost use Rattle.serde_json.specs.View.{items_view, members_view, view};
 ghost use Rattle.object_fields.specs.Fields.{Reads};
 ghost use Rattle.api_slice.specs.Lists.{count_on, count_at, items_or_none, members_length};
 
-use object_fields::{FieldError, Kind, Path, member};
+use object_fields::{FieldError, FieldErrorKind, Path, member};
 use serde_json::{Map, Value};
 use std::alloc::Global;
 
@@ -48,7 +48,7 @@ pub(crate) fn count_on(
 {
     let count = member_count(members);
     if exceed(most, met, count) {
-        Err(FieldError::at(alloc, path, Kind::TooMany))
+        Err(FieldError::at(alloc, path, FieldErrorKind::TooMany))
     } else {
         Ok(met + count)
     }

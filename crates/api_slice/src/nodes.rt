@@ -7,7 +7,9 @@ use crate::selector::read_selector;
 use crate::types::{Nodes, SliceNodes};
 use dra_values::Text;
 use node_select::Selector;
-use object_fields::{FieldError, Kind, Path, field, member, optional_text, optional_truth};
+use object_fields::{
+    FieldError, FieldErrorKind, Path, field, member, optional_text, optional_truth,
+};
 use serde_json::Value;
 use std::alloc::Global;
 
@@ -35,7 +37,7 @@ pub(crate) fn read_slice_nodes(
     let per_device = read_flag(alloc, spec, path, "perDeviceNodeSelection")?;
     match one_of_slice(places, per_device) {
         Some(nodes) => Ok(nodes),
-        None => Err(FieldError::at(alloc, path, Kind::NotOne)),
+        None => Err(FieldError::at(alloc, path, FieldErrorKind::NotOne)),
     }
 }
 
@@ -52,7 +54,7 @@ pub(crate) fn read_device_nodes(
     let places = read_places(alloc, device, path)?;
     match as_due(places, per_device) {
         Some(nodes) => Ok(nodes),
-        None => Err(FieldError::at(alloc, path, Kind::NotOne)),
+        None => Err(FieldError::at(alloc, path, FieldErrorKind::NotOne)),
     }
 }
 

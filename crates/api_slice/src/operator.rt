@@ -3,7 +3,7 @@ ghost use Rattle.serde_json.specs.View.{view};
 ghost use Rattle.object_fields.specs.Fields.{Reads};
 ghost use Rattle.api_slice.specs.Selectors as fields;
 
-use object_fields::{FieldError, Kind, Path, borrowed};
+use object_fields::{FieldError, FieldErrorKind, Path, borrowed};
 use serde_json::Value;
 use std::alloc::Global;
 
@@ -29,7 +29,7 @@ pub(crate) fn read_operator(
     let word = borrowed(alloc, object, path, "operator")?;
     match operator_of(word) {
         Some(operator) => Ok(operator),
-        None => Err(FieldError::of_field(alloc, path, "operator", Kind::NotSupported)),
+        None => Err(FieldError::of_field(alloc, path, "operator", FieldErrorKind::NotSupported)),
     }
 }
 
@@ -46,7 +46,7 @@ pub(crate) fn read_field_operator(
     if is_membership(operator) {
         Ok(operator)
     } else {
-        Err(FieldError::of_field(alloc, path, "operator", Kind::NotSupported))
+        Err(FieldError::of_field(alloc, path, "operator", FieldErrorKind::NotSupported))
     }
 }
 

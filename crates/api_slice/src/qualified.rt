@@ -3,7 +3,7 @@ ghost use Rattle.object_fields.specs.Fields.{Reads};
 ghost use Rattle.api_slice.specs.Attributes as fields;
 
 use dra_values::Table;
-use object_fields::{FieldError, Kind, Path, QualName};
+use object_fields::{FieldError, FieldErrorKind, Path, QualName};
 use std::alloc::Global;
 
 /// The full name that a key means in a slice of that driver. TooLong, then BadName, then Doubled
@@ -19,7 +19,7 @@ pub(crate) fn new_name<V: Drop>(
 {
     let name = QualName::read(alloc, path, key, driver)?;
     if before.contains_key(&name) {
-        Err(FieldError::at(alloc, path, Kind::Doubled))
+        Err(FieldError::at(alloc, path, FieldErrorKind::Doubled))
     } else {
         Ok(name)
     }

@@ -9,7 +9,8 @@ use crate::operator::{Operator, read_field_operator, read_operator};
 use dra_values::{Seq, Text};
 use node_select::{Requirement, Selector, Test, whole};
 use object_fields::{
-    FieldError, Kind, Path, borrowed, list, optional_list, or_memory, value_object, value_text,
+    FieldError, FieldErrorKind, Path, borrowed, list, optional_list, or_memory, value_object,
+    value_text,
 };
 use serde_json::Value;
 use std::alloc::Global;
@@ -41,10 +42,10 @@ fn read_one_term(alloc: Global, terms: &[Value], path: &Path) -> Result<Selector
     ensures { Reads result (fields.one_term path.now (items_view terms.now)) }
 {
     match terms.split_first() {
-        None => Err(FieldError::at(alloc, path, Kind::NotOne)),
+        None => Err(FieldError::at(alloc, path, FieldErrorKind::NotOne)),
         Some((term, others)) => match others.split_first() {
             None => read_term(alloc, term, &path.place(alloc, 0)?),
-            Some(_) => Err(FieldError::at(alloc, path, Kind::NotOne)),
+            Some(_) => Err(FieldError::at(alloc, path, FieldErrorKind::NotOne)),
         },
     }
 }
@@ -138,7 +139,7 @@ fn field_key<'a>(alloc: Global, object: &'a Value, path: &Path) -> Result<&'a st
     if key == "metadata.name" {
         Ok(key)
     } else {
-        Err(FieldError::of_field(alloc, path, "key", Kind::NotSupported))
+        Err(FieldError::of_field(alloc, path, "key", FieldErrorKind::NotSupported))
     }
 }
 
@@ -185,7 +186,7 @@ fn some_texts(alloc: Global, values: &[Value], path: &Path) -> Result<Seq<Text>,
     ensures { Reads result (fields.some_texts path.now (items_view values.now)) }
 {
     match values.split_first() {
-        None => Err(FieldError::at(alloc, path, Kind::NotOne)),
+        None => Err(FieldError::at(alloc, path, FieldErrorKind::NotOne)),
         Some(_) => each_text(alloc, values, path),
     }
 }
@@ -207,7 +208,7 @@ fn no_texts(alloc: Global, values: &[Value], path: &Path) -> Result<(), FieldErr
 {
     match values.split_first() {
         None => Ok(()),
-        Some(_) => Err(FieldError::at(alloc, path, Kind::NotOne)),
+        Some(_) => Err(FieldError::at(alloc, path, FieldErrorKind::NotOne)),
     }
 }
 
@@ -216,10 +217,10 @@ fn one_number(alloc: Global, values: &[Value], path: &Path) -> Result<i64, Field
     ensures { Reads result (fields.one_number path.now (items_view values.now)) }
 {
     match values.split_first() {
-        None => Err(FieldError::at(alloc, path, Kind::NotOne)),
+        None => Err(FieldError::at(alloc, path, FieldErrorKind::NotOne)),
         Some((value, others)) => match others.split_first() {
             None => read_number(alloc, value, path),
-            Some(_) => Err(FieldError::at(alloc, path, Kind::NotOne)),
+            Some(_) => Err(FieldError::at(alloc, path, FieldErrorKind::NotOne)),
         },
     }
 }
@@ -231,6 +232,6 @@ fn read_number(alloc: Global, value: &Value, path: &Path) -> Result<i64, FieldEr
     let text = value_text(alloc, value, &at)?;
     match whole(text.as_str()) {
         Some(number) => Ok(number),
-        None => Err(FieldError::at(alloc, path, Kind::WrongType)),
+        None => Err(FieldError::at(alloc, path, FieldErrorKind::WrongType)),
     }
 }

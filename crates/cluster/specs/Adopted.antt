@@ -3,8 +3,8 @@ use Rattle.std.specs.Prelude.{ℕ, true, Some, map}
 use Rattle.object_fields.specs.declared.key.Key.{Key}
 use Rattle.api_claim.specs.declared.types.ClaimStatus.{ClaimStatus}
 use Rattle.api_claim.specs.declared.types.StatusResult.{StatusResult}
-use Rattle.cluster.specs.declared.entry.Stand.{Stand}
-use Rattle.cluster.specs.declared.entry.Stand.TheVariants as stand
+use Rattle.cluster.specs.declared.entry.JobState.{JobState}
+use Rattle.cluster.specs.declared.entry.JobState.TheVariants as stand
 use Rattle.cluster.specs.declared.plan.DeviceResult.{DeviceResult}
 use Rattle.cluster.specs.declared.state.ClaimState.{ClaimState}
 use Rattle.cluster.specs.declared.state.Granted.{Granted}
@@ -26,5 +26,5 @@ abbrev pub with_adopted : ℕ → Key → ClaimStatus → State → State
 with_adopted place claim status s = record s { claims = changed_at claim (adopted_by place status) s.claims }
 
 -- its job is ended
-abbrev pub adopted_leaves : ℕ → Stand
+abbrev pub adopted_leaves : ℕ → JobState
 adopted_leaves place = stand.Ended place

@@ -3,8 +3,8 @@ use Rattle.std.specs.Prelude.{ℕ, [], None}
 use Rattle.api_claim.specs.declared.types.ResourceClaim.{ResourceClaim}
 use Rattle.api_cluster.specs.declared.types.Pod.{Pod}
 use Rattle.pool_view.specs.Inventory.{created, updated, with_named, with_node, with_slice}
-use Rattle.cluster.specs.declared.entry.Stand.{Stand}
-use Rattle.cluster.specs.declared.entry.Stand.TheVariants as stand
+use Rattle.cluster.specs.declared.entry.JobState.{JobState}
+use Rattle.cluster.specs.declared.entry.JobState.TheVariants as stand
 use Rattle.cluster.specs.declared.object.Object.{Object}
 use Rattle.cluster.specs.declared.object.Object.TheVariants as object
 use Rattle.cluster.specs.declared.state.ClaimState.{ClaimState}
@@ -38,5 +38,5 @@ with_object place (object.Claim x) s = record s { claims = changed_or_new x.key 
 with_object place (object.Pod x) s = record s { pods = changed_or_new x.key (new_pod place x) (updated_pod place x) s.pods }
 
 -- its job is ended
-abbrev pub applied_leaves : ℕ → Stand
+abbrev pub applied_leaves : ℕ → JobState
 applied_leaves place = stand.Ended place

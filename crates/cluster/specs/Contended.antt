@@ -1,7 +1,7 @@
 -- As many attempts of a job have failed as it may make.
 use Rattle.std.specs.Prelude.{ℕ}
-use Rattle.cluster.specs.declared.entry.Stand.{Stand}
-use Rattle.cluster.specs.declared.entry.Stand.TheVariants as stand
+use Rattle.cluster.specs.declared.entry.JobState.{JobState}
+use Rattle.cluster.specs.declared.entry.JobState.TheVariants as stand
 use Rattle.cluster.specs.declared.state.State.{State}
 
 -- nothing changes
@@ -9,5 +9,5 @@ abbrev pub with_contention : State → State
 with_contention s = s
 
 -- its job is ended
-abbrev pub contended_leaves : ℕ → Stand
+abbrev pub contended_leaves : ℕ → JobState
 contended_leaves place = stand.Ended place

@@ -4,8 +4,8 @@ use Rattle.std.specs.BTreeMap.{is_at}
 use Rattle.std.specs.Map.{remove_entry}
 use Rattle.pool_view.specs.Inventory.{without_named, without_node, without_slice}
 use Rattle.pool_view.specs.Names.{key_cmp}
-use Rattle.cluster.specs.declared.entry.Stand.{Stand}
-use Rattle.cluster.specs.declared.entry.Stand.TheVariants as stand
+use Rattle.cluster.specs.declared.entry.JobState.{JobState}
+use Rattle.cluster.specs.declared.entry.JobState.TheVariants as stand
 use Rattle.cluster.specs.declared.object.Target.{Target}
 use Rattle.cluster.specs.declared.object.Target.TheVariants as target
 use Rattle.cluster.specs.declared.state.State.{State}
@@ -19,5 +19,5 @@ without_object (target.Claim key) s = record s { claims = remove_entry (is_at (k
 without_object (target.Pod key) s = record s { pods = remove_entry (is_at (key_cmp key)) s.pods }
 
 -- its job is ended
-abbrev pub deleted_leaves : ℕ → Stand
+abbrev pub deleted_leaves : ℕ → JobState
 deleted_leaves place = stand.Ended place

@@ -12,8 +12,8 @@ use Rattle.cluster.specs.declared.entry.Mode.{Mode}
 use Rattle.cluster.specs.declared.entry.Mode.TheVariants as mode
 use Rattle.cluster.specs.declared.entry.Refusal.{Refusal}
 use Rattle.cluster.specs.declared.entry.Refusal.TheVariants as refusal
-use Rattle.cluster.specs.declared.entry.Stand.{Stand}
-use Rattle.cluster.specs.declared.entry.Stand.TheVariants as stand
+use Rattle.cluster.specs.declared.entry.JobState.{JobState}
+use Rattle.cluster.specs.declared.entry.JobState.TheVariants as stand
 use Rattle.cluster.specs.declared.object.Object.{Object}
 use Rattle.cluster.specs.declared.object.Object.TheVariants as object
 use Rattle.cluster.specs.declared.object.Target.{Target}
@@ -168,5 +168,5 @@ abbrev pub with_denial : State → State
 with_denial s = s
 
 -- its job is ended
-abbrev pub denied_leaves : ℕ → Stand
+abbrev pub denied_leaves : ℕ → JobState
 denied_leaves place = stand.Ended place

@@ -1,12 +1,12 @@
 -- What each event does to the state, and what it leaves of its job.
 use Rattle.std.specs.Prelude.{ℕ, Bool, ◌==◌, ◌&&◌}
 use Rattle.cluster.specs.declared.entry.Event.{Event}
-use Rattle.cluster.specs.declared.entry.Event.TheVariants.{Applied, Deleted, Reserved, Refused, Wrote, Conflict, Unreserved, Bound, Judged, Contended, Released, Adopted, Denied}
+use Rattle.cluster.specs.declared.entry.Event.TheVariants.{Applied, Deleted, Reserved, Refused, Wrote, Conflict, Unreserved, Bound, VerdictGiven, Contended, Released, Adopted, Denied}
 use Rattle.cluster.specs.declared.entry.Outcome.{Outcome}
 use Rattle.cluster.specs.declared.entry.Outcome.TheVariants as outcome
-use Rattle.cluster.specs.declared.entry.Stand.{Stand}
+use Rattle.cluster.specs.declared.entry.JobState.{JobState}
 use Rattle.cluster.specs.declared.state.State.{State}
-use Rattle.cluster.specs.Stand.{failures, has_failed, has_reserved, is_conflicted, is_fresh, may_try}
+use Rattle.cluster.specs.JobState.{failures, has_failed, has_reserved, is_conflicted, is_fresh, may_try}
 use Rattle.cluster.specs.Applied.{with_object, applied_leaves}
 use Rattle.cluster.specs.Deleted.{without_object, deleted_leaves}
 use Rattle.cluster.specs.Reserved.{with_reserved, reserved_leaves}
@@ -15,7 +15,7 @@ use Rattle.cluster.specs.Wrote.{with_written, wrote_leaves}
 use Rattle.cluster.specs.Conflict.{with_conflict, conflict_leaves}
 use Rattle.cluster.specs.Unreserved.{with_unreserved, unreserved_leaves}
 use Rattle.cluster.specs.Bound.{with_bound, bound_leaves}
-use Rattle.cluster.specs.Judged.{with_verdict, judged_leaves}
+use Rattle.cluster.specs.VerdictGiven.{with_verdict, judged_leaves}
 use Rattle.cluster.specs.Contended.{with_contention, contended_leaves}
 use Rattle.cluster.specs.Released.{with_released, released_leaves}
 use Rattle.cluster.specs.Adopted.{with_adopted, adopted_leaves}
@@ -31,14 +31,14 @@ after place job (Wrote pod claim seen) s = with_written place pod claim s
 after place job (Conflict pod claim had now) s = with_conflict s
 after place job (Unreserved pod) s = with_unreserved place pod s
 after place job (Bound pod node) s = with_bound pod node s
-after place job (Judged pod verdict) s = with_verdict s
+after place job (VerdictGiven pod verdict) s = with_verdict s
 after place job (Contended pod attempts) s = with_contention s
 after place job (Released pod) s = with_released place pod s
 after place job (Adopted claim status) s = with_adopted place claim status s
 after place job (Denied command refusal) s = with_denial s
 
 -- the stand after an entry of the job at a place
-abbrev pub stand_after : Stand → ℕ → Event → Stand
+abbrev pub stand_after : JobState → ℕ → Event → JobState
 stand_after st place (Applied object mode) = applied_leaves place
 stand_after st place (Deleted target) = deleted_leaves place
 stand_after st place (Reserved pod plan) = reserved_leaves st
@@ -47,14 +47,14 @@ stand_after st place (Wrote pod claim seen) = wrote_leaves st
 stand_after st place (Conflict pod claim had now) = conflict_leaves st
 stand_after st place (Unreserved pod) = unreserved_leaves st
 stand_after st place (Bound pod node) = bound_leaves place
-stand_after st place (Judged pod verdict) = judged_leaves place
+stand_after st place (VerdictGiven pod verdict) = judged_leaves place
 stand_after st place (Contended pod attempts) = contended_leaves place
 stand_after st place (Released pod) = released_leaves place
 stand_after st place (Adopted claim status) = adopted_leaves place
 stand_after st place (Denied command refusal) = denied_leaves place
 
 -- a job that stands so may make the entry
-abbrev pub allows : Stand → Event → Bool
+abbrev pub allows : JobState → Event → Bool
 allows st (Applied object mode) = is_fresh st
 allows st (Deleted target) = is_fresh st
 allows st (Reserved pod plan) = may_try st
@@ -63,7 +63,7 @@ allows st (Wrote pod claim seen) = has_reserved st
 allows st (Conflict pod claim had now) = has_reserved st
 allows st (Unreserved pod) = is_conflicted st
 allows st (Bound pod node) = has_reserved st
-allows st (Judged pod verdict) = may_try st
+allows st (VerdictGiven pod verdict) = may_try st
 allows st (Contended pod attempts) = has_failed st && (failures st == attempts)
 allows st (Released pod) = is_fresh st
 allows st (Adopted claim status) = is_fresh st
@@ -79,7 +79,7 @@ outcome_of (Wrote pod claim seen) = outcome.Made
 outcome_of (Conflict pod claim had now) = outcome.Conflicted
 outcome_of (Unreserved pod) = outcome.Made
 outcome_of (Bound pod node) = outcome.Made
-outcome_of (Judged pod verdict) = outcome.Made
+outcome_of (VerdictGiven pod verdict) = outcome.Made
 outcome_of (Contended pod attempts) = outcome.Made
 outcome_of (Released pod) = outcome.Made
 outcome_of (Adopted claim status) = outcome.Made

@@ -1,8 +1,8 @@
 -- What a history leaves of the state and of each job.
 use Rattle.std.specs.Prelude.{ℕ, ◌==◌, ◌+◌, ◌-◌, Option, None, slice_get, List, [], ◌∷◌, take, if◌then◌else◌}
 use Rattle.cluster.specs.declared.entry.Entry.{Entry}
-use Rattle.cluster.specs.declared.entry.Stand.{Stand}
-use Rattle.cluster.specs.declared.entry.Stand.TheVariants.{Fresh}
+use Rattle.cluster.specs.declared.entry.JobState.{JobState}
+use Rattle.cluster.specs.declared.entry.JobState.TheVariants.{Fresh}
 use Rattle.cluster.specs.declared.state.State.{State}
 use Rattle.cluster.specs.Events.{after, stand_after}
 use Rattle.cluster.specs.State.{empty_state}
@@ -28,9 +28,9 @@ state_at h place = state_of (take place h)
 abbrev pub entry_at : List Entry → ℕ → Option Entry
 entry_at h place = if place == 0 then None else slice_get h (place - 1)
 
-abbrev pub next_stand : ℕ → Stand → ℕ → Entry → Stand
+abbrev pub next_stand : ℕ → JobState → ℕ → Entry → JobState
 next_stand job st place e = if e.job == job then stand_after st place e.event else st
 
 -- what the job's entries in a history leave
-unfoldable pub stand_of : List Entry → ℕ → Stand
+unfoldable pub stand_of : List Entry → ℕ → JobState
 stand_of h job = told (next_stand job) Fresh 0 h

@@ -4,7 +4,7 @@ pub mod Tables
 pub mod Claims
 pub mod State
 pub mod Held
-pub mod Stand
+pub mod JobState
 pub mod Applied
 pub mod Deleted
 pub mod Same
@@ -17,7 +17,7 @@ pub mod Freed
 pub mod Leaving
 pub mod Unreserved
 pub mod Bound
-pub mod Judged
+pub mod VerdictGiven
 pub mod Contended
 pub mod Released
 pub mod Adopted

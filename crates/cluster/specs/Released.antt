@@ -1,8 +1,8 @@
 -- A bound pod gives its claims back.
 use Rattle.std.specs.Prelude.{ℕ}
 use Rattle.object_fields.specs.declared.key.Key.{Key}
-use Rattle.cluster.specs.declared.entry.Stand.{Stand}
-use Rattle.cluster.specs.declared.entry.Stand.TheVariants as stand
+use Rattle.cluster.specs.declared.entry.JobState.{JobState}
+use Rattle.cluster.specs.declared.entry.JobState.TheVariants as stand
 use Rattle.cluster.specs.declared.state.State.{State}
 use Rattle.cluster.specs.Freed.{without_uses}
 
@@ -11,5 +11,5 @@ abbrev pub with_released : ℕ → Key → State → State
 with_released place pod s = without_uses place pod s
 
 -- its job is ended
-abbrev pub released_leaves : ℕ → Stand
+abbrev pub released_leaves : ℕ → JobState
 released_leaves place = stand.Ended place

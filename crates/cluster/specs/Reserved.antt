@@ -3,8 +3,8 @@ use Rattle.std.specs.Prelude.{ℕ, false, List, [], ◌∷◌, Some}
 use Rattle.std.specs.BTreeMap.{insert_entry}
 use Rattle.object_fields.specs.declared.key.Key.{Key}
 use Rattle.pool_view.specs.Names.{key_cmp}
-use Rattle.cluster.specs.declared.entry.Stand.{Stand}
-use Rattle.cluster.specs.declared.entry.Stand.TheVariants as stand
+use Rattle.cluster.specs.declared.entry.JobState.{JobState}
+use Rattle.cluster.specs.declared.entry.JobState.TheVariants as stand
 use Rattle.cluster.specs.declared.plan.DeviceResult.{DeviceResult}
 use Rattle.cluster.specs.declared.plan.Grant.{Grant}
 use Rattle.cluster.specs.declared.plan.Plan.{Plan}
@@ -12,7 +12,7 @@ use Rattle.cluster.specs.declared.state.ClaimState.{ClaimState}
 use Rattle.cluster.specs.declared.state.Phase.TheVariants.{Taken}
 use Rattle.cluster.specs.declared.state.State.{State}
 use Rattle.cluster.specs.declared.state.Use.TheVariants.{Assumed}
-use Rattle.cluster.specs.Stand.{failures}
+use Rattle.cluster.specs.JobState.{failures}
 use Rattle.cluster.specs.Tables.{changed_at, with_phase}
 
 -- the claim granted to a pod, whose use is assumed at the claim's version
@@ -39,5 +39,5 @@ abbrev pub with_reserved : ℕ → Key → Plan → State → State
 with_reserved job pod plan s = record s { claims = with_joins pod plan.joins (with_grants plan.node pod plan.grants s.claims); pods = with_phase pod (Taken job plan.node) s.pods }
 
 -- its job has reserved, after as many failed attempts
-abbrev pub reserved_leaves : Stand → Stand
+abbrev pub reserved_leaves : JobState → JobState
 reserved_leaves st = stand.Reserved (failures st)

@@ -1,13 +1,13 @@
 -- A pod's use of a claim is written, which publishes the claim's grant.
 use Rattle.std.specs.Prelude.{ℕ, true, option_map}
 use Rattle.object_fields.specs.declared.key.Key.{Key}
-use Rattle.cluster.specs.declared.entry.Stand.{Stand}
-use Rattle.cluster.specs.declared.entry.Stand.TheVariants as stand
+use Rattle.cluster.specs.declared.entry.JobState.{JobState}
+use Rattle.cluster.specs.declared.entry.JobState.TheVariants as stand
 use Rattle.cluster.specs.declared.state.ClaimState.{ClaimState}
 use Rattle.cluster.specs.declared.state.Granted.{Granted}
 use Rattle.cluster.specs.declared.state.State.{State}
 use Rattle.cluster.specs.declared.state.Use.TheVariants.{Written}
-use Rattle.cluster.specs.Stand.{failures}
+use Rattle.cluster.specs.JobState.{failures}
 use Rattle.cluster.specs.Tables.{changed_at}
 
 -- what was granted, for others to see
@@ -23,5 +23,5 @@ abbrev pub with_written : ℕ → Key → Key → State → State
 with_written place pod claim s = record s { claims = changed_at claim (written_by place pod) s.claims }
 
 -- its job has reserved still
-abbrev pub wrote_leaves : Stand → Stand
+abbrev pub wrote_leaves : JobState → JobState
 wrote_leaves st = stand.Reserved (failures st)

@@ -55,7 +55,7 @@ pub enum Event {
         node: Text,
     },
     /// Says that the pod can't be scheduled, and changes nothing.
-    Judged {
+    VerdictGiven {
         pod: Key,
         verdict: Verdict,
     },
@@ -149,7 +149,7 @@ pub enum Outcome {
 
 /// What a job's entries leave. The numbers count the attempts of the job that have failed.
 #[derive(Clone, Copy, Debug, PartialEq, Eq, Drop)]
-pub enum Stand {
+pub enum JobState {
     /// It has no entry.
     Fresh,
     /// It has reserved for its pod.

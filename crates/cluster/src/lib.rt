@@ -13,7 +13,7 @@ mod reserved;
 mod same;
 mod state;
 
-pub use entry::{Command, Entry, Event, Mode, Outcome, Refusal, Stand};
+pub use entry::{Command, Entry, Event, JobState, Mode, Outcome, Refusal};
 pub use failure::{Failure, Shortfall};
 pub use kept::Kept;
 pub use object::{Object, Target};

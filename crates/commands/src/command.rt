@@ -8,7 +8,7 @@ use crate::fields::{has_key, is_together, read_key, read_target};
 use crate::objects::read_ready;
 use cluster::{Ready, Target};
 use dra_values::Seq;
-use object_fields::{FieldError, Key, Kind};
+use object_fields::{FieldError, FieldErrorKind, Key};
 use serde_json::Value;
 use std::alloc::{AllocError, Global};
 use std::str;
@@ -150,7 +150,7 @@ fn apply(alloc: Global, kind: ObjectKind, value: &Value) -> Result<Command, Allo
     match read_ready(alloc, kind, value) {
         Ok(ready) => Ok(Command::Apply(ready)),
         Err(error) => {
-            if error.kind == Kind::Memory {
+            if error.kind == FieldErrorKind::Memory {
                 Err(AllocError)
             } else {
                 Ok(Command::Invalid(error))

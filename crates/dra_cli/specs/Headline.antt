@@ -11,7 +11,7 @@ use Rattle.cluster.specs.Held.{HeldOnce}
 use Rattle.cluster.specs.declared.entry.Command.{Command}
 use Rattle.cluster.specs.declared.entry.Refusal.{Refusal}
 use Rattle.cluster.specs.declared.entry.Entry.{Entry}
-use Rattle.cluster.specs.declared.entry.Event.TheVariants.{Reserved, Refused, Judged, Adopted, Denied}
+use Rattle.cluster.specs.declared.entry.Event.TheVariants.{Reserved, Refused, VerdictGiven, Adopted, Denied}
 use Rattle.ledger_core.specs.Denied.{MayDeny}
 use Rattle.ledger_core.specs.Refused.{MayRefuse}
 use Rattle.api_claim.specs.declared.types.ClaimStatus.{ClaimStatus}
@@ -39,9 +39,9 @@ NamesBudget budget (reason.Nodes nodes) = (p : Passed) (steps : ℕ) → Contain
 -- its claims.
 pub record IsTrueHistory (budget : ℕ) (h : List Entry) : Type 0 where
   pub grants : (front back : List Entry) (job : ℕ) (pod : Key) (plan : Plan) → h ≡ front ++ record { job = job; event = Reserved pod plan } ∷ back → IsGrantOf front pod plan
-  pub verdicts : (front back : List Entry) (job : ℕ) (pod : Key) (verdict : Verdict) → h ≡ front ++ record { job = job; event = Judged pod verdict } ∷ back → IsVerdictOf front pod verdict
+  pub verdicts : (front back : List Entry) (job : ℕ) (pod : Key) (verdict : Verdict) → h ≡ front ++ record { job = job; event = VerdictGiven pod verdict } ∷ back → IsVerdictOf front pod verdict
   -- the steps of a `budget` are those of the option
-  pub budgets : (front back : List Entry) (job : ℕ) (pod : Key) (verdict : Verdict) → h ≡ front ++ record { job = job; event = Judged pod verdict } ∷ back → NamesBudget budget verdict.reason
+  pub budgets : (front back : List Entry) (job : ℕ) (pod : Key) (verdict : Verdict) → h ≡ front ++ record { job = job; event = VerdictGiven pod verdict } ∷ back → NamesBudget budget verdict.reason
   pub refusals : (front back : List Entry) (job : ℕ) (pod : Key) (plan : Plan) (why : Failure) → h ≡ front ++ record { job = job; event = Refused pod plan why } ∷ back → MayRefuse front pod plan why
   pub adoptions : (front back : List Entry) (job : ℕ) (claim : Key) (status : ClaimStatus) → h ≡ front ++ record { job = job; event = Adopted claim status } ∷ back → IsAdoptionOf front claim status
   pub denials : (front back : List Entry) (job : ℕ) (command : Command) (refusal : Refusal) → h ≡ front ++ record { job = job; event = Denied command refusal } ∷ back → MayDeny (state_of front) command refusal

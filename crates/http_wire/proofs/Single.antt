@@ -17,10 +17,10 @@ data Verdict : Type 0 where
   Crowded : Verdict
   Meant : (r : Result Head WireError) → Verdict
 
-abbrev Judged : List ℕ → Verdict → Type 0
-Judged lines Bare = (line_count lines ≤ 66) × IsNoHead lines
-Judged lines Crowded = 66 < line_count lines
-Judged lines (Meant r) = (line_count lines ≤ 66) × HasMeaning lines r
+abbrev VerdictGiven : List ℕ → Verdict → Type 0
+VerdictGiven lines Bare = (line_count lines ≤ 66) × IsNoHead lines
+VerdictGiven lines Crowded = 66 < line_count lines
+VerdictGiven lines (Meant r) = (line_count lines ≤ 66) × HasMeaning lines r
 
 meant_same : (lines : List ℕ) (r q : Result Head WireError) → HasMeaning lines r → HasMeaning lines q → r ≡ q
 meant_same lines r q h k = sym h.meaning_is ∙ ap meaning_of (request_unique lines h.head k.head [] [] h.reads k.reads).0 ∙ k.meaning_is
@@ -28,7 +28,7 @@ meant_same lines r q h k = sym h.meaning_is ∙ ap meaning_of (request_unique li
 too_many : (n : ℕ) → n ≤ 66 → 66 < n → ⊥
 too_many n h k = omega (arith, h, k)
 
-judged_same : (lines : List ℕ) (v w : Verdict) → Judged lines v → Judged lines w → v ≡ w
+judged_same : (lines : List ℕ) (v w : Verdict) → VerdictGiven lines v → VerdictGiven lines w → v ≡ w
 judged_same lines Bare Bare h k = refl
 judged_same lines Bare Crowded h k = absurd (too_many (line_count lines) h.0 k)
 judged_same lines Bare (Meant q) h k = absurd (h.1 k.1.head k.1.reads)
@@ -42,7 +42,7 @@ judged_same lines (Meant r) (Meant q) h k = ap (λ (x : Result Head WireError). 
 -- bytes with a head at their front
 record Headed (bytes front lines rest : List ℕ) (v : Verdict) : Type 0 where
   at : Fronted bytes front lines rest
-  judged : Judged lines v
+  judged : VerdictGiven lines v
 
 record SameHead (front rest : List ℕ) (v : Verdict) (front' rest' : List ℕ) (v' : Verdict) : Type 0 where
   fronts : front ≡ front'
@@ -52,7 +52,7 @@ record SameHead (front rest : List ℕ) (v : Verdict) (front' rest' : List ℕ) 
 same_head : (bytes front lines rest front' lines' rest' : List ℕ) (v v' : Verdict) → Headed bytes front lines rest v → Headed bytes front' lines' rest' v' → SameHead front rest v front' rest' v'
 same_head bytes front lines rest front' lines' rest' v v' h k =
     let s = one_head bytes front lines rest front' lines' rest' h.at k.at in
-    record { fronts = s.fronts; rests = s.rests; verdicts = judged_same lines' v v' (subst (λ (l : List ℕ). Judged l v) s.lines_are h.judged) k.judged }
+    record { fronts = s.fronts; rests = s.rests; verdicts = judged_same lines' v v' (subst (λ (l : List ℕ). VerdictGiven l v) s.lines_are h.judged) k.judged }
 
 -- how the requests end where no request stands first
 
@@ -99,7 +99,7 @@ Unheaded bytes EndedEarly = IsOpenHead bytes
 abbrev Shape : List ℕ → Ending → Type 0
 Shape bytes e = Unheaded bytes e ⊎ (Refused bytes e ⊎ Cut bytes e)
 
-short_refused : (bytes front lines rest : List ℕ) (e : Ending) (v : Verdict) → bytes ≡ front ++ rest → IsHead front lines → Judged lines v → ending_of v ≡ Some e → Refused bytes e
+short_refused : (bytes front lines rest : List ℕ) (e : Ending) (v : Verdict) → bytes ≡ front ++ rest → IsHead front lines → VerdictGiven lines v → ending_of v ≡ Some e → Refused bytes e
 short_refused bytes front lines rest e v is head judged ending = record {
   front = front;
   lines = lines;

@@ -15,7 +15,7 @@ use Rattle.cel_value.specs.declared.error.EvalError.{EvalError}
 use Rattle.cel_value.specs.declared.error.EvalError.TheVariants.{NoKey, NoOverload, Overflow, DivByZero, OutOfRange, BadConversion, Memory}
 use Rattle.device_match.specs.declared.verdict.Cause as matched
 use Rattle.device_match.specs.declared.verdict.Cause.TheVariants as why
-use Rattle.cluster.specs.Judged.{has_budget, has_fault}
+use Rattle.cluster.specs.VerdictGiven.{has_budget, has_fault}
 use Rattle.cluster.specs.declared.plan.DeviceResult.{DeviceResult}
 use Rattle.cluster.specs.declared.plan.Grant.{Grant}
 use Rattle.cluster.specs.declared.plan.Passed.{Passed}
@@ -33,7 +33,7 @@ use Rattle.cluster.specs.declared.entry.Refusal.{Refusal}
 use Rattle.cluster.specs.declared.entry.Refusal.TheVariants as refusal
 use Rattle.cluster.specs.declared.entry.Entry.{Entry}
 use Rattle.cluster.specs.declared.entry.Event.{Event}
-use Rattle.cluster.specs.declared.entry.Event.TheVariants.{Applied, Deleted, Reserved, Refused, Wrote, Conflict, Unreserved, Bound, Judged, Contended, Released, Adopted, Denied}
+use Rattle.cluster.specs.declared.entry.Event.TheVariants.{Applied, Deleted, Reserved, Refused, Wrote, Conflict, Unreserved, Bound, VerdictGiven, Contended, Released, Adopted, Denied}
 use Rattle.cluster.specs.declared.failure.Failure.{Failure}
 use Rattle.cluster.specs.declared.failure.Failure.TheVariants as failure
 use Rattle.cluster.specs.declared.failure.Shortfall.{Shortfall}
@@ -223,7 +223,7 @@ event_text (Wrote pod claim seen) = codes "wrote " ++ key_text pod ++ codes " " 
 event_text (Conflict pod claim had now) = codes "conflict " ++ key_text pod ++ codes " " ++ key_text claim ++ codes " had=" ++ decimal had ++ codes " now=" ++ decimal now
 event_text (Unreserved pod) = codes "unreserved " ++ key_text pod
 event_text (Bound pod node) = codes "bound " ++ key_text pod ++ codes " " ++ node
-event_text (Judged pod verdict) = verdict_text pod verdict
+event_text (VerdictGiven pod verdict) = verdict_text pod verdict
 event_text (Contended pod attempts) = codes "contended " ++ key_text pod ++ codes " attempts=" ++ decimal attempts
 event_text (Released pod) = codes "released " ++ key_text pod
 event_text (Adopted claim status) = adopted_text claim status

@@ -1,7 +1,7 @@
 ghost use Rattle.std.specs.Prelude.{◌≡◌, IfOk, string_bytes};
 ghost use Rattle.journal_text.specs.Journal.{adopted_line, adopted_text, denial_text, event_text, is_unbound, nodes_word, object_text, plan_text, reason_text, refusal_text, release_text, target_text, verdict_text, verdict_word};
 ghost use Rattle.cluster.specs.declared.entry.Event.TheVariants.{Refused};
-ghost use Rattle.cluster.specs.Judged.{has_budget, has_fault, is_budget, is_fault};
+ghost use Rattle.cluster.specs.VerdictGiven.{has_budget, has_fault, is_budget, is_fault};
 
 use crate::failure::failure_text;
 use crate::worded::{listed, status_results};
@@ -11,7 +11,7 @@ use cluster::{
 };
 use dra_values::Text;
 use object_fields::Key;
-use pool_view::MOST_DEVICES;
+use pool_view::MAX_DEVICES_TOTAL;
 use std::alloc::{AllocError, Global};
 
 /// An object's kind and name.
@@ -170,7 +170,7 @@ fn refusal_text(alloc: Global, name: &String, refusal: &Refusal) -> Result<Strin
         Refusal::Conflict { had, now } => format!(in alloc; "denied Conflict had={had} now={now}"),
         Refusal::Immutable => format!(in alloc; "denied Immutable {name}"),
         Refusal::InUse => format!(in alloc; "denied InUse {name}"),
-        Refusal::Devices => format!(in alloc; "denied Devices {MOST_DEVICES}"),
+        Refusal::Devices => format!(in alloc; "denied Devices {MAX_DEVICES_TOTAL}"),
         Refusal::Busy(job) => format!(in alloc; "denied Busy {job}"),
         Refusal::Bound(node) => format!(in alloc; "denied Bound {node}"),
         Refusal::NotBound => format!(in alloc; "denied NotBound {name}"),
@@ -255,7 +255,7 @@ pub fn event_text(alloc: Global, event: &Event) -> Result<String, AllocError>
         } => format!(in alloc; "conflict {pod} {claim} had={had} now={now}"),
         Event::Unreserved(pod) => format!(in alloc; "unreserved {pod}"),
         Event::Bound { pod, node } => format!(in alloc; "bound {pod} {node}"),
-        Event::Judged { pod, verdict } => verdict_text(alloc, pod, verdict),
+        Event::VerdictGiven { pod, verdict } => verdict_text(alloc, pod, verdict),
         Event::Contended { pod, attempts } => {
             format!(in alloc; "contended {pod} attempts={attempts}")
         }

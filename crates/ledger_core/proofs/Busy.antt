@@ -12,11 +12,11 @@ use Rattle.pool_view.specs.Names.{at_key, key_cmp}
 use Rattle.cluster.specs.declared.entry.Command.TheVariants.{Release, Schedule}
 use Rattle.cluster.specs.declared.entry.Entry.{Entry}
 use Rattle.cluster.specs.declared.entry.Event.{Event}
-use Rattle.cluster.specs.declared.entry.Event.TheVariants.{Applied, Deleted, Reserved, Refused, Wrote, Conflict, Unreserved, Bound, Judged, Contended, Released, Adopted, Denied}
+use Rattle.cluster.specs.declared.entry.Event.TheVariants.{Applied, Deleted, Reserved, Refused, Wrote, Conflict, Unreserved, Bound, VerdictGiven, Contended, Released, Adopted, Denied}
 use Rattle.cluster.specs.declared.entry.Refusal.{Refusal}
 use Rattle.cluster.specs.declared.entry.Refusal.TheVariants as refusal
-use Rattle.cluster.specs.declared.entry.Stand.{Stand}
-use Rattle.cluster.specs.declared.entry.Stand.TheVariants as stand
+use Rattle.cluster.specs.declared.entry.JobState.{JobState}
+use Rattle.cluster.specs.declared.entry.JobState.TheVariants as stand
 use Rattle.cluster.specs.declared.object.Object.{Object}
 use Rattle.cluster.specs.declared.object.Object.TheVariants as object
 use Rattle.cluster.specs.declared.object.Target.{Target}
@@ -30,7 +30,7 @@ use Rattle.cluster.specs.Deleted.{without_object}
 use Rattle.cluster.specs.Denied.{or_else, phase_refusal, release_refusal, schedule_refusal, unbound_refusal}
 use Rattle.cluster.specs.Events.{after, allows, stand_after}
 use Rattle.cluster.specs.History.{stand_of, state_of}
-use Rattle.cluster.specs.Stand.{has_failed, is_fresh, may_try}
+use Rattle.cluster.specs.JobState.{has_failed, is_fresh, may_try}
 use Rattle.cluster.specs.Tables.{put_at, with_phase}
 use Rattle.ledger_core.specs.Legal.{Step, Legal, MayStand}
 use Rattle.ledger_core.specs.Owners.{has_pod}
@@ -122,31 +122,31 @@ deleted job (target.Pod key) s = removed job (is_at (key_cmp key)) s.pods
 
 -- ---- what a job may have taken
 
-abbrev most : Stand → ℕ
+abbrev most : JobState → ℕ
 most st = cond (has_pod st) 1 0
 
-most_fresh : (st : Stand) → is_fresh st ≡ true → most st ≡ 0
+most_fresh : (st : JobState) → is_fresh st ≡ true → most st ≡ 0
 most_fresh stand.Fresh e = refl
 most_fresh (stand.Reserved k) e = absurd (cc)
 most_fresh (stand.Conflicted k) e = absurd (cc)
 most_fresh (stand.Failed k) e = refl
 most_fresh (stand.Ended place) e = refl
 
-most_trying : (st : Stand) → may_try st ≡ true → most st ≡ 0
+most_trying : (st : JobState) → may_try st ≡ true → most st ≡ 0
 most_trying stand.Fresh e = refl
 most_trying (stand.Reserved k) e = absurd (cc)
 most_trying (stand.Conflicted k) e = absurd (cc)
 most_trying (stand.Failed k) e = refl
 most_trying (stand.Ended place) e = refl
 
-most_failed : (st : Stand) (b : Bool) → (has_failed st && b) ≡ true → most st ≡ 0
+most_failed : (st : JobState) (b : Bool) → (has_failed st && b) ≡ true → most st ≡ 0
 most_failed stand.Fresh b e = absurd (cc)
 most_failed (stand.Reserved k) b e = absurd (cc)
 most_failed (stand.Conflicted k) b e = absurd (cc)
 most_failed (stand.Failed k) b e = refl
 most_failed (stand.Ended place) b e = absurd (cc)
 
-most_one : (st : Stand) → most st ≤ 1
+most_one : (st : JobState) → most st ≤ 1
 most_one stand.Fresh = omega arith
 most_one (stand.Reserved k) = omega arith
 most_one (stand.Conflicted k) = omega arith
@@ -197,7 +197,7 @@ own before place job (Bound pod node) allowed may h =
     let less = given_up job pod (phase.Bound node) node (state_of before).pods may.state may.taken.there may.taken.taken refl in
     let one = most_one (stand_of before job) in
     omega (arith, less, one, h)
-own before place job (Judged pod verdict) allowed may h =
+own before place job (VerdictGiven pod verdict) allowed may h =
     let none = most_trying (stand_of before job) allowed in
     omega (arith, none, h)
 own before place job (Contended pod attempts) allowed may h =
@@ -231,7 +231,7 @@ other place job j (Unreserved pod) s differs =
 other place job j (Bound pod node) s differs =
     let few = phase_set j pod (phase.Bound node) s.pods in
     omega (arith, few)
-other place job j (Judged pod verdict) s differs = omega arith
+other place job j (VerdictGiven pod verdict) s differs = omega arith
 other place job j (Contended pod attempts) s differs = omega arith
 other place job j (Released pod) s differs =
     let few = phase_set j pod phase.Idle s.pods in
@@ -260,7 +260,7 @@ few_after before e step few j =
     let differs : eqb e.job j ≡ false → pods_taken j pods ≤ most (stand_of before j) =
     λ t. let less = other place e.job j e.event (state_of before) t in let h = few j in omega (arith, less, h) in
     subst (λ (s : State). pods_taken j s.pods ≤ most (stand_of (before ++ e ∷ []) j)) (sym (state_of-more before e))
-    (subst (λ (st : Stand). pods_taken j pods ≤ most st) (sym (stand_of-more before e j)) (few_by (eqb e.job j) j e.job place e.event before pods refl same differs))
+    (subst (λ (st : JobState). pods_taken j pods ≤ most st) (sym (stand_of-more before e j)) (few_by (eqb e.job j) j e.job place e.event before pods refl same differs))
 
 few_at_first : Few []
 few_at_first j = subst (λ (s : State). pods_taken j s.pods ≤ most (stand_of [] j)) (sym state_of-empty) (omega arith)
@@ -320,7 +320,7 @@ has_by true h = refl
 has_by false h = absurd (omega (arith, h))
 
 -- a job that may be denied has no pod
-trying : (st : Stand) → may_try st ≡ true → has_pod st ≡ true → ⊥
+trying : (st : JobState) → may_try st ≡ true → has_pod st ≡ true → ⊥
 trying stand.Fresh e f = absurd (cc)
 trying (stand.Reserved k) e f = absurd (cc)
 trying (stand.Conflicted k) e f = absurd (cc)

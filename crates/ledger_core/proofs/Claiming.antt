@@ -15,7 +15,7 @@ use Rattle.pool_view.specs.Names.{at_key, key_cmp}
 use Rattle.cluster.specs.declared.entry.Command.TheVariants.{Apply, Delete}
 use Rattle.cluster.specs.declared.entry.Entry.{Entry}
 use Rattle.cluster.specs.declared.entry.Event.{Event}
-use Rattle.cluster.specs.declared.entry.Event.TheVariants.{Applied, Deleted, Reserved, Refused, Wrote, Conflict, Unreserved, Bound, Judged, Contended, Released, Adopted, Denied}
+use Rattle.cluster.specs.declared.entry.Event.TheVariants.{Applied, Deleted, Reserved, Refused, Wrote, Conflict, Unreserved, Bound, VerdictGiven, Contended, Released, Adopted, Denied}
 use Rattle.cluster.specs.declared.entry.Mode.{Mode}
 use Rattle.cluster.specs.declared.entry.Refusal.{Refusal}
 use Rattle.cluster.specs.declared.entry.Refusal.TheVariants.{InUse, NotFound}
@@ -308,7 +308,7 @@ fit_after law before place job (Wrote pod claim seen) may h = wrote place pod cl
 fit_after law before place job (Conflict pod claim had now) may h = h
 fit_after law before place job (Unreserved pod) may h = unused_again place pod (state_of before) h
 fit_after law before place job (Bound pod node) may h = bound (state_of before) job pod node may h
-fit_after law before place job (Judged pod verdict) may h = h
+fit_after law before place job (VerdictGiven pod verdict) may h = h
 fit_after law before place job (Contended pod attempts) may h = h
 fit_after law before place job (Released pod) may h = unused_again place pod (state_of before) h
 fit_after law before place job (Adopted claim status) may h = adopted place claim status (state_of before) h

@@ -29,7 +29,7 @@ use Rattle.cluster.specs.declared.plan.Reason.{Reason}
 use Rattle.cluster.specs.declared.plan.Reason.TheVariants as reason
 use Rattle.cluster.specs.declared.plan.SelectorFault.{SelectorFault}
 use Rattle.cluster.specs.declared.plan.Verdict.{Verdict}
-use Rattle.cluster.specs.Judged.{is_budget, is_fault, has_budget, has_fault}
+use Rattle.cluster.specs.VerdictGiven.{is_budget, is_fault, has_budget, has_fault}
 use Rattle.cluster.specs.State.{may_use, most_users}
 use Rattle.pool_view.specs.Names.{at_key, at_name, text_cmp, text_eq}
 use Rattle.allocations.specs.Claims.{full_claim, is_elsewhere, is_off, keys_of_pod, missing_claim, other_claim, wanted}
@@ -40,10 +40,10 @@ use Rattle.alloc_rules.specs.Plans.{CauseTrue, NodesTrue, ReasonTrue, nodes_of}
 use Rattle.cluster.specs.declared.entry.Command.{Command}
 use Rattle.cluster.specs.declared.entry.Refusal.{Refusal}
 use Rattle.cluster.specs.declared.entry.Entry.{Entry}
-use Rattle.cluster.specs.declared.entry.Event.TheVariants.{Reserved, Judged, Denied}
+use Rattle.cluster.specs.declared.entry.Event.TheVariants.{Reserved, VerdictGiven, Denied}
 use Rattle.cluster.specs.History.{state_at, state_of}
 use Rattle.ledger_core.specs.Reserved.{MayReserve}
-use Rattle.ledger_core.specs.Judged.{MayJudge}
+use Rattle.ledger_core.specs.VerdictGiven.{MayJudge}
 use Rattle.ledger_core.specs.Denied.{MayDeny}
 use Rattle.ledger_core.specs.Legal.{Step, LegalAfter, Legal}
 use Rattle.ledger_core.specs.Headline.{HasNone, IsCrowded, IsElsewhere, IsGrantOf, IsMissing, IsOverBudget, IsReasonOf, IsVerdictOf, NoneTaken}
@@ -288,10 +288,10 @@ verdict_of over parts before pod verdict may =
     record { at = may.at; state = t.state; there = t.idle.there; idle = t.idle.idle; reason = reason_of over parts (state_at before verdict.at) pod t.state verdict.reason t.reason }
 
 -- each verdict of a legal history is true
-pub verdict_at : OverLaw → PartsLaw → (front back : List Entry) (job : ℕ) (pod : Key) (verdict : Verdict) → Legal (front ++ record { job = job; event = Judged pod verdict } ∷ back)
+pub verdict_at : OverLaw → PartsLaw → (front back : List Entry) (job : ℕ) (pod : Key) (verdict : Verdict) → Legal (front ++ record { job = job; event = VerdictGiven pod verdict } ∷ back)
     → IsVerdictOf front pod verdict
 verdict_at over parts front back job pod verdict legal =
-    verdict_of over parts front pod verdict (step_at front (record { job = job; event = Judged pod verdict }) back legal).stands
+    verdict_of over parts front pod verdict (step_at front (record { job = job; event = VerdictGiven pod verdict }) back legal).stands
 
 -- each denial of a legal history is due
 pub denial_at : (front back : List Entry) (job : ℕ) (command : Command) (refusal : Refusal) → Legal (front ++ record { job = job; event = Denied command refusal } ∷ back) → MayDeny (state_of front) command refusal

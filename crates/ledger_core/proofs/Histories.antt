@@ -3,12 +3,12 @@ use Rattle.std.proofs.Common.{ℕ, ◌+◌, ◌≤◌, List, [], ◌∷◌, ◌+
 use Rattle.cluster.specs.State.{empty_state}
 use Rattle.cluster.specs.declared.entry.Entry.{Entry}
 use Rattle.cluster.specs.declared.entry.Event.{Event}
-use Rattle.cluster.specs.declared.entry.Event.TheVariants.{Applied, Deleted, Reserved, Refused, Wrote, Conflict, Unreserved, Bound, Judged, Contended, Released, Adopted, Denied}
-use Rattle.cluster.specs.declared.entry.Stand.{Stand}
-use Rattle.cluster.specs.declared.entry.Stand.TheVariants.{Fresh}
+use Rattle.cluster.specs.declared.entry.Event.TheVariants.{Applied, Deleted, Reserved, Refused, Wrote, Conflict, Unreserved, Bound, VerdictGiven, Contended, Released, Adopted, Denied}
+use Rattle.cluster.specs.declared.entry.JobState.{JobState}
+use Rattle.cluster.specs.declared.entry.JobState.TheVariants.{Fresh}
 use Rattle.cluster.specs.Events.{after, stand_after}
 use Rattle.cluster.specs.History.{next_stand, next_state, stand_of, state_of, told}
-use Rattle.cluster.specs.Stand.{failures}
+use Rattle.cluster.specs.JobState.{failures}
 use Rattle.ledger_core.specs.Legal.{Step, LegalAfter, Legal}
 
 told-more : {A : Type 0} (step : A → ℕ → Entry → A) (a : A) (n : ℕ) (es : List Entry) (e : Entry) → told step a n (es ++ e ∷ []) ≡ step (told step a n es) (n + length es + 1) e
@@ -57,7 +57,7 @@ unfolding Legal
 Legal-more es e legal step = LegalAfter-more [] es e legal step
 
 -- one entry counts at most one failed attempt more
-one_more : (st : Stand) (place : ℕ) (e : Event) → failures (stand_after st place e) ≤ failures st + 1
+one_more : (st : JobState) (place : ℕ) (e : Event) → failures (stand_after st place e) ≤ failures st + 1
 one_more st place (Applied object mode) = omega arith
 one_more st place (Deleted target) = omega arith
 one_more st place (Reserved pod plan) = omega arith
@@ -66,17 +66,17 @@ one_more st place (Wrote pod claim seen) = omega arith
 one_more st place (Conflict pod claim had now) = omega arith
 one_more st place (Unreserved pod) = omega arith
 one_more st place (Bound pod node) = omega arith
-one_more st place (Judged pod verdict) = omega arith
+one_more st place (VerdictGiven pod verdict) = omega arith
 one_more st place (Contended pod attempts) = omega arith
 one_more st place (Released pod) = omega arith
 one_more st place (Adopted claim status) = omega arith
 one_more st place (Denied command refusal) = omega arith
 
-more_by : (st : Stand) (place : ℕ) (e : Event) (b : Bool) → failures (cond b (stand_after st place e) st) ≤ failures st + 1
+more_by : (st : JobState) (place : ℕ) (e : Event) (b : Bool) → failures (cond b (stand_after st place e) st) ≤ failures st + 1
 more_by st place e true = one_more st place e
 more_by st place e false = omega arith
 
-failures_along : (job : ℕ) (st : Stand) (n : ℕ) (es : List Entry) → failures (told (next_stand job) st n es) ≤ failures st + length es
+failures_along : (job : ℕ) (st : JobState) (n : ℕ) (es : List Entry) → failures (told (next_stand job) st n es) ≤ failures st + length es
 unfolding told
 failures_along job st n [] = omega arith
 failures_along job st n (e ∷ es) =

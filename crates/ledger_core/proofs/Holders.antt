@@ -29,7 +29,7 @@ use Rattle.cluster.specs.Tables.{changed_at}
 use Rattle.cluster.specs.Wrote.{with_written}
 use Rattle.cluster.specs.declared.entry.Entry.{Entry}
 use Rattle.cluster.specs.declared.entry.Event.{Event}
-use Rattle.cluster.specs.declared.entry.Event.TheVariants.{Applied, Deleted, Reserved, Refused, Wrote, Conflict, Unreserved, Bound, Judged, Contended, Released, Adopted, Denied}
+use Rattle.cluster.specs.declared.entry.Event.TheVariants.{Applied, Deleted, Reserved, Refused, Wrote, Conflict, Unreserved, Bound, VerdictGiven, Contended, Released, Adopted, Denied}
 use Rattle.cluster.specs.Events.{after}
 use Rattle.cluster.specs.History.{state_of, state_at}
 use Rattle.allocations.specs.Allocation.{IsAllocation}
@@ -170,7 +170,7 @@ module _ (empty : HeldOnce empty_state)
   once_after before place job (Conflict pod claim had now) may h = h
   once_after before place job (Unreserved pod) may h = unused_once deleted place pod (state_of before) h
   once_after before place job (Bound pod node) may h = bound pod node (state_of before) h
-  once_after before place job (Judged pod verdict) may h = h
+  once_after before place job (VerdictGiven pod verdict) may h = h
   once_after before place job (Contended pod attempts) may h = h
   once_after before place job (Released pod) may h = unused_once deleted place pod (state_of before) h
   once_after before place job (Adopted claim status) may h = adopted_once grants place before claim status (adoption_of status_law before claim status may) h

@@ -5,12 +5,12 @@ use Rattle.object_fields.specs.declared.key.Key.{Key}
 use Rattle.counter_sets.specs.Holding.{AreHeld, Holders}
 use Rattle.cluster.specs.declared.entry.Entry.{Entry}
 use Rattle.cluster.specs.declared.entry.Event.TheVariants.{Contended}
-use Rattle.cluster.specs.declared.entry.Stand.{Stand}
+use Rattle.cluster.specs.declared.entry.JobState.{JobState}
 use Rattle.cluster.specs.declared.state.State.{State}
 use Rattle.cluster.specs.Events.{after, allows, stand_after}
 use Rattle.cluster.specs.Held.{HeldOnce, held}
 use Rattle.cluster.specs.History.{state_of}
-use Rattle.cluster.specs.Stand.{failures, has_failed}
+use Rattle.cluster.specs.JobState.{failures, has_failed}
 use Rattle.cluster.specs.State.{empty_state}
 use Rattle.ledger_core.specs.Legal.{Legal, Step}
 use Rattle.ledger_core.specs.Ledger.{IsKept, stand_in}
@@ -22,7 +22,7 @@ kept_empty limit holders small none =
     record { legal = Legal-empty; state_is = sym state_of-empty; holders_are = none; stands_are = λ j. sym (stand_of-empty j); within = omega arith; small = small }
 
 -- it keeps it with one entry more
-pub kept_more : (es : List Entry) (e : Entry) (s s' : State) (hs hs' : Holders) (stands ready stands' : List (ℕ × Stand)) (limit : ℕ) → IsKept es s hs stands limit → Step es e → length es < limit
+pub kept_more : (es : List Entry) (e : Entry) (s s' : State) (hs hs' : Holders) (stands ready stands' : List (ℕ × JobState)) (limit : ℕ) → IsKept es s hs stands limit → Step es e → length es < limit
     → s' ≡ after (length es + 1) e.job e.event s → AreHeld hs' (held s') → ((j : ℕ) → stand_in ready j ≡ stand_in stands j)
     → ((j : ℕ) → stand_in stands' j ≡ cond (eqb e.job j) (stand_after (stand_in ready e.job) (length es + 1) e.event) (stand_in ready j)) → IsKept (es ++ e ∷ []) s' hs' stands' limit
 kept_more es e s s' hs hs' stands ready stands' limit kept step room is holders same set = record {
@@ -35,10 +35,10 @@ kept_more es e s s' hs hs' stands ready stands' limit kept step room is holders 
 }
 
 -- no job has failed as often as a number of 64 bits can't say
-pub few_tries : (es : List Entry) (s : State) (hs : Holders) (stands ready : List (ℕ × Stand)) (limit job : ℕ) → IsKept es s hs stands limit → ((j : ℕ) → stand_in ready j ≡ stand_in stands j)
+pub few_tries : (es : List Entry) (s : State) (hs : Holders) (stands ready : List (ℕ × JobState)) (limit job : ℕ) → IsKept es s hs stands limit → ((j : ℕ) → stand_in ready j ≡ stand_in stands j)
     → failures (stand_in ready job) < 2 ^ 48
 few_tries es s hs stands ready limit job kept same =
-    let is : failures (stand_in ready job) ≤ length es = subst (λ (st : Stand). failures st ≤ length es) (sym (same job ∙ kept.stands_are job)) (failures_within es job) in
+    let is : failures (stand_in ready job) ≤ length es = subst (λ (st : JobState). failures st ≤ length es) (sym (same job ∙ kept.stands_are job)) (failures_within es job) in
     let within = kept.within in
     let small = kept.small in
     omega (arith, is, within, small)
@@ -47,14 +47,14 @@ few_tries es s hs stands ready limit job kept same =
 abbrev pub OneHolder : Type 0
 OneHolder = (h : List Entry) → Legal h → HeldOnce (state_of h)
 
-pub once_now : OneHolder → (es : List Entry) (s : State) (hs : Holders) (stands : List (ℕ × Stand)) (limit : ℕ) → IsKept es s hs stands limit → HeldOnce s
+pub once_now : OneHolder → (es : List Entry) (s : State) (hs : Holders) (stands : List (ℕ × JobState)) (limit : ℕ) → IsKept es s hs stands limit → HeldOnce s
 once_now law es s hs stands limit kept = subst (λ (t : State). HeldOnce t) (sym kept.state_is) (law es kept.legal)
 
-pub once_after : OneHolder → (es : List Entry) (e : Entry) (s : State) (hs : Holders) (stands : List (ℕ × Stand)) (limit : ℕ) → IsKept es s hs stands limit → Step es e
+pub once_after : OneHolder → (es : List Entry) (e : Entry) (s : State) (hs : Holders) (stands : List (ℕ × JobState)) (limit : ℕ) → IsKept es s hs stands limit → Step es e
     → HeldOnce (after (length es + 1) e.job e.event s)
 once_after law es e s hs stands limit kept step =
     subst (λ (t : State). HeldOnce t) (state_of-more es e ∙ ap (λ (t : State). after (length es + 1) e.job e.event t) (sym kept.state_is)) (law (es ++ e ∷ []) (Legal-more es e kept.legal step))
 
 -- a job whose last attempt has failed may say how many have
-pub may_contend : (st : Stand) (pod : Key) → has_failed st ≡ true → allows st (Contended pod (failures st)) ≡ true
+pub may_contend : (st : JobState) (pod : Key) → has_failed st ≡ true → allows st (Contended pod (failures st)) ≡ true
 may_contend st pod failed = and_from (has_failed st) (eqb (failures st) (failures st)) failed (eq-eqb (failures st) (failures st) refl)

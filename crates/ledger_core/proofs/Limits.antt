@@ -31,7 +31,7 @@ use Rattle.cluster.specs.Applied.{with_object}
 use Rattle.cluster.specs.Deleted.{without_object}
 use Rattle.cluster.specs.declared.entry.Entry.{Entry}
 use Rattle.cluster.specs.declared.entry.Event.{Event}
-use Rattle.cluster.specs.declared.entry.Event.TheVariants.{Applied, Deleted, Reserved, Refused, Wrote, Conflict, Unreserved, Bound, Judged, Contended, Released, Adopted, Denied}
+use Rattle.cluster.specs.declared.entry.Event.TheVariants.{Applied, Deleted, Reserved, Refused, Wrote, Conflict, Unreserved, Bound, VerdictGiven, Contended, Released, Adopted, Denied}
 use Rattle.cluster.specs.Events.{after}
 use Rattle.cluster.specs.History.{state_of, state_at}
 use Rattle.ledger_core.specs.Legal.{Legal, MayStand}
@@ -165,7 +165,7 @@ kept_after before place job (Adopted claim status) may h =
     record { nodes = h.nodes; slices = h.slices; classes = h.classes; claims = changed ClaimFits claim _ (state_of before).claims h.claims (λ c k. k); pods = h.pods }
 kept_after before place job (Bound pod node) may h =
     record { nodes = h.nodes; slices = h.slices; classes = h.classes; claims = h.claims; pods = changed PodFits pod _ (state_of before).pods h.pods (λ p k. k) }
-kept_after before place job (Judged pod verdict) may h = h
+kept_after before place job (VerdictGiven pod verdict) may h = h
 kept_after before place job (Denied command refusal) may h = h
 
 -- ---- histories

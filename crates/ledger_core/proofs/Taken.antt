@@ -12,9 +12,9 @@ use Rattle.pool_view.specs.Names.{at_key, key_cmp}
 use Rattle.cluster.specs.declared.entry.Command.TheVariants.{Delete}
 use Rattle.cluster.specs.declared.entry.Entry.{Entry}
 use Rattle.cluster.specs.declared.entry.Event.{Event}
-use Rattle.cluster.specs.declared.entry.Event.TheVariants.{Applied, Deleted, Reserved, Refused, Wrote, Conflict, Unreserved, Bound, Judged, Contended, Released, Adopted, Denied}
+use Rattle.cluster.specs.declared.entry.Event.TheVariants.{Applied, Deleted, Reserved, Refused, Wrote, Conflict, Unreserved, Bound, VerdictGiven, Contended, Released, Adopted, Denied}
 use Rattle.cluster.specs.declared.entry.Refusal.TheVariants as refusal
-use Rattle.cluster.specs.declared.entry.Stand.{Stand}
+use Rattle.cluster.specs.declared.entry.JobState.{JobState}
 use Rattle.cluster.specs.declared.object.Object.{Object}
 use Rattle.cluster.specs.declared.object.Object.TheVariants as object
 use Rattle.cluster.specs.declared.object.Target.{Target}
@@ -125,7 +125,7 @@ stays before place j (Unreserved p) may pod job differs t =
     phase_stays (state_of before).pods p pod job phase.Idle (other_never (state_of before) p may.state may.node j job differs may.taken.there may.taken.taken) t
 stays before place j (Bound p node) may pod job differs t =
     phase_stays (state_of before).pods p pod job (phase.Bound node) (other_never (state_of before) p may.state node j job differs may.taken.there may.taken.taken) t
-stays before place j (Judged p verdict) may pod job differs t = t
+stays before place j (VerdictGiven p verdict) may pod job differs t = t
 stays before place j (Contended p attempts) may pod job differs t = t
 stays before place j (Released p) may pod job differs t =
     phase_stays (state_of before).pods p pod job phase.Idle (bound_never (state_of before) p job may.unrefused) t
@@ -135,7 +135,7 @@ stays before place j (Denied command refused) may pod job differs t = t
 -- ---- what the job itself does
 
 -- its entry, after which it has a pod, says that the pod is taken
-own : (before : List Entry) (place j : ℕ) (event : Event) (st : Stand) → MayStand before j event → (pod : Key) → ((other : Key) → pod_in event ≡ Some other → other ≡ pod) → has_pod (stand_after st place event) ≡ true
+own : (before : List Entry) (place j : ℕ) (event : Event) (st : JobState) → MayStand before j event → (pod : Key) → ((other : Key) → pod_in event ≡ Some other → other ≡ pod) → has_pod (stand_after st place event) ≡ true
     → TakenBy (after place j event (state_of before)).pods pod j
 own before place j (Applied x m) st may pod about has = absurd (cc)
 own before place j (Deleted x) st may pod about has = absurd (cc)
@@ -150,7 +150,7 @@ own before place j (Conflict p claim had now) st may pod about has =
     subst (λ (k : Key). TakenBy (state_of before).pods k j) (about p refl) (may.use_next.state, may.use_next.node, may.use_next.taken.there, may.use_next.taken.taken)
 own before place j (Unreserved p) st may pod about has = absurd (cc)
 own before place j (Bound p node) st may pod about has = absurd (cc)
-own before place j (Judged p verdict) st may pod about has = absurd (cc)
+own before place j (VerdictGiven p verdict) st may pod about has = absurd (cc)
 own before place j (Contended p attempts) st may pod about has = absurd (cc)
 own before place j (Released p) st may pod about has = absurd (cc)
 own before place j (Adopted claim status) st may pod about has = absurd (cc)

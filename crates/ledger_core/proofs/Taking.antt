@@ -9,7 +9,7 @@ use Rattle.cluster.specs.declared.entry.Entry.{Entry}
 use Rattle.cluster.specs.declared.entry.Event.TheVariants.{Adopted, Reserved}
 use Rattle.cluster.specs.declared.entry.Refusal.{Refusal}
 use Rattle.cluster.specs.declared.entry.Refusal.TheVariants as refusal
-use Rattle.cluster.specs.declared.entry.Stand.{Stand}
+use Rattle.cluster.specs.declared.entry.JobState.{JobState}
 use Rattle.cluster.specs.declared.plan.Plan.{Plan}
 use Rattle.cluster.specs.declared.state.ClaimState.{ClaimState}
 use Rattle.cluster.specs.declared.state.Granted.{Granted}
@@ -25,7 +25,7 @@ use Rattle.ledger_core.proofs.Giving.{Adopts, Reserves, adopts, reserves}
 use Rattle.ledger_core.proofs.Keeping.{OneHolder, once_after}
 use Rattle.ledger_core.proofs.Opening.{Grantable, Open, allocation_opens}
 
-pub taking : OneHolder → (es : List Entry) (s : State) (hs : Holders) (stands : List (ℕ × Stand)) (limit : ℕ) → IsKept es s hs stands limit → (job : ℕ) (pod : Key) (plan : Plan)
+pub taking : OneHolder → (es : List Entry) (s : State) (hs : Holders) (stands : List (ℕ × JobState)) (limit : ℕ) → IsKept es s hs stands limit → (job : ℕ) (pod : Key) (plan : Plan)
     → Step es (record { job = job; event = Reserved pod plan }) → Reserves s (with_reserved job pod plan s) plan.grants
 taking law es s hs stands limit kept job pod plan step =
     let holds = step.stands.holds_now in
@@ -54,7 +54,7 @@ open_by s claim status (Some c) is e =
 pub open_claim : (s : State) (claim : Key) (status : ClaimStatus) → first_refusal s (Adopt claim status) ≡ None → Open s.claims claim
 open_claim s claim status e = open_by s claim status (at_key s.claims claim) refl e
 
-pub adopting : OneHolder → (es : List Entry) (s : State) (hs : Holders) (stands : List (ℕ × Stand)) (limit : ℕ) → IsKept es s hs stands limit → (job : ℕ) (claim : Key) (status : ClaimStatus)
+pub adopting : OneHolder → (es : List Entry) (s : State) (hs : Holders) (stands : List (ℕ × JobState)) (limit : ℕ) → IsKept es s hs stands limit → (job : ℕ) (claim : Key) (status : ClaimStatus)
     → Step es (record { job = job; event = Adopted claim status }) → Adopts s (with_adopted (length es + 1) claim status s) claim (map result_of status.results)
 adopting law es s hs stands limit kept job claim status step =
     let now = state_of es in

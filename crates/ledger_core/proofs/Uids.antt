@@ -6,7 +6,7 @@ use Rattle.pool_view.specs.Names.{at_key}
 use Rattle.cluster.specs.declared.entry.Command.TheVariants.{Apply}
 use Rattle.cluster.specs.declared.entry.Entry.{Entry}
 use Rattle.cluster.specs.declared.entry.Event.{Event}
-use Rattle.cluster.specs.declared.entry.Event.TheVariants.{Applied, Deleted, Reserved, Refused, Wrote, Conflict, Unreserved, Bound, Judged, Contended, Released, Adopted, Denied}
+use Rattle.cluster.specs.declared.entry.Event.TheVariants.{Applied, Deleted, Reserved, Refused, Wrote, Conflict, Unreserved, Bound, VerdictGiven, Contended, Released, Adopted, Denied}
 use Rattle.cluster.specs.declared.entry.Mode.{Mode}
 use Rattle.cluster.specs.declared.object.Object.{Object}
 use Rattle.cluster.specs.declared.object.Object.TheVariants as object
@@ -79,7 +79,7 @@ follows law before place job (Wrote pod claim seen) may fit = same_follows place
 follows law before place job (Conflict pod claim had now) may fit = same_follows place (state_of before).pods
 follows law before place job (Unreserved pod) may fit = phase_follows place pod phase.Idle (state_of before).pods
 follows law before place job (Bound pod node) may fit = phase_follows place pod (phase.Bound node) (state_of before).pods
-follows law before place job (Judged pod verdict) may fit = same_follows place (state_of before).pods
+follows law before place job (VerdictGiven pod verdict) may fit = same_follows place (state_of before).pods
 follows law before place job (Contended pod attempts) may fit = same_follows place (state_of before).pods
 follows law before place job (Released pod) may fit = phase_follows place pod phase.Idle (state_of before).pods
 follows law before place job (Adopted claim status) may fit = same_follows place (state_of before).pods

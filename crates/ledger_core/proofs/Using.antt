@@ -13,7 +13,7 @@ use Rattle.pool_view.specs.Names.{at_key, key_cmp}
 use Rattle.cluster.specs.declared.entry.Command.TheVariants.{Apply, Delete}
 use Rattle.cluster.specs.declared.entry.Entry.{Entry}
 use Rattle.cluster.specs.declared.entry.Event.{Event}
-use Rattle.cluster.specs.declared.entry.Event.TheVariants.{Applied, Deleted, Reserved, Refused, Wrote, Conflict, Unreserved, Bound, Judged, Contended, Released, Adopted, Denied}
+use Rattle.cluster.specs.declared.entry.Event.TheVariants.{Applied, Deleted, Reserved, Refused, Wrote, Conflict, Unreserved, Bound, VerdictGiven, Contended, Released, Adopted, Denied}
 use Rattle.cluster.specs.declared.entry.Mode.{Mode}
 use Rattle.cluster.specs.declared.entry.Refusal.TheVariants.{InUse, NotFound}
 use Rattle.cluster.specs.declared.object.Object.{Object}
@@ -312,7 +312,7 @@ fits_after law before place job (Conflict pod claim had now) may fit h = h
 fits_after law before place job (Unreserved pod) may fit h = unused_again place pod (state_of before) h
 fits_after law before place job (Bound pod node) may fit h =
     all_stays (state_of before).pods _ (state_of before).claims (busy_stays pod (phase.Bound node) (state_of before).pods refl) h
-fits_after law before place job (Judged pod verdict) may fit h = h
+fits_after law before place job (VerdictGiven pod verdict) may fit h = h
 fits_after law before place job (Contended pod attempts) may fit h = h
 fits_after law before place job (Released pod) may fit h = unused_again place pod (state_of before) h
 fits_after law before place job (Adopted claim status) may fit h = adopted place claim status (state_of before) h

@@ -1,6 +1,6 @@
 -- When a command may be refused.
 use Rattle.std.specs.Prelude.{◌≡◌, Option, None, Some, option_map}
-use Rattle.object_fields.specs.declared.kind.Kind.TheVariants.{Memory}
+use Rattle.object_fields.specs.declared.kind.FieldErrorKind.TheVariants.{Memory}
 use Rattle.cluster.specs.declared.entry.Command.{Command}
 use Rattle.cluster.specs.declared.entry.Command.TheVariants as command
 use Rattle.cluster.specs.declared.entry.Refusal.{Refusal}

@@ -18,7 +18,7 @@ use Rattle.cluster.specs.declared.plan.Reason.{Reason}
 use Rattle.cluster.specs.declared.plan.Reason.TheVariants as reason
 use Rattle.cluster.specs.declared.plan.SelectorFault.{SelectorFault}
 use Rattle.cluster.specs.declared.plan.Verdict.{Verdict}
-use Rattle.cluster.specs.Judged.{is_budget, is_fault, has_budget, has_fault}
+use Rattle.cluster.specs.VerdictGiven.{is_budget, is_fault, has_budget, has_fault}
 use Rattle.cluster.specs.State.{most_users}
 use Rattle.pool_view.specs.Names.{at_key}
 use Rattle.allocations.specs.Claims.{joined, keys_of_pod, missing_claim, full_claim, other_claim, wanted}

@@ -4,8 +4,8 @@ use Rattle.std.specs.BTreeMap.{is_at}
 use Rattle.std.specs.Map.{lookup}
 use Rattle.std.specs.Option.{unwrap_or}
 use Rattle.std.specs.Ordering.{nat_cmp}
-use Rattle.cluster.specs.declared.entry.Stand.{Stand}
-use Rattle.cluster.specs.declared.entry.Stand.TheVariants.{Fresh}
+use Rattle.cluster.specs.declared.entry.JobState.{JobState}
+use Rattle.cluster.specs.declared.entry.JobState.TheVariants.{Fresh}
 use Rattle.counter_sets.specs.Holding.{AreHeld, Holders}
 use Rattle.cluster.specs.Held.{held}
 use Rattle.cluster.specs.declared.state.State.{State}
@@ -28,11 +28,11 @@ abbrev pub at : {V : Type 0} → List (ℕ × V) → ℕ → Option V
 at table n = lookup (is_at (nat_cmp n)) table
 
 -- the row of a job in the table of stands; a job without one is Fresh
-abbrev pub stand_in : List (ℕ × Stand) → ℕ → Stand
+abbrev pub stand_in : List (ℕ × JobState) → ℕ → JobState
 stand_in stands job = unwrap_or (at stands job) Fresh
 
 -- the entries are a legal history, and the state, its holders and each job's stand are those after them
-pub record IsKept (entries : List Entry) (state : State) (holders : Holders) (stands : List (ℕ × Stand)) (limit : ℕ) : Type 0 where
+pub record IsKept (entries : List Entry) (state : State) (holders : Holders) (stands : List (ℕ × JobState)) (limit : ℕ) : Type 0 where
   pub legal : Legal entries
   pub state_is : state ≡ state_of entries
   pub holders_are : AreHeld holders (held state)

@@ -2,7 +2,7 @@
 use Rattle.std.specs.Prelude.{ℕ, ◌≡◌, List, [], ◌∷◌, ◌++◌, true}
 use Rattle.cluster.specs.declared.entry.Entry.{Entry}
 use Rattle.cluster.specs.declared.entry.Event.{Event}
-use Rattle.cluster.specs.declared.entry.Event.TheVariants.{Applied, Deleted, Reserved, Refused, Wrote, Conflict, Unreserved, Bound, Judged, Contended, Released, Adopted, Denied}
+use Rattle.cluster.specs.declared.entry.Event.TheVariants.{Applied, Deleted, Reserved, Refused, Wrote, Conflict, Unreserved, Bound, VerdictGiven, Contended, Released, Adopted, Denied}
 use Rattle.cluster.specs.Events.{allows}
 use Rattle.cluster.specs.History.{stand_of, state_of}
 use Rattle.ledger_core.specs.Applied.{MayApply}
@@ -13,7 +13,7 @@ use Rattle.ledger_core.specs.Wrote.{MayWrite}
 use Rattle.ledger_core.specs.Conflict.{MayConflict}
 use Rattle.ledger_core.specs.Unreserved.{MayUnreserve}
 use Rattle.ledger_core.specs.Bound.{MayBind}
-use Rattle.ledger_core.specs.Judged.{MayJudge}
+use Rattle.ledger_core.specs.VerdictGiven.{MayJudge}
 use Rattle.ledger_core.specs.Released.{MayRelease}
 use Rattle.ledger_core.specs.Adopted.{MayAdopt}
 use Rattle.ledger_core.specs.Denied.{MayDeny}
@@ -28,7 +28,7 @@ MayStand before job (Wrote pod claim seen) = MayWrite (state_of before) pod job 
 MayStand before job (Conflict pod claim had now) = MayConflict (state_of before) pod job claim had now
 MayStand before job (Unreserved pod) = MayUnreserve (state_of before) pod job
 MayStand before job (Bound pod node) = MayBind (state_of before) pod job node
-MayStand before job (Judged pod verdict) = MayJudge before pod verdict
+MayStand before job (VerdictGiven pod verdict) = MayJudge before pod verdict
 MayStand before job (Contended pod attempts) = Unit {0}
 MayStand before job (Released pod) = MayRelease (state_of before) pod
 MayStand before job (Adopted claim status) = MayAdopt (state_of before) claim status

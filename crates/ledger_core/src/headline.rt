@@ -50,7 +50,7 @@ pub fn grants_are_allocations()
 /// looked at are neither an allocation nor a fault; a claim whose grant is elsewhere has it on another node.
 pub fn verdicts_are_true()
     ensures { (front back : List Entry) (job : ℕ) (pod : Key) (verdict : Verdict) →
-        Legal (front ++ record { job = job; event = Event.Judged pod verdict } ∷ back) → IsVerdictOf front pod verdict }
+        Legal (front ++ record { job = job; event = Event.VerdictGiven pod verdict } ∷ back) → IsVerdictOf front pod verdict }
 {
     budget_is_true();
 }

@@ -4,7 +4,7 @@ ghost use Rattle.std.specs.Map.{lookup};
 ghost use Rattle.counter_sets.specs.Holding.{AreHeld};
 ghost use Rattle.pool_view.specs.Names.{at_key, device_eq};
 ghost use Rattle.cluster.specs.declared.entry.Command.TheVariants.{Adopt, Invalid, Schedule};
-ghost use Rattle.cluster.specs.declared.entry.Event.TheVariants.{Adopted, Applied, Bound, Conflict, Contended, Deleted, Denied, Judged, Refused, Released, Reserved, Unreserved, Wrote};
+ghost use Rattle.cluster.specs.declared.entry.Event.TheVariants.{Adopted, Applied, Bound, Conflict, Contended, Deleted, Denied, VerdictGiven, Refused, Released, Reserved, Unreserved, Wrote};
 ghost use Rattle.cluster.specs.declared.entry.Refusal.TheVariants as refusal;
 ghost use Rattle.cluster.specs.Applied.{with_object};
 ghost use Rattle.cluster.specs.Bound.{with_bound};
@@ -13,7 +13,7 @@ ghost use Rattle.cluster.specs.Events.{allows, outcome_of};
 ghost use Rattle.cluster.specs.Held.{held};
 ghost use Rattle.cluster.specs.History.{entry_at, stand_of, state_of};
 ghost use Rattle.cluster.specs.Ready.{object_of};
-ghost use Rattle.cluster.specs.Stand.{failures, has_failed, has_reserved, is_conflicted, is_fresh, may_try};
+ghost use Rattle.cluster.specs.JobState.{failures, has_failed, has_reserved, is_conflicted, is_fresh, may_try};
 ghost use Rattle.cluster.specs.State.{has_room, taken_node, use_in, version_of};
 ghost use Rattle.ledger_core.specs.Adopted.{MayAdopt, adoption};
 ghost use Rattle.ledger_core.specs.Applied.{MayApply, application};
@@ -22,7 +22,7 @@ ghost use Rattle.ledger_core.specs.Bound.{MayBind};
 ghost use Rattle.ledger_core.specs.Conflict.{IsNextUse, MayConflict, assumed_by, status_event};
 ghost use Rattle.ledger_core.specs.Deleted.{MayDelete, deletion};
 ghost use Rattle.ledger_core.specs.Denied.{MayDeny};
-ghost use Rattle.ledger_core.specs.Judged.{MayJudge};
+ghost use Rattle.ledger_core.specs.VerdictGiven.{MayJudge};
 ghost use Rattle.ledger_core.specs.Ledger.{appended, at, stand_in};
 ghost use Rattle.ledger_core.specs.Legal.{Legal};
 ghost use Rattle.ledger_core.specs.Refused.{MayRefuse};
@@ -38,12 +38,12 @@ use crate::room::{Stands, append, failures, make_room, stand_in};
 use crate::snapshot::Snapshot;
 use api_claim::ClaimStatus;
 use cluster::{
-    Command, Entry, Event, Failure, Kept, Mode, Outcome, Phase, Plan, Ready, ReadyParts, Refusal,
-    Stand, State, Target, Use, Verdict,
+    Command, Entry, Event, Failure, JobState, Kept, Mode, Outcome, Phase, Plan, Ready, ReadyParts,
+    Refusal, State, Target, Use, Verdict,
 };
 use counter_sets::Held;
 use dra_values::{Shared, Table, Text};
-use object_fields::{DeviceId, FieldError, Key, Kind};
+use object_fields::{DeviceId, FieldError, FieldErrorKind, Key};
 use plan_check::{check, check_status, checked_is_allocation, checked_is_known};
 use std::alloc::{AllocError, Global};
 use std::marker::Model;
@@ -151,7 +151,7 @@ impl Ledger {
     }
 
     /// What the job's entries leave.
-    pub fn stand(&self, job: u64) -> Stand
+    pub fn stand(&self, job: u64) -> JobState
         ensures { result ≡ stand_of self.now.entries job }
     {
         stand_in(&self.stands, job)
@@ -222,7 +222,7 @@ impl Ledger {
         ensures err { OnErr result (self.new ≡ self.old) }
     {
         let _entries = self.len();
-        if error.kind == Kind::Memory {
+        if error.kind == FieldErrorKind::Memory {
             return Err(LedgerError::Memory);
         }
         self.refuse(job, Command::Invalid(error), Refusal::Invalid)
@@ -365,16 +365,16 @@ impl Ledger {
     ) -> Result<Done, LedgerError>
         requires stand { may_try (stand_of self.old.entries job) ≡ true }
         requires verdict { MayJudge self.old.entries pod.now verdict }
-        ensures ok { OnOk result (self.new ≡ appended self.old job (Judged pod.now verdict)) }
+        ensures ok { OnOk result (self.new ≡ appended self.old job (VerdictGiven pod.now verdict)) }
         ensures place { IfOk result (λ done. done.place ≡ length self.new.entries) }
-        ensures outcome { IfOk result (λ done. done.outcome ≡ outcome_of (Judged pod.now verdict)) }
+        ensures outcome { IfOk result (λ done. done.outcome ≡ outcome_of (VerdictGiven pod.now verdict)) }
         ensures legal { Legal self.new.entries }
         ensures full { (n : ℕ) → IsErrOf result (LedgerError.Full n) → (length self.old.entries ≡ n) × (self.old.limit ≤ n) }
         ensures err { OnErr result (self.new ≡ self.old) }
     {
         let place = make_room(&mut self.entries, &mut self.stands, self.limit, job)?;
         let pod = pod.copy(alloc)?;
-        let event = Event::Judged { pod, verdict };
+        let event = Event::VerdictGiven { pod, verdict };
         append(&mut self.entries, &mut self.stands, job, event);
         Ok(Done {
             place,

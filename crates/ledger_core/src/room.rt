@@ -1,16 +1,16 @@
 ghost use Rattle.std.specs.Prelude.{◌≡◌, ◌≤◌, ◌<◌, ◌^◌, ◌+◌, ◌++◌, ◌∷◌, ◌==◌, [], true, length, ℕ, IfOk, OnOk, IsErrOf, is_some, vec_len, if◌then◌else◌};
 ghost use Rattle.std.specs.Vec.{vec_capacity};
 ghost use Rattle.cluster.specs.Events.{stand_after};
-ghost use Rattle.cluster.specs.Stand.{failures};
+ghost use Rattle.cluster.specs.JobState.{failures};
 ghost use Rattle.ledger_core.specs.Ledger.{at, stand_in};
 
 use crate::LedgerError;
-use cluster::{Entry, Event, Stand};
+use cluster::{Entry, Event, JobState};
 use dra_values::Table;
 use std::alloc::AllocError;
 
 /// Each job's stand; a job without a row is Fresh.
-pub type Stands = Table<u64, Stand>;
+pub type Stands = Table<u64, JobState>;
 
 /// Makes room for an entry of a job and for its stand, and returns the entry's place.
 pub fn make_room(
@@ -53,11 +53,11 @@ pub fn append(entries: &mut Vec<Entry>, stands: &mut Stands, job: u64, event: Ev
 }
 
 /// The stand of a job.
-pub fn stand_in(stands: &Stands, job: u64) -> Stand
+pub fn stand_in(stands: &Stands, job: u64) -> JobState
     ensures { result ≡ stand_in stands.now job }
 {
     match stands.get(&job) {
-        None => Stand::Fresh,
+        None => JobState::Fresh,
         Some(stand) => *stand,
     }
 }
@@ -70,12 +70,12 @@ fn make_row(stands: &mut Stands, job: u64) -> Result<(), AllocError>
     if stands.contains_key(&job) {
         Ok(())
     } else {
-        stands.insert(job, Stand::Fresh)
+        stands.insert(job, JobState::Fresh)
     }
 }
 
 /// Puts a job that has a row at this stand.
-fn set_stand(stands: &mut Stands, job: u64, stand: Stand)
+fn set_stand(stands: &mut Stands, job: u64, stand: JobState)
     requires { is_some (at stands.old job) ≡ true }
     ensures { (j : ℕ) → stand_in stands.new j ≡ (if job == j then stand else stand_in stands.old j) }
 {
@@ -85,17 +85,18 @@ fn set_stand(stands: &mut Stands, job: u64, stand: Stand)
 }
 
 /// How many attempts of a job have failed.
-pub fn failures(stand: Stand) -> u64
+pub fn failures(stand: JobState) -> u64
     ensures { result ≡ failures stand }
 {
     match stand {
-        Stand::Fresh | Stand::Ended(_) => 0,
-        Stand::Reserved(failed) | Stand::Conflicted(failed) | Stand::Failed(failed) => failed,
+        JobState::Fresh | JobState::Ended(_) => 0,
+        JobState::Reserved(failed) | JobState::Conflicted(failed) | JobState::Failed(failed) =>
+            failed,
     }
 }
 
 /// What an event leaves of a job that stood so.
-fn stand_after(stand: Stand, place: u64, event: &Event) -> Stand
+fn stand_after(stand: JobState, place: u64, event: &Event) -> JobState
     requires { failures stand < 2 ^ 48 }
     ensures { result ≡ stand_after stand place event.now }
 {
@@ -103,13 +104,13 @@ fn stand_after(stand: Stand, place: u64, event: &Event) -> Stand
         Event::Applied { .. }
         | Event::Deleted(_)
         | Event::Bound { .. }
-        | Event::Judged { .. }
+        | Event::VerdictGiven { .. }
         | Event::Contended { .. }
         | Event::Released(_)
         | Event::Adopted { .. }
-        | Event::Denied { .. } => Stand::Ended(place),
-        Event::Reserved { .. } | Event::Wrote { .. } => Stand::Reserved(failures(stand)),
-        Event::Conflict { .. } => Stand::Conflicted(failures(stand)),
-        Event::Refused { .. } | Event::Unreserved(_) => Stand::Failed(failures(stand) + 1),
+        | Event::Denied { .. } => JobState::Ended(place),
+        Event::Reserved { .. } | Event::Wrote { .. } => JobState::Reserved(failures(stand)),
+        Event::Conflict { .. } => JobState::Conflicted(failures(stand)),
+        Event::Refused { .. } | Event::Unreserved(_) => JobState::Failed(failures(stand) + 1),
     }
 }

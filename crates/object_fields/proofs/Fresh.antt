@@ -11,8 +11,8 @@ use Rattle.object_fields.specs.Lists.{alone, each, each_beside, each_from}
 use Rattle.object_fields.specs.Names.{is_dns_label, label_most}
 use Rattle.object_fields.specs.NewNames.{AreNew, IsDoubled, IsNewNameReading, IsOver, doubled_at, is_among, named, names_in}
 use Rattle.object_fields.specs.declared.error.FieldError.{FieldError}
-use Rattle.object_fields.specs.declared.kind.Kind.{Kind}
-use Rattle.object_fields.specs.declared.kind.Kind.TheVariants.{BadName, Doubled, Missing, TooLong, TooMany, WrongType}
+use Rattle.object_fields.specs.declared.kind.FieldErrorKind.{FieldErrorKind}
+use Rattle.object_fields.specs.declared.kind.FieldErrorKind.TheVariants.{BadName, Doubled, Missing, TooLong, TooMany, WrongType}
 use Rattle.object_fields.specs.declared.path.Step.{Step}
 use Rattle.object_fields.specs.declared.path.Step.TheVariants.{Member, Place}
 use Rattle.object_fields.proofs.Inverse.{given, then_ok}
@@ -137,21 +137,21 @@ doubled a r is path ds e h k =
 -- ---- labels
 
 -- no error of that kind
-abbrev pub Never : {A : Type 0} → Kind → Result A FieldError → Type 0
+abbrev pub Never : {A : Type 0} → FieldErrorKind → Result A FieldError → Type 0
 Never kind r = (e : FieldError) → r ≡ Err e → e.kind ≡ kind → ⊥
 
-never_then : {A B : Type 0} (kind : Kind) (x : Result A FieldError) (f : A → Result B FieldError) → Never kind x → ((a : A) → Never kind (f a)) → Never kind (x >>= f)
+never_then : {A B : Type 0} (kind : FieldErrorKind) (x : Result A FieldError) (f : A → Result B FieldError) → Never kind x → ((a : A) → Never kind (f a)) → Never kind (x >>= f)
 never_then kind (Ok a) f p q e h k = q a e h k
 never_then kind (Err g) f p q e h k = let same : g ≡ e = cc in p e (ap Err same) k
 
-never_some : {A : Type 0} (kind : Kind) (g : FieldError) (o : Option A) → (g.kind ≡ kind → ⊥) → Never kind (some_or g o)
+never_some : {A : Type 0} (kind : FieldErrorKind) (g : FieldError) (o : Option A) → (g.kind ≡ kind → ⊥) → Never kind (some_or g o)
 never_some kind g (Some x) n e h k = let no_value : ⊥ = cc in no_value
 never_some kind g None n e h k = let same : g ≡ e = cc in n (ap (λ (x : FieldError). x.kind) same ∙ k)
 
-never_given : {A : Type 0} (kind : Kind) (x : A) → Never kind (given x)
+never_given : {A : Type 0} (kind : FieldErrorKind) (x : A) → Never kind (given x)
 never_given kind x e h k = let no_value : ⊥ = cc in no_value
 
-never_judged : (kind : Kind) (a b : Bool) (g1 g2 : FieldError) (t : List ℕ) → (g1.kind ≡ kind → ⊥) → (g2.kind ≡ kind → ⊥) → Never kind (if a then Err g1 else (if b then Ok t else Err g2))
+never_judged : (kind : FieldErrorKind) (a b : Bool) (g1 g2 : FieldError) (t : List ℕ) → (g1.kind ≡ kind → ⊥) → (g2.kind ≡ kind → ⊥) → Never kind (if a then Err g1 else (if b then Ok t else Err g2))
 never_judged kind true b g1 g2 t n m e h k = let same : g1 ≡ e = cc in n (ap (λ (x : FieldError). x.kind) same ∙ k)
 never_judged kind false true g1 g2 t n m e h k = let no_value : ⊥ = cc in no_value
 never_judged kind false false g1 g2 t n m e h k = let same : g2 ≡ e = cc in m (ap (λ (x : FieldError). x.kind) same ∙ k)

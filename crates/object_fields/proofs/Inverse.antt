@@ -6,7 +6,7 @@ use Rattle.serde_json.specs.Data.{Data, Items, no_items, item}
 use Rattle.object_fields.specs.Fields.{field_error, if_there, items_length, list_at, member_of, optional_at, short_list_at, unless, ◌>>=◌}
 use Rattle.object_fields.specs.Lists.{alone, each_at, each_from, each_in}
 use Rattle.object_fields.specs.declared.error.FieldError.{FieldError}
-use Rattle.object_fields.specs.declared.kind.Kind.TheVariants.{TooMany}
+use Rattle.object_fields.specs.declared.kind.FieldErrorKind.TheVariants.{TooMany}
 use Rattle.object_fields.specs.declared.path.Step.{Step}
 use Rattle.object_fields.specs.declared.path.Step.TheVariants.{Member, Place}
 

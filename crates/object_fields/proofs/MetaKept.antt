@@ -9,7 +9,7 @@ use Rattle.object_fields.specs.Meta.{is_plain_decimal, key_at, labels_at, member
 use Rattle.object_fields.specs.Names.{is_dns_label, is_dns_name, label_most}
 use Rattle.object_fields.specs.declared.error.FieldError.{FieldError}
 use Rattle.object_fields.specs.declared.key.Key.{Key}
-use Rattle.object_fields.specs.declared.kind.Kind.TheVariants.{BadName, TooLong, WrongType}
+use Rattle.object_fields.specs.declared.kind.FieldErrorKind.TheVariants.{BadName, TooLong, WrongType}
 use Rattle.object_fields.specs.declared.meta.ObjectMeta.{ObjectMeta}
 use Rattle.object_fields.specs.declared.meta.Scope.{Scope}
 use Rattle.object_fields.specs.declared.meta.Scope.TheVariants.{Namespaced, Cluster}

@@ -6,14 +6,14 @@ use Rattle.serde_json.specs.Find.{get, as_bool, as_str, as_number, as_integer, a
 use Rattle.object_fields.specs.Names.{is_dns_label, is_dns_name, is_pool_name, label_most, pool_most}
 use Rattle.object_fields.specs.declared.path.Step.{Step}
 use Rattle.object_fields.specs.declared.path.Step.TheVariants.{Member}
-use Rattle.object_fields.specs.declared.kind.Kind.{Kind}
-use Rattle.object_fields.specs.declared.kind.Kind.TheVariants.{Missing, WrongType, BadName, TooLong, TooMany, NotSupported, Memory, Doubled, OutOfRange, NotOne, BadQuantity, BadVersion, Unknown, Selector}
+use Rattle.object_fields.specs.declared.kind.FieldErrorKind.{FieldErrorKind}
+use Rattle.object_fields.specs.declared.kind.FieldErrorKind.TheVariants.{Missing, WrongType, BadName, TooLong, TooMany, NotSupported, Memory, Doubled, OutOfRange, NotOne, BadQuantity, BadVersion, Unknown, Selector}
 use Rattle.object_fields.specs.declared.error.FieldError.{FieldError}
 
 -- ---- what a clause says of a reader
 
 -- the fact, unless the kind is want of memory
-abbrev pub UnlessMemory : Kind → Type 0 → Type 0
+abbrev pub UnlessMemory : FieldErrorKind → Type 0 → Type 0
 UnlessMemory Missing P = P
 UnlessMemory WrongType P = P
 UnlessMemory BadName P = P
@@ -51,11 +51,11 @@ abbrev pub ◌>>=◌ : {A B : Type 0} → Result A FieldError → (A → Result 
 (Ok x) >>= f = f x
 (Err e) >>= f = Err e
 
-abbrev pub error_at : List Step → Kind → FieldError
+abbrev pub error_at : List Step → FieldErrorKind → FieldError
 error_at path kind = record { path = path; kind = kind }
 
 -- the error at a member of what stands at the path
-abbrev pub field_error : List Step → List ℕ → Kind → FieldError
+abbrev pub field_error : List Step → List ℕ → FieldErrorKind → FieldError
 field_error path name kind = record { path = path ++ Member name ∷ []; kind = kind }
 
 abbrev pub some_or : {A : Type 0} → FieldError → Option A → Result A FieldError

@@ -11,7 +11,7 @@ use Rattle.object_fields.specs.Fields.{dns_label_at, dns_subdomain_at, field_err
 use Rattle.object_fields.specs.declared.path.Step.{Step}
 use Rattle.object_fields.specs.declared.path.Step.TheVariants as step
 use Rattle.object_fields.specs.declared.key.Key.{Key}
-use Rattle.object_fields.specs.declared.kind.Kind.TheVariants.{WrongType}
+use Rattle.object_fields.specs.declared.kind.FieldErrorKind.TheVariants.{WrongType}
 use Rattle.object_fields.specs.declared.error.FieldError.{FieldError}
 use Rattle.object_fields.specs.declared.meta.Scope.{Scope}
 use Rattle.object_fields.specs.declared.meta.Scope.TheVariants.{Namespaced, Cluster}

@@ -4,7 +4,7 @@ use Rattle.std.specs.List.{after_first, before_first, list_all, position_or_len}
 use Rattle.object_fields.specs.Names.{between, is_dns_name}
 use Rattle.object_fields.specs.Fields.{error_at, name_in, ◌>>=◌}
 use Rattle.object_fields.specs.declared.path.Step.{Step}
-use Rattle.object_fields.specs.declared.kind.Kind.TheVariants.{BadName, TooLong}
+use Rattle.object_fields.specs.declared.kind.FieldErrorKind.TheVariants.{BadName, TooLong}
 use Rattle.object_fields.specs.declared.error.FieldError.{FieldError}
 use Rattle.object_fields.specs.declared.qualified.QualName.{QualName}
 

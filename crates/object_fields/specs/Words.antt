@@ -2,8 +2,8 @@
 use Rattle.std.specs.Prelude.{ℕ, List, [], ◌∷◌, ◌++◌, codes}
 use Rattle.std.specs.Fmt.{decimal}
 use Rattle.std.specs.List.{flat_map}
-use Rattle.object_fields.specs.declared.kind.Kind.{Kind}
-use Rattle.object_fields.specs.declared.kind.Kind.TheVariants.{Missing, WrongType, BadName, TooLong, TooMany, NotSupported, Memory, Doubled, OutOfRange, NotOne, BadQuantity, BadVersion, Unknown, Selector}
+use Rattle.object_fields.specs.declared.kind.FieldErrorKind.{FieldErrorKind}
+use Rattle.object_fields.specs.declared.kind.FieldErrorKind.TheVariants.{Missing, WrongType, BadName, TooLong, TooMany, NotSupported, Memory, Doubled, OutOfRange, NotOne, BadQuantity, BadVersion, Unknown, Selector}
 use Rattle.object_fields.specs.declared.kind.Stage.{Stage}
 use Rattle.object_fields.specs.declared.kind.Stage.TheVariants.{Parse, Check, Cost}
 use Rattle.object_fields.specs.declared.path.Step.{Step}
@@ -14,7 +14,7 @@ stage_word Parse = codes "Parse"
 stage_word Check = codes "Check"
 stage_word Cost = codes "Cost"
 
-abbrev pub kind_word : Kind → List ℕ
+abbrev pub kind_word : FieldErrorKind → List ℕ
 kind_word Missing = codes "Missing"
 kind_word WrongType = codes "WrongType"
 kind_word BadName = codes "BadName"

@@ -1,7 +1,7 @@
 ghost use Rattle.std.specs.Prelude.{◌≡◌, ◌∷◌, [], IfOk, MatchResult, IsErrAnd, Ok};
 ghost use Rattle.object_fields.specs.Fields.{IsError, error_at, field_error};
 
-use crate::kind::Kind;
+use crate::kind::FieldErrorKind;
 use crate::path::Path;
 use dra_values::Duplicate;
 use std::alloc::{AllocError, Global};
@@ -12,22 +12,22 @@ use thiserror::Error;
 #[error("{kind} {path}")]
 pub struct FieldError {
     pub path: Path,
-    pub kind: Kind,
+    pub kind: FieldErrorKind,
 }
 
 impl FieldError {
     /// Want of memory, at the top. Takes no memory.
     pub fn memory(alloc: Global) -> FieldError
-        ensures { result ≡ error_at [] Kind.Memory }
+        ensures { result ≡ error_at [] FieldErrorKind.Memory }
     {
         FieldError {
             path: Path::top(alloc),
-            kind: Kind::Memory,
+            kind: FieldErrorKind::Memory,
         }
     }
 
     /// The error of that kind at the path, or Memory.
-    pub fn at(alloc: Global, path: &Path, kind: Kind) -> FieldError
+    pub fn at(alloc: Global, path: &Path, kind: FieldErrorKind) -> FieldError
         ensures { IsError result (error_at path.now kind) }
     {
         match path.copy(alloc) {
@@ -37,7 +37,7 @@ impl FieldError {
     }
 
     /// The error of that kind at a member of what stands at the path, or Memory.
-    pub fn of_field(alloc: Global, path: &Path, name: &str, kind: Kind) -> FieldError
+    pub fn of_field(alloc: Global, path: &Path, name: &str, kind: FieldErrorKind) -> FieldError
         ensures { IsError result (field_error path.now name.now kind) }
     {
         match path.member(alloc, name) {
@@ -66,7 +66,7 @@ impl Duplicate for FieldError {
 /// What was made, or the error Memory.
 pub fn or_memory<T: Drop>(alloc: Global, made: Result<T, AllocError>) -> Result<T, FieldError>
     ensures { MatchResult made (λ x. result ≡ Ok x)
-        (λ _. IsErrAnd result (λ e. e ≡ error_at [] Kind.Memory)) }
+        (λ _. IsErrAnd result (λ e. e ≡ error_at [] FieldErrorKind.Memory)) }
 {
     match made {
         Ok(x) => Ok(x),

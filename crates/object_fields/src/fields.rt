@@ -3,7 +3,7 @@ ghost use Rattle.serde_json.specs.View.{items_view, members_view, view};
 ghost use Rattle.object_fields.specs.Fields.{Gives, Reads, field_at, list_at, member_of, object_at, table_at, text_at, truth_at, whole_at};
 
 use crate::error::{FieldError, or_memory};
-use crate::kind::Kind;
+use crate::kind::FieldErrorKind;
 use crate::path::Path;
 use serde_json::{Map, Value};
 use std::alloc::Global;
@@ -29,7 +29,7 @@ pub fn field<'a>(
 {
     match member(object, name) {
         Some(value) => Ok(value),
-        None => Err(FieldError::of_field(alloc, path, name, Kind::Missing)),
+        None => Err(FieldError::of_field(alloc, path, name, FieldErrorKind::Missing)),
     }
 }
 
@@ -44,7 +44,7 @@ pub fn borrowed<'a>(
 {
     match field(alloc, object, path, name)?.as_str() {
         Some(text) => Ok(text),
-        None => Err(FieldError::of_field(alloc, path, name, Kind::WrongType)),
+        None => Err(FieldError::of_field(alloc, path, name, FieldErrorKind::WrongType)),
     }
 }
 
@@ -69,7 +69,7 @@ pub fn whole(alloc: Global, object: &Value, path: &Path, name: &str) -> Result<i
     } else if let Some(n) = value.as_i64() {
         Ok(i128::from(n))
     } else {
-        Err(FieldError::of_field(alloc, path, name, Kind::WrongType))
+        Err(FieldError::of_field(alloc, path, name, FieldErrorKind::WrongType))
     }
 }
 
@@ -79,7 +79,7 @@ pub fn truth(alloc: Global, object: &Value, path: &Path, name: &str) -> Result<b
 {
     match field(alloc, object, path, name)?.as_bool() {
         Some(truth) => Ok(truth),
-        None => Err(FieldError::of_field(alloc, path, name, Kind::WrongType)),
+        None => Err(FieldError::of_field(alloc, path, name, FieldErrorKind::WrongType)),
     }
 }
 
@@ -94,7 +94,7 @@ pub fn list<'a>(
 {
     match field(alloc, object, path, name)?.as_array() {
         Some(list) => Ok(list.as_slice()),
-        None => Err(FieldError::of_field(alloc, path, name, Kind::WrongType)),
+        None => Err(FieldError::of_field(alloc, path, name, FieldErrorKind::WrongType)),
     }
 }
 
@@ -111,7 +111,7 @@ pub fn table<'a>(
 {
     match field(alloc, object, path, name)?.as_object() {
         Some(map) => Ok(map),
-        None => Err(FieldError::of_field(alloc, path, name, Kind::WrongType)),
+        None => Err(FieldError::of_field(alloc, path, name, FieldErrorKind::WrongType)),
     }
 }
 
@@ -128,6 +128,6 @@ pub fn object<'a>(
     if value.is_object() {
         Ok(value)
     } else {
-        Err(FieldError::of_field(alloc, path, name, Kind::WrongType))
+        Err(FieldError::of_field(alloc, path, name, FieldErrorKind::WrongType))
     }
 }

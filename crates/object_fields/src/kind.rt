@@ -5,7 +5,7 @@ use std::fmt;
 
 /// Why a field didn't read.
 #[derive(Clone, Copy, Debug, PartialEq, Eq)]
-pub enum Kind {
+pub enum FieldErrorKind {
     /// A field that must be there is absent or null, or a list is empty where one item is due.
     Missing,
     /// Another JSON type, or a number that isn't a whole number of 64 bits.
@@ -45,25 +45,25 @@ pub enum Stage {
 }
 
 /// The word alone, such as `Missing` or `Selector.Parse`.
-impl fmt::Display for Kind {
+impl fmt::Display for FieldErrorKind {
     ghost output = { λ k. Some (kind_word k) };
 
     fn fmt<W: fmt::Write>(&self, f: &mut fmt::Formatter<W>) -> fmt::Result {
         match self {
-            Kind::Missing => f.write_str("Missing"),
-            Kind::WrongType => f.write_str("WrongType"),
-            Kind::BadName => f.write_str("BadName"),
-            Kind::TooLong => f.write_str("TooLong"),
-            Kind::TooMany => f.write_str("TooMany"),
-            Kind::NotSupported => f.write_str("NotSupported"),
-            Kind::Memory => f.write_str("Memory"),
-            Kind::Doubled => f.write_str("Doubled"),
-            Kind::OutOfRange => f.write_str("OutOfRange"),
-            Kind::NotOne => f.write_str("NotOne"),
-            Kind::BadQuantity => f.write_str("BadQuantity"),
-            Kind::BadVersion => f.write_str("BadVersion"),
-            Kind::Unknown => f.write_str("Unknown"),
-            Kind::Selector(stage) => write!(f, "Selector.{stage}"),
+            FieldErrorKind::Missing => f.write_str("Missing"),
+            FieldErrorKind::WrongType => f.write_str("WrongType"),
+            FieldErrorKind::BadName => f.write_str("BadName"),
+            FieldErrorKind::TooLong => f.write_str("TooLong"),
+            FieldErrorKind::TooMany => f.write_str("TooMany"),
+            FieldErrorKind::NotSupported => f.write_str("NotSupported"),
+            FieldErrorKind::Memory => f.write_str("Memory"),
+            FieldErrorKind::Doubled => f.write_str("Doubled"),
+            FieldErrorKind::OutOfRange => f.write_str("OutOfRange"),
+            FieldErrorKind::NotOne => f.write_str("NotOne"),
+            FieldErrorKind::BadQuantity => f.write_str("BadQuantity"),
+            FieldErrorKind::BadVersion => f.write_str("BadVersion"),
+            FieldErrorKind::Unknown => f.write_str("Unknown"),
+            FieldErrorKind::Selector(stage) => write!(f, "Selector.{stage}"),
         }
     }
 }

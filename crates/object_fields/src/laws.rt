@@ -8,7 +8,7 @@ ghost use Rattle.object_fields.specs.Lists.{each, each_at, each_beside};
 ghost use Rattle.object_fields.specs.NewNames.{AreNew, IsDoubled, IsNewNameReading, IsOver, doubled_at, is_among, named, names_in};
 ghost use Rattle.object_fields.specs.Meta.{meta_at};
 ghost use Rattle.object_fields.specs.declared.error.FieldError.{FieldError};
-ghost use Rattle.object_fields.specs.declared.kind.Kind.TheVariants.{Doubled, TooMany};
+ghost use Rattle.object_fields.specs.declared.kind.FieldErrorKind.TheVariants.{Doubled, TooMany};
 ghost use Rattle.object_fields.specs.declared.meta.ObjectMeta.{ObjectMeta};
 ghost use Rattle.object_fields.specs.declared.meta.Scope.{Scope};
 ghost use Rattle.object_fields.specs.declared.path.Step.{Step};

@@ -23,7 +23,7 @@ pub use error::{FieldError, or_memory};
 pub use fields::{borrowed, field, list, member, object, table, text, truth, whole};
 pub use items::{ReadItem, optional_items, read_items};
 pub use key::{DeviceId, Key};
-pub use kind::{Kind, Stage};
+pub use kind::{FieldErrorKind, Stage};
 pub use laws::{
     labels_are_names, lists_keep_limits, longer_lists_are_too_many, metadata_keeps_limits,
     names_are_new,

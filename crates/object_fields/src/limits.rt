@@ -5,7 +5,7 @@ ghost use Rattle.serde_json.specs.View.{members_view};
 
 use crate::error::{FieldError, or_memory};
 use crate::fields::{list, whole};
-use crate::kind::Kind;
+use crate::kind::FieldErrorKind;
 use crate::path::Path;
 use dra_values::Text;
 use serde_json::{Map, Value};
@@ -25,7 +25,7 @@ pub fn short_list<'a>(
 {
     let items = list(alloc, object, path, name)?;
     if items.len() > most {
-        Err(FieldError::of_field(alloc, path, name, Kind::TooMany))
+        Err(FieldError::of_field(alloc, path, name, FieldErrorKind::TooMany))
     } else {
         Ok(items)
     }
@@ -46,7 +46,7 @@ pub fn natural(
     if i128::from(least) <= number && number <= i128::from(most) {
         Ok(number as u64)
     } else {
-        Err(FieldError::of_field(alloc, path, name, Kind::OutOfRange))
+        Err(FieldError::of_field(alloc, path, name, FieldErrorKind::OutOfRange))
     }
 }
 
@@ -56,7 +56,7 @@ pub fn signed(alloc: Global, object: &Value, path: &Path, name: &str) -> Result<
 {
     match i64::try_from(whole(alloc, object, path, name)?) {
         Ok(number) => Ok(number),
-        Err(_) => Err(FieldError::of_field(alloc, path, name, Kind::OutOfRange)),
+        Err(_) => Err(FieldError::of_field(alloc, path, name, FieldErrorKind::OutOfRange)),
     }
 }
 
@@ -66,9 +66,9 @@ pub fn value_text(alloc: Global, value: &Value, path: &Path) -> Result<Text, Fie
     ensures { Reads result (text_value path.now (view value.now)) }
 {
     match value {
-        Value::Null => Err(FieldError::at(alloc, path, Kind::Missing)),
+        Value::Null => Err(FieldError::at(alloc, path, FieldErrorKind::Missing)),
         Value::String(text) => or_memory(alloc, Text::from_str(alloc, text.as_str())),
-        _ => Err(FieldError::at(alloc, path, Kind::WrongType)),
+        _ => Err(FieldError::at(alloc, path, FieldErrorKind::WrongType)),
     }
 }
 
@@ -83,9 +83,9 @@ pub fn value_table<'a>(
         (table_value path.now (view value.now)) }
 {
     match value {
-        Value::Null => Err(FieldError::at(alloc, path, Kind::Missing)),
+        Value::Null => Err(FieldError::at(alloc, path, FieldErrorKind::Missing)),
         Value::Object(members) => Ok(members),
-        _ => Err(FieldError::at(alloc, path, Kind::WrongType)),
+        _ => Err(FieldError::at(alloc, path, FieldErrorKind::WrongType)),
     }
 }
 
@@ -99,8 +99,8 @@ pub fn value_object<'a>(
     ensures { Gives (λ v. view v.now) result (object_value path.now (view value.now)) }
 {
     match value {
-        Value::Null => Err(FieldError::at(alloc, path, Kind::Missing)),
+        Value::Null => Err(FieldError::at(alloc, path, FieldErrorKind::Missing)),
         Value::Object(_) => Ok(value),
-        _ => Err(FieldError::at(alloc, path, Kind::WrongType)),
+        _ => Err(FieldError::at(alloc, path, FieldErrorKind::WrongType)),
     }
 }

@@ -5,7 +5,7 @@ ghost use Rattle.object_fields.specs.Fields.{Reads};
 use crate::error::{FieldError, or_memory};
 use crate::fields::object as object_field;
 use crate::key::Key;
-use crate::kind::Kind;
+use crate::kind::FieldErrorKind;
 use crate::limits::value_text;
 use crate::naming::read_dns_subdomain;
 use crate::optional::{optional_dns_label, optional_table, optional_text};
@@ -137,7 +137,12 @@ fn version_number(alloc: Global, path: &Path, text: &str) -> Result<Option<u64>,
     }
     match decimal(text) {
         Some(number) => Ok(Some(number)),
-        None => Err(FieldError::of_field(alloc, path, "resourceVersion", Kind::WrongType)),
+        None => Err(FieldError::of_field(
+            alloc,
+            path,
+            "resourceVersion",
+            FieldErrorKind::WrongType,
+        )),
     }
 }
 

@@ -6,7 +6,7 @@ ghost use Rattle.object_fields.specs.declared.path.Step.TheVariants.{Member};
 
 use crate::error::{FieldError, or_memory};
 use crate::fields::borrowed;
-use crate::kind::Kind;
+use crate::kind::FieldErrorKind;
 use crate::names::{LABEL_MOST, POOL_MOST, dns_label, dns_name, pool_name};
 use crate::path::Path;
 use dra_values::Text;
@@ -80,11 +80,11 @@ pub fn named(
     ensures { Reads result (judged path.now most right text.now) }
 {
     if text.len() > most {
-        Err(FieldError::at(alloc, path, Kind::TooLong))
+        Err(FieldError::at(alloc, path, FieldErrorKind::TooLong))
     } else if right {
         or_memory(alloc, Text::from_str(alloc, text))
     } else {
-        Err(FieldError::at(alloc, path, Kind::BadName))
+        Err(FieldError::at(alloc, path, FieldErrorKind::BadName))
     }
 }
 
@@ -100,10 +100,10 @@ fn named_field(
     ensures { Reads result (judged (path.now ++ Member name.now ∷ []) most right text.now) }
 {
     if text.len() > most {
-        Err(FieldError::of_field(alloc, path, name, Kind::TooLong))
+        Err(FieldError::of_field(alloc, path, name, FieldErrorKind::TooLong))
     } else if right {
         or_memory(alloc, Text::from_str(alloc, text))
     } else {
-        Err(FieldError::of_field(alloc, path, name, Kind::BadName))
+        Err(FieldError::of_field(alloc, path, name, FieldErrorKind::BadName))
     }
 }

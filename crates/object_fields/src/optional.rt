@@ -4,7 +4,7 @@ ghost use Rattle.object_fields.specs.Fields.{Gives, Reads, dns_label_at, has_no_
 
 use crate::error::{FieldError, or_memory};
 use crate::fields::{borrowed, list, member, object as object_field, table, truth};
-use crate::kind::Kind;
+use crate::kind::FieldErrorKind;
 use crate::limits::{natural, short_list, signed};
 use crate::naming::read_dns_label;
 use crate::path::Path;
@@ -172,7 +172,7 @@ pub fn unset(alloc: Global, object: &Value, path: &Path, name: &str) -> Result<(
             if is_blank(value) {
                 Ok(())
             } else {
-                Err(FieldError::of_field(alloc, path, name, Kind::NotSupported))
+                Err(FieldError::of_field(alloc, path, name, FieldErrorKind::NotSupported))
             }
         }
     }

@@ -2,7 +2,7 @@ ghost use Rattle.std.specs.Prelude.{◌≡◌, [], IfOk, option_map};
 ghost use Rattle.object_fields.specs.Fields.{Reads};
 
 use crate::error::{FieldError, or_memory};
-use crate::kind::Kind;
+use crate::kind::FieldErrorKind;
 use crate::names::dns_name;
 use crate::naming::named;
 use crate::path::Path;
@@ -81,13 +81,13 @@ fn domain_and_id(alloc: Global, path: &Path, domain: &str, id: &str) -> Result<Q
     ensures { Reads result (spec.domain_and_id path.now domain.now id.now) }
 {
     if domain.len() > DOMAIN_MOST || id.len() > ID_MOST {
-        Err(FieldError::at(alloc, path, Kind::TooLong))
+        Err(FieldError::at(alloc, path, FieldErrorKind::TooLong))
     } else if dns_name(domain) && c_identifier(id.as_bytes()) {
         let domain = or_memory(alloc, Text::from_str(alloc, domain))?;
         let id = or_memory(alloc, Text::from_str(alloc, id))?;
         Ok(QualName { domain, id })
     } else {
-        Err(FieldError::at(alloc, path, Kind::BadName))
+        Err(FieldError::at(alloc, path, FieldErrorKind::BadName))
     }
 }
 

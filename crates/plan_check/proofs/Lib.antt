@@ -21,7 +21,7 @@ mod Apart
 mod Covering
 mod GrantsAgain
 mod Allocated
-mod Judged
+mod VerdictGiven
 mod Spelling
 mod NamesPick
 mod Fitting

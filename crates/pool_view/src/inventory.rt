@@ -16,7 +16,7 @@ use std::alloc::{AllocError, Global};
 use std::marker::Model;
 
 /// The most devices that all slices may have.
-pub const MOST_DEVICES: usize = 65_536;
+pub const MAX_DEVICES_TOTAL: usize = 65_536;
 
 /// Slices by their names.
 pub type Slices = Table<Text, Stored<Shared<ResourceSlice>>>;
@@ -101,7 +101,7 @@ impl Inventory {
         ensures { result ≡ has_room_for self.now.slices slice.now }
     {
         let replaced = devices_of(&self.slices, &slice.name);
-        self.devices - replaced + slice.devices.as_slice().len() <= MOST_DEVICES
+        self.devices - replaced + slice.devices.as_slice().len() <= MAX_DEVICES_TOTAL
     }
 
     /// Puts a node at its name, by the entry at this place: it is updated and keeps its uid where it is

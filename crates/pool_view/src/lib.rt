@@ -18,7 +18,7 @@ mod view;
 mod visible;
 
 pub use device::DeviceRef;
-pub use inventory::{Inventory, MOST_DEVICES, Slices};
+pub use inventory::{Inventory, MAX_DEVICES_TOTAL, Slices};
 pub use laws::{devices_of_a_view_differ, places_are_used, usable_slices_differ};
 pub use names::PoolName;
 pub use nodes::named_node;

@@ -3,7 +3,7 @@
 use Rattle.std.specs.Prelude.{◌≡◌, ℕ, ◌+◌, List, [], ◌∷◌, ◌++◌, map, Result, Ok, Err, codes}
 use Rattle.object_fields.specs.Fields.{field_error, ◌>>=◌}
 use Rattle.object_fields.specs.declared.error.FieldError.{FieldError}
-use Rattle.object_fields.specs.declared.kind.Kind.TheVariants.{Selector}
+use Rattle.object_fields.specs.declared.kind.FieldErrorKind.TheVariants.{Selector}
 use Rattle.object_fields.specs.declared.kind.Stage.{Stage}
 use Rattle.object_fields.specs.declared.path.Step.{Step}
 use Rattle.object_fields.specs.declared.path.Step.TheVariants.{Member, Place}

@@ -1,12 +1,12 @@
 ghost use Rattle.std.specs.Prelude.{◌++◌, ◌∷◌, [], codes};
 ghost use Rattle.object_fields.specs.Fields.{IsError, Reads, field_error};
-ghost use Rattle.object_fields.specs.declared.kind.Kind.TheVariants as Kind;
+ghost use Rattle.object_fields.specs.declared.kind.FieldErrorKind.TheVariants as FieldErrorKind;
 ghost use Rattle.object_fields.specs.declared.path.Step.TheVariants as Step;
 ghost use Rattle.ready_objects.specs.Ready.{text_at, texts_at};
 
 use device_match::{CompileError, DeviceSelector};
 use dra_values::{Seq, Text};
-use object_fields::{FieldError, Kind, Path, Stage, or_memory};
+use object_fields::{FieldError, FieldErrorKind, Path, Stage, or_memory};
 use std::alloc::Global;
 
 /// The selectors of these texts, which stand at the path. The error is that of the first text that
@@ -41,10 +41,15 @@ fn compile_one(alloc: Global, text: &Text, path: &Path) -> Result<DeviceSelector
 
 /// The error of a selector at the path that a stage refuses, or Memory.
 fn refused(alloc: Global, path: &Path, stage: Stage) -> FieldError
-    ensures { IsError result (field_error (path.now ++ Step.Member (codes "cel") ∷ []) (codes "expression") (Kind.Selector stage)) }
+    ensures { IsError result (field_error (path.now ++ Step.Member (codes "cel") ∷ []) (codes "expression") (FieldErrorKind.Selector stage)) }
 {
     match path.member(alloc, "cel") {
-        Ok(path) => FieldError::of_field(alloc, &path, "expression", Kind::Selector(stage)),
+        Ok(path) => FieldError::of_field(
+            alloc,
+            &path,
+            "expression",
+            FieldErrorKind::Selector(stage),
+        ),
         Err(error) => error,
     }
 }

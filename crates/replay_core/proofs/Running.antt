@@ -4,7 +4,7 @@ use Rattle.std.proofs.lemmas.Bool.{ne_eqb}
 use Rattle.std.specs.Prelude.{Option, drop}
 use Rattle.std.specs.Io.KnownBytes.{Appends}
 use Rattle.cluster.specs.declared.entry.Entry.{Entry}
-use Rattle.cluster.specs.declared.entry.Stand.TheVariants.{Fresh, Ended}
+use Rattle.cluster.specs.declared.entry.JobState.TheVariants.{Fresh, Ended}
 use Rattle.cluster.specs.Events.{stand_after}
 use Rattle.ledger_core.specs.Ledger.{History}
 use Rattle.cluster.specs.History.{stand_of}

@@ -10,7 +10,7 @@ use Rattle.doc_split.specs.Documents as documents
 use Rattle.doc_split.specs.Limits.{the_limits}
 use Rattle.doc_split.specs.Split.{Split, remaining}
 use Rattle.cluster.specs.declared.entry.Entry.{Entry}
-use Rattle.cluster.specs.declared.entry.Stand.TheVariants.{Fresh}
+use Rattle.cluster.specs.declared.entry.JobState.TheVariants.{Fresh}
 use Rattle.ledger_core.specs.Ledger.{History}
 use Rattle.ledger_core.specs.Legal.{Legal, LegalAfter}
 use Rattle.cluster.specs.History.{stand_of}

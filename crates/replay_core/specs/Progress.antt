@@ -1,7 +1,7 @@
 -- How far a replay has come.
 use Rattle.std.specs.Prelude.{ℕ, ◌≡◌, ◌≤◌, ◌<◌, ◌^◌, Bool, List, ◌++◌, Option, length}
 use Rattle.std.specs.Io.KnownBytes.{Appends, Consumes}
-use Rattle.cluster.specs.declared.entry.Stand.TheVariants.{Fresh}
+use Rattle.cluster.specs.declared.entry.JobState.TheVariants.{Fresh}
 use Rattle.cluster.specs.History.{stand_of}
 use Rattle.ledger_core.specs.Legal.{Legal}
 use Rattle.ledger_core.specs.Ledger.{History}

@@ -1,5 +1,5 @@
 ghost use Rattle.std.specs.Prelude.{◌≡◌, ◌<◌, None, false, true, ℕ, OnOk, OnErr, IsErrOf};
-ghost use Rattle.cluster.specs.declared.entry.Stand.TheVariants.{Fresh};
+ghost use Rattle.cluster.specs.declared.entry.JobState.TheVariants.{Fresh};
 ghost use Rattle.cluster.specs.History.{stand_of};
 ghost use Rattle.replay_core.specs.Built.{is_built};
 ghost use Rattle.replay_core.specs.Doing.{Met, Ran};

@@ -15,5 +15,5 @@ pub fn runs_search_within()
     ensures plans { (budget attempts : ℕ) (commands : List Command) (front back : List Entry) (job : ℕ) (pod : Key) (plan : Plan) →
         RunOf budget attempts commands (front ++ record { job = job; event = Event.Reserved pod plan } ∷ back) → PlanBy (state_at front plan.at) pod budget plan }
     ensures verdicts { (budget attempts : ℕ) (commands : List Command) (front back : List Entry) (job : ℕ) (pod : Key) (verdict : Verdict) →
-        RunOf budget attempts commands (front ++ record { job = job; event = Event.Judged pod verdict } ∷ back) → VerdictBy (state_at front verdict.at) pod budget verdict }
+        RunOf budget attempts commands (front ++ record { job = job; event = Event.VerdictGiven pod verdict } ∷ back) → VerdictBy (state_at front verdict.at) pod budget verdict }
 {}

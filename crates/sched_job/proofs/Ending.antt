@@ -4,8 +4,8 @@ use Rattle.std.specs.Prelude.{Result, Ok, Err, OnErr}
 use Rattle.object_fields.specs.declared.key.Key.{Key}
 use Rattle.cluster.specs.declared.entry.Entry.{Entry}
 use Rattle.cluster.specs.declared.entry.Event.{Event}
-use Rattle.cluster.specs.declared.entry.Stand.{Stand}
-use Rattle.cluster.specs.declared.entry.Stand.TheVariants as stand
+use Rattle.cluster.specs.declared.entry.JobState.{JobState}
+use Rattle.cluster.specs.declared.entry.JobState.TheVariants as stand
 use Rattle.cluster.specs.History.{state_of, stand_of}
 use Rattle.alloc_rules.specs.declared.decision.Decision.{Decision}
 use Rattle.alloc_rules.specs.Decisions.{is_idle_pod}
@@ -76,7 +76,7 @@ extends_join jobs h h1 h2 a b = record {
   of_jobs = all_of_append jobs a.added b.added a.of_jobs b.of_jobs;
 }
 
-pub open_by : (st : Stand) → ((p : ℕ) → st ≡ stand.Ended p → ⊥) → is_ended st ≡ false
+pub open_by : (st : JobState) → ((p : ℕ) → st ≡ stand.Ended p → ⊥) → is_ended st ≡ false
 open_by stand.Fresh never = refl
 open_by (stand.Reserved k) never = refl
 open_by (stand.Conflicted k) never = refl

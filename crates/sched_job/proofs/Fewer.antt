@@ -9,9 +9,9 @@ use Rattle.api_cluster.specs.declared.types.PodResourceClaim.{PodResourceClaim}
 use Rattle.pool_view.specs.Names.{at_key, key_cmp, key_eq}
 use Rattle.cluster.specs.declared.entry.Entry.{Entry}
 use Rattle.cluster.specs.declared.entry.Event.{Event}
-use Rattle.cluster.specs.declared.entry.Event.TheVariants.{Applied, Deleted, Reserved, Refused, Wrote, Conflict, Unreserved, Bound, Judged, Contended, Released, Adopted, Denied}
-use Rattle.cluster.specs.declared.entry.Stand.{Stand}
-use Rattle.cluster.specs.declared.entry.Stand.TheVariants as stand
+use Rattle.cluster.specs.declared.entry.Event.TheVariants.{Applied, Deleted, Reserved, Refused, Wrote, Conflict, Unreserved, Bound, VerdictGiven, Contended, Released, Adopted, Denied}
+use Rattle.cluster.specs.declared.entry.JobState.{JobState}
+use Rattle.cluster.specs.declared.entry.JobState.TheVariants as stand
 use Rattle.cluster.specs.declared.state.ClaimState.{ClaimState}
 use Rattle.cluster.specs.declared.state.PodState.{PodState}
 use Rattle.cluster.specs.declared.state.State.{State}
@@ -20,7 +20,7 @@ use Rattle.cluster.specs.declared.state.Use.TheVariants.{Assumed, Written}
 use Rattle.cluster.specs.Claims.{claim_keys, first_places}
 use Rattle.cluster.specs.Events.{after, allows, stand_after}
 use Rattle.cluster.specs.History.{state_of, stand_of}
-use Rattle.cluster.specs.Stand.{failures}
+use Rattle.cluster.specs.JobState.{failures}
 use Rattle.cluster.specs.State.{claims_of, has_written, is_written, use_in}
 use Rattle.cluster.specs.Tables.{changed_at}
 use Rattle.cluster.specs.Wrote.{with_written, written_by}
@@ -162,7 +162,7 @@ conflict_left s pod job claim had now may =
 
 -- ---- an entry of the job
 
-once_some : (st : Stand) → is_ended st ≡ false → 0 < once_left st
+once_some : (st : JobState) → is_ended st ≡ false → 0 < once_left st
 once_some stand.Fresh open_yet = omega arith
 once_some (stand.Reserved k) open_yet = omega arith
 once_some (stand.Conflicted k) open_yet = omega arith
@@ -170,7 +170,7 @@ once_some (stand.Failed k) open_yet = omega arith
 once_some (stand.Ended p) open_yet = absurd cc
 
 -- the one of a job that isn't to schedule a pod ends it
-once_ends : (attempts : ℕ) (st : Stand) (place : ℕ) (ev : Event) → is_schedule (command_of attempts ev) ≡ false → once_left (stand_after st place ev) ≡ 0
+once_ends : (attempts : ℕ) (st : JobState) (place : ℕ) (ev : Event) → is_schedule (command_of attempts ev) ≡ false → once_left (stand_after st place ev) ≡ 0
 once_ends attempts st place (Applied object mode) e = refl
 once_ends attempts st place (Deleted target) e = refl
 once_ends attempts st place (Reserved pod plan) e = absurd cc
@@ -179,7 +179,7 @@ once_ends attempts st place (Wrote pod claim seen) e = absurd cc
 once_ends attempts st place (Conflict pod claim had now) e = absurd cc
 once_ends attempts st place (Unreserved pod) e = absurd cc
 once_ends attempts st place (Bound pod node) e = refl
-once_ends attempts st place (Judged pod verdict) e = refl
+once_ends attempts st place (VerdictGiven pod verdict) e = refl
 once_ends attempts st place (Contended pod failed) e = refl
 once_ends attempts st place (Released pod) e = refl
 once_ends attempts st place (Adopted claim status) e = refl
@@ -189,7 +189,7 @@ pod_is : (p pod : Key) (a b : ℕ) → Schedule p a ≡ Schedule pod b → p ≡
 pod_is p pod a b e = cc
 
 -- the turns that a job to schedule a pod has left after it
-less_some : (c : Run) (h : List Entry) (pod : Key) (attempts place job : ℕ) (kept : Stage) (st : Stand) (ev : Event) → c.command ≡ Schedule pod attempts → stand_of h c.job ≡ st → allows st ev ≡ true → MayStand h job ev → JobStep c h ev
+less_some : (c : Run) (h : List Entry) (pod : Key) (attempts place job : ℕ) (kept : Stage) (st : JobState) (ev : Event) → c.command ≡ Schedule pod attempts → stand_of h c.job ≡ st → allows st ev ≡ true → MayStand h job ev → JobStep c h ev
     → 0 < attempts_left (state_of h) pod attempts kept st → unwritten (after place job ev (state_of h)) pod ≤ 32
     → attempts_left (after place job ev (state_of h)) pod attempts Ready (stand_after st place ev) < attempts_left (state_of h) pod attempts kept st
 less_some c h pod attempts place job kept st (Applied object mode) cmd sd may stands k positive most = positive
@@ -228,7 +228,7 @@ less_some c h pod attempts place job kept (stand.Conflicted m) (Unreserved p) cm
 less_some c h pod attempts place job kept (stand.Failed m) (Unreserved p) cmd sd may stands k positive most = absurd cc
 less_some c h pod attempts place job kept (stand.Ended m) (Unreserved p) cmd sd may stands k positive most = absurd cc
 less_some c h pod attempts place job kept st (Bound p node) cmd sd may stands k positive most = positive
-less_some c h pod attempts place job kept st (Judged p verdict) cmd sd may stands k positive most = positive
+less_some c h pod attempts place job kept st (VerdictGiven p verdict) cmd sd may stands k positive most = positive
 less_some c h pod attempts place job kept st (Contended p failed) cmd sd may stands k positive most = positive
 less_some c h pod attempts place job kept st (Released p) cmd sd may stands k positive most = positive
 less_some c h pod attempts place job kept st (Adopted claim status) cmd sd may stands k positive most = positive
@@ -247,7 +247,7 @@ waits_or Ready = inr refl
 waits_or (Seen seen) = inr refl
 waits_or (Chosen choice) = inl refl
 
-positive_left : (c : Run) (h : List Entry) (pod : Key) (attempts : ℕ) (kept : Stage) (st : Stand) → c.command ≡ Schedule pod attempts → 0 < attempts → stand_of h c.job ≡ st → is_ended st ≡ false → IsTrying c h pod kept → 0 < attempts_left (state_of h) pod attempts kept st
+positive_left : (c : Run) (h : List Entry) (pod : Key) (attempts : ℕ) (kept : Stage) (st : JobState) → c.command ≡ Schedule pod attempts → 0 < attempts → stand_of h c.job ≡ st → is_ended st ≡ false → IsTrying c h pod kept → 0 < attempts_left (state_of h) pod attempts kept st
 positive_left c h pod attempts kept stand.Fresh cmd some sd open_yet s = omega arith
 positive_left c h pod attempts kept (stand.Reserved m) cmd some sd open_yet s = omega arith
 positive_left c h pod attempts kept (stand.Conflicted m) cmd some sd open_yet s = omega arith
@@ -282,7 +282,7 @@ entry_less c h place job kept ev (Adopt claim status) is some open_yet may stand
     let z = once_ends (attempts_of c.command) (stand_of h c.job) place ev (ap is_schedule (k.of_command ∙ is)) in let o = once_some (stand_of h c.job) open_yet in omega arith
 
 -- a snapshot, by the command
-waits_less : (s : State) (pod : Key) (attempts : ℕ) (kept made : Stage) (st : Stand) → tries attempts st ≡ true → waits made < waits kept → attempts_left s pod attempts made st < attempts_left s pod attempts kept st
+waits_less : (s : State) (pod : Key) (attempts : ℕ) (kept made : Stage) (st : JobState) → tries attempts st ≡ true → waits made < waits kept → attempts_left s pod attempts made st < attempts_left s pod attempts kept st
 waits_less s pod attempts kept made stand.Fresh t less = omega arith
 waits_less s pod attempts kept made (stand.Reserved m) t less = absurd cc
 waits_less s pod attempts kept made (stand.Conflicted m) t less = absurd cc
@@ -327,14 +327,14 @@ some_less laws budget c H H' w w' ev legal r open_yet one some =
     let grown : state_of H'.entries ≡ after (length h + 1) w.job ev (state_of h) = ap state_of now ∙ laws.state h e in
     let st : stand_of H'.entries w.job ≡ stand_after (stand_of h w.job) (length h + 1) ev = ap (λ (xs : List Entry). stand_of xs w.job) now ∙ stand_own laws.grows h e w.job refl in
     let limits : ObjectsKept (after (length h + 1) w.job ev (state_of h)) = subst ObjectsKept grown (laws.limits H'.entries legal) in
-    let less = entry_less c h (length h + 1) w.job w.stage ev c.command refl r.some (ap is_ended (sym mine) ∙ open_yet) (subst (λ (x : Stand). allows x ev ≡ true) mine step.allowed) step.stands k r.staged (λ pod. few (after (length h + 1) w.job ev (state_of h)) pod limits) in
+    let less = entry_less c h (length h + 1) w.job w.stage ev c.command refl r.some (ap is_ended (sym mine) ∙ open_yet) (subst (λ (x : JobState). allows x ev ≡ true) mine step.allowed) step.stands k r.staged (λ pod. few (after (length h + 1) w.job ev (state_of h)) pod limits) in
     let with_command : left_by (after (length h + 1) w.job ev (state_of h)) Ready (stand_after (stand_of h w.job) (length h + 1) ev) w.command < left_by (state_of h) w.stage (stand_of h w.job) w.command =
     subst (λ (x : Command). left_by (after (length h + 1) w.job ev (state_of h)) Ready (stand_after (stand_of h w.job) (length h + 1) ev) x < left_by (state_of h) w.stage (stand_of h w.job) x) (sym r.command)
-    (subst (λ (x : Stand). left_by (after (length h + 1) w.job ev (state_of h)) Ready (stand_after x (length h + 1) ev) c.command < left_by (state_of h) w.stage x c.command) (sym mine) less) in
+    (subst (λ (x : JobState). left_by (after (length h + 1) w.job ev (state_of h)) Ready (stand_after x (length h + 1) ev) c.command < left_by (state_of h) w.stage x c.command) (sym mine) less) in
     let eq : left_by (state_of H'.entries) w'.stage (stand_of H'.entries w.job) w.command ≡ left_by (after (length h + 1) w.job ev (state_of h)) Ready (stand_after (stand_of h w.job) (length h + 1) ev) w.command =
     ap (λ (x : State). left_by x w'.stage (stand_of H'.entries w.job) w.command) grown
     ∙ ap (λ (x : Stage). left_by (after (length h + 1) w.job ev (state_of h)) x (stand_of H'.entries w.job) w.command) kept
-    ∙ ap (λ (x : Stand). left_by (after (length h + 1) w.job ev (state_of h)) Ready x w.command) st in
+    ∙ ap (λ (x : JobState). left_by (after (length h + 1) w.job ev (state_of h)) Ready x w.command) st in
     subst (λ (n : ℕ). n < left_by (state_of h) w.stage (stand_of h w.job) w.command) (sym eq) with_command
 
 same_work : (h : List Entry) (w w' : Work) → w'.job ≡ w.job → w'.command ≡ w.command → most_turns h w' ≡ left_by (state_of h) w'.stage (stand_of h w.job) w.command
@@ -363,4 +363,4 @@ fresh_by s (Adopt claim status) = omega arith
 -- a new work has at most 35 turns for each attempt, and one more
 pub fresh_few : (h : List Entry) (w : Work) → stand_of h w.job ≡ stand.Fresh → w.stage ≡ Ready → most_turns h w ≤ 35 * attempts_of w.command + 1
 fresh_few h w fresh ready =
-    subst (λ (n : ℕ). n ≤ 35 * attempts_of w.command + 1) (sym (ap (λ (x : Stage). left_by (state_of h) x (stand_of h w.job) w.command) ready ∙ ap (λ (x : Stand). left_by (state_of h) Ready x w.command) fresh)) (fresh_by (state_of h) w.command)
+    subst (λ (n : ℕ). n ≤ 35 * attempts_of w.command + 1) (sym (ap (λ (x : Stage). left_by (state_of h) x (stand_of h w.job) w.command) ready ∙ ap (λ (x : JobState). left_by (state_of h) Ready x w.command) fresh)) (fresh_by (state_of h) w.command)

@@ -10,11 +10,11 @@ use Rattle.pool_view.specs.Names.{at_key, key_cmp}
 use Rattle.cluster.specs.declared.entry.Command.TheVariants as asked
 use Rattle.cluster.specs.declared.entry.Entry.{Entry}
 use Rattle.cluster.specs.declared.entry.Event.{Event}
-use Rattle.cluster.specs.declared.entry.Event.TheVariants.{Applied, Deleted, Reserved, Refused, Wrote, Conflict, Unreserved, Bound, Judged, Contended, Released, Adopted, Denied}
+use Rattle.cluster.specs.declared.entry.Event.TheVariants.{Applied, Deleted, Reserved, Refused, Wrote, Conflict, Unreserved, Bound, VerdictGiven, Contended, Released, Adopted, Denied}
 use Rattle.cluster.specs.declared.entry.Refusal.{Refusal}
 use Rattle.cluster.specs.declared.entry.Refusal.TheVariants as refusal
-use Rattle.cluster.specs.declared.entry.Stand.{Stand}
-use Rattle.cluster.specs.declared.entry.Stand.TheVariants as stand
+use Rattle.cluster.specs.declared.entry.JobState.{JobState}
+use Rattle.cluster.specs.declared.entry.JobState.TheVariants as stand
 use Rattle.cluster.specs.declared.object.Object.TheVariants as object
 use Rattle.cluster.specs.declared.object.Target.{Target}
 use Rattle.cluster.specs.declared.object.Target.TheVariants as target
@@ -37,7 +37,7 @@ use Rattle.cluster.specs.State.{claims_of, is_idle, is_written, use_in}
 use Rattle.cluster.specs.Tables.{changed_at, put_at}
 use Rattle.cluster.specs.Wrote.{written_by}
 use Rattle.ledger_core.specs.Legal.{Legal, MayStand, Step}
-use Rattle.cluster.specs.Stand.{has_reserved}
+use Rattle.cluster.specs.JobState.{has_reserved}
 use Rattle.ledger_core.specs.Owners.{has_pod}
 use Rattle.ledger_core.specs.Wrote.{IsTaken}
 use Rattle.sched_job.specs.declared.work.Command.{Command}
@@ -246,7 +246,7 @@ stays_written h place job other pod p (Conflict q claim had now) held differ sta
 stays_written h place job other pod p (Unreserved q) held differ stands =
     stay_freed place pod q (claims_by (at_key (state_of h).pods q)) (state_of h).claims (apart_taken (state_of h) pod q job other stands.node p stands.state held differ stands.taken)
 stays_written h place job other pod p (Bound q node) held differ stands = stay_same pod (state_of h).claims
-stays_written h place job other pod p (Judged q verdict) held differ stands = stay_same pod (state_of h).claims
+stays_written h place job other pod p (VerdictGiven q verdict) held differ stands = stay_same pod (state_of h).claims
 stays_written h place job other pod p (Contended q failed) held differ stands = stay_same pod (state_of h).claims
 stays_written h place job other pod p (Released q) held differ stands = stay_freed place pod q (claims_by (at_key (state_of h).pods q)) (state_of h).claims (apart_bound (state_of h) pod q job p held stands.unrefused)
 stays_written h place job other pod p (Adopted claim status) held differ stands = stay_changed pod claim (adopted_by place status) (state_of h).claims (λ c e. e)
@@ -288,7 +288,7 @@ keeps_uid h place job other pod p q (Wrote r claim seen) held stands now = uid_s
 keeps_uid h place job other pod p q (Conflict r claim had new) held stands now = uid_same p q (sym held.there ∙ now)
 keeps_uid h place job other pod p q (Unreserved r) held stands now = uid_changed pod r (λ x. record x { phase = phase.Idle }) (state_of h).pods p q (λ x. refl) held.there now
 keeps_uid h place job other pod p q (Bound r node) held stands now = uid_changed pod r (λ x. record x { phase = phase.Bound node }) (state_of h).pods p q (λ x. refl) held.there now
-keeps_uid h place job other pod p q (Judged r verdict) held stands now = uid_same p q (sym held.there ∙ now)
+keeps_uid h place job other pod p q (VerdictGiven r verdict) held stands now = uid_same p q (sym held.there ∙ now)
 keeps_uid h place job other pod p q (Contended r failed) held stands now = uid_same p q (sym held.there ∙ now)
 keeps_uid h place job other pod p q (Released r) held stands now = uid_changed pod r (λ x. record x { phase = phase.Idle }) (state_of h).pods p q (λ x. refl) held.there now
 keeps_uid h place job other pod p q (Adopted claim status) held stands now = uid_same p q (sym held.there ∙ now)
@@ -305,7 +305,7 @@ pub record Others : Type 0 where
   pub stays : StaysTaken
   pub uids : (h : List Entry) (first second : ℕ) (key : Key) (p q : PodState) → Legal h → at_key (state_at h first).pods key ≡ Some p → at_key (state_at h second).pods key ≡ Some q → p.pod.uid ≡ q.pod.uid → claims_of p ≡ claims_of q
 
-has_pod_by : (st : Stand) → has_reserved st ≡ true → has_pod st ≡ true
+has_pod_by : (st : JobState) → has_reserved st ≡ true → has_pod st ≡ true
 has_pod_by stand.Fresh e = absurd cc
 has_pod_by (stand.Reserved k) e = refl
 has_pod_by (stand.Conflicted k) e = absurd cc
@@ -338,14 +338,14 @@ unwritten_others laws c h e pod attempts is legal kept kept' other reserved =
     ap (unwritten_by (state_of g) pod) t'.1.1.there ∙ ap (λ (ks : List Key). unwritten_among (state_of g) pod ks) (sym claims) ∙ ap (λ (s : State). unwritten_among s pod (claims_of t.0)) grown in
     omega arith
 
-attempts_le : (s s' : State) (pod : Key) (attempts : ℕ) (kept : Stage) (st : Stand) → (has_reserved st ≡ true → unwritten s' pod ≤ unwritten s pod) → attempts_left s' pod attempts kept st ≤ attempts_left s pod attempts kept st
+attempts_le : (s s' : State) (pod : Key) (attempts : ℕ) (kept : Stage) (st : JobState) → (has_reserved st ≡ true → unwritten s' pod ≤ unwritten s pod) → attempts_left s' pod attempts kept st ≤ attempts_left s pod attempts kept st
 attempts_le s s' pod attempts kept stand.Fresh le = omega arith
 attempts_le s s' pod attempts kept (stand.Reserved k) le = let l = le refl in omega arith
 attempts_le s s' pod attempts kept (stand.Conflicted k) le = omega arith
 attempts_le s s' pod attempts kept (stand.Failed k) le = omega arith
 attempts_le s s' pod attempts kept (stand.Ended p) le = omega arith
 
-left_le : (s s' : State) (kept : Stage) (st : Stand) (cmd : Command) → ((pod : Key) (attempts : ℕ) → cmd ≡ Schedule pod attempts → has_reserved st ≡ true → unwritten s' pod ≤ unwritten s pod) → left_by s' kept st cmd ≤ left_by s kept st cmd
+left_le : (s s' : State) (kept : Stage) (st : JobState) (cmd : Command) → ((pod : Key) (attempts : ℕ) → cmd ≡ Schedule pod attempts → has_reserved st ≡ true → unwritten s' pod ≤ unwritten s pod) → left_by s' kept st cmd ≤ left_by s kept st cmd
 left_le s s' kept st (Apply object mode) le = omega arith
 left_le s s' kept st (Invalid error) le = omega arith
 left_le s s' kept st (Delete target) le = omega arith
@@ -361,4 +361,4 @@ others_less laws c h w e legal r other =
     let st : stand_of (h ++ e ∷ []) w.job ≡ stand_of h w.job = stand_other laws.grows h e w.job mine in
     let le = left_le (state_of h) (state_of (h ++ e ∷ [])) w.stage (stand_of h w.job) w.command
     (λ pod attempts is reserved. unwritten_others laws c h e pod attempts (sym r.command ∙ is) legal r.kept r'.kept other (ap has_reserved (ap (stand_of h) (sym r.job)) ∙ reserved)) in
-    subst (λ (x : Stand). left_by (state_of (h ++ e ∷ [])) w.stage x w.command ≤ left_by (state_of h) w.stage (stand_of h w.job) w.command) (sym st) le
+    subst (λ (x : JobState). left_by (state_of (h ++ e ∷ [])) w.stage x w.command ≤ left_by (state_of h) w.stage (stand_of h w.job) w.command) (sym st) le

@@ -9,12 +9,12 @@ use Rattle.pool_view.specs.Names.{at_key}
 use Rattle.cluster.specs.declared.entry.Command.TheVariants as asked
 use Rattle.cluster.specs.declared.entry.Entry.{Entry}
 use Rattle.cluster.specs.declared.entry.Event.{Event}
-use Rattle.cluster.specs.declared.entry.Event.TheVariants.{Applied, Deleted, Reserved, Refused, Wrote, Conflict, Unreserved, Bound, Judged, Contended, Released, Adopted, Denied}
+use Rattle.cluster.specs.declared.entry.Event.TheVariants.{Applied, Deleted, Reserved, Refused, Wrote, Conflict, Unreserved, Bound, VerdictGiven, Contended, Released, Adopted, Denied}
 use Rattle.cluster.specs.declared.entry.Mode.{Mode}
 use Rattle.cluster.specs.declared.entry.Refusal.{Refusal}
 use Rattle.cluster.specs.declared.entry.Refusal.TheVariants as refusal
-use Rattle.cluster.specs.declared.entry.Stand.{Stand}
-use Rattle.cluster.specs.declared.entry.Stand.TheVariants as stand
+use Rattle.cluster.specs.declared.entry.JobState.{JobState}
+use Rattle.cluster.specs.declared.entry.JobState.TheVariants as stand
 use Rattle.cluster.specs.declared.failure.Failure.{Failure}
 use Rattle.cluster.specs.declared.object.Object.{Object}
 use Rattle.cluster.specs.declared.object.Target.{Target}
@@ -24,7 +24,7 @@ use Rattle.cluster.specs.declared.state.State.{State}
 use Rattle.cluster.specs.Denied.{first_refusal}
 use Rattle.cluster.specs.Events.{allows, stand_after}
 use Rattle.cluster.specs.History.{state_of, stand_of}
-use Rattle.cluster.specs.Stand.{failures, is_fresh, may_try}
+use Rattle.cluster.specs.JobState.{failures, is_fresh, may_try}
 use Rattle.cluster.specs.State.{use_in, version_of}
 use Rattle.alloc_rules.specs.declared.decision.Decision.TheVariants.{Reserve, Judge}
 use Rattle.alloc_rules.specs.Plans.{PlanBy, PlanTrue, VerdictBy, VerdictTrue}
@@ -56,8 +56,8 @@ try_other g c h e at other t = record {
   from = t.from;
   last = subst (λ n. n ≤ at) (sym (last_other h e c.job other)) t.last;
   within = (let w = t.within in omega (arith, length-append h (e ∷ [])));
-  may = subst (λ (st : Stand). may_try st ≡ true) (sym (stand_other g h e c.job other)) t.may;
-  left = subst (λ (st : Stand). failures st < attempts_of c.command) (sym (stand_other g h e c.job other)) t.left;
+  may = subst (λ (st : JobState). may_try st ≡ true) (sym (stand_other g h e c.job other)) t.may;
+  left = subst (λ (st : JobState). failures st < attempts_of c.command) (sym (stand_other g h e c.job other)) t.left;
 }
 
 plan_other : Grows → (c : Run) (h : List Entry) (e : Entry) (pod : Key) (plan : Plan) → eqb e.job c.job ≡ false → ChosenPlan c h pod plan → ChosenPlan c (h ++ e ∷ []) pod plan
@@ -118,12 +118,12 @@ under_way : (c : Run) (pod : Key) (failed : ℕ) → Schedule pod (attempts_of c
 under_way c pod failed is left = record { schedules = sym (ap is_schedule is); left = left }
 
 -- how far the job has come after it
-counted : (c : Run) (h : List Entry) (st : Stand) (place : ℕ) (ev : Event) → stand_of h c.job ≡ st → command_of (attempts_of c.command) ev ≡ c.command → Timed c h ev → allows st ev ≡ true → Counted c.command st → Counted c.command (stand_after st place ev)
+counted : (c : Run) (h : List Entry) (st : JobState) (place : ℕ) (ev : Event) → stand_of h c.job ≡ st → command_of (attempts_of c.command) ev ≡ c.command → Timed c h ev → allows st ev ≡ true → Counted c.command st → Counted c.command (stand_after st place ev)
 counted c h st place (Applied object mode) is of timed may count = tt
 counted c h st place (Deleted target) is of timed may count = tt
-counted c h st place (Reserved pod plan) is of timed may count = under_way c pod (failures st) of (subst (λ (x : Stand). failures x < attempts_of c.command) is timed.try.left)
+counted c h st place (Reserved pod plan) is of timed may count = under_way c pod (failures st) of (subst (λ (x : JobState). failures x < attempts_of c.command) is timed.try.left)
 counted c h st place (Refused pod plan why) is of timed may count =
-    let l : failures st < attempts_of c.command = subst (λ (x : Stand). failures x < attempts_of c.command) is timed.try.left in
+    let l : failures st < attempts_of c.command = subst (λ (x : JobState). failures x < attempts_of c.command) is timed.try.left in
     record { schedules = sym (ap is_schedule of); within = omega arith }
 counted c h (stand.Reserved k) place (Wrote pod claim seen) is of timed may count = count
 counted c h stand.Fresh place (Wrote pod claim seen) is of timed may count = absurd cc
@@ -141,7 +141,7 @@ counted c h (stand.Reserved k) place (Unreserved pod) is of timed may count = ab
 counted c h (stand.Failed k) place (Unreserved pod) is of timed may count = absurd cc
 counted c h (stand.Ended p) place (Unreserved pod) is of timed may count = absurd cc
 counted c h st place (Bound pod node) is of timed may count = tt
-counted c h st place (Judged pod verdict) is of timed may count = tt
+counted c h st place (VerdictGiven pod verdict) is of timed may count = tt
 counted c h st place (Contended pod failed) is of timed may count = tt
 counted c h st place (Released pod) is of timed may count = tt
 counted c h st place (Adopted claim status) is of timed may count = tt
@@ -183,7 +183,7 @@ some_if false x ev e = absurd cc
 just_this : (x ev : Event) → Some x ≡ Some ev → x ≡ ev
 just_this x ev e = cc
 
-fresh_fails : (st : Stand) → is_fresh st ≡ true → failures st ≡ 0
+fresh_fails : (st : JobState) → is_fresh st ≡ true → failures st ≡ 0
 fresh_fails stand.Fresh e = refl
 fresh_fails (stand.Reserved k) e = absurd cc
 fresh_fails (stand.Conflicted k) e = absurd cc
@@ -220,7 +220,7 @@ good_try c h pod attempts (Seen seen) ev is left staged e = good_denial c h pod 
 good_try c h pod attempts (Chosen (Reserve plan)) ev is left staged e =
     subst (Good c h) (just_this (reservation (state_of h) pod plan) ev e) (good_reservation c h pod attempts plan (first_refusal (state_of h) (asked.Schedule pod)) (failing (state_of h) pod plan) is staged.tried)
 good_try c h pod attempts (Chosen (Judge verdict)) ev is left staged e =
-    subst (Good c h) (just_this (Judged pod verdict) ev e) (record { of_command = same_schedule c pod attempts is; timed = staged.tried })
+    subst (Good c h) (just_this (VerdictGiven pod verdict) ev e) (record { of_command = same_schedule c pod attempts is; timed = staged.tried })
 
 good_failed : (c : Run) (h : List Entry) (pod : Key) (attempts k : ℕ) (kept : Stage) (ev : Event) (b : Bool) → nat_le attempts k ≡ b → c.command ≡ Schedule pod attempts → stand_of h c.job ≡ stand.Failed k → k ≤ attempts_of c.command → IsTrying c h pod kept
     → cond b (Some (Contended pod k)) (try_move (state_of h) pod kept) ≡ Some ev → Good c h ev
@@ -237,7 +237,7 @@ good_failed c h pod attempts k kept ev false test is st few staged e =
     not_le : (a k : ℕ) → nat_le a k ≡ false → k < a
     not_le a k t = grind (arith, nat_tests)
 
-good_schedule : (c : Run) (h : List Entry) (pod : Key) (attempts : ℕ) (kept : Stage) (st : Stand) (ev : Event) → c.command ≡ Schedule pod attempts → stand_of h c.job ≡ st → 0 < attempts_of c.command → Counted c.command st → IsTrying c h pod kept
+good_schedule : (c : Run) (h : List Entry) (pod : Key) (attempts : ℕ) (kept : Stage) (st : JobState) (ev : Event) → c.command ≡ Schedule pod attempts → stand_of h c.job ≡ st → 0 < attempts_of c.command → Counted c.command st → IsTrying c h pod kept
     → schedule_move (state_of h) c.job pod attempts kept st ≡ Some ev → Good c h ev
 good_schedule c h pod attempts kept stand.Fresh ev is st some count staged e = let f : failures (stand_of h c.job) ≡ 0 = ap failures st in good_try c h pod attempts kept ev is (omega arith) staged e
 good_schedule c h pod attempts kept (stand.Reserved k) ev is st some count staged e = good_finish c h (state_of h) pod attempts (due_of (state_of h) c.job pod) ev is e
@@ -264,7 +264,7 @@ good_adoption : (job from budget : ℕ) (h : List Entry) (claim : Key) (status :
 good_adoption job from budget h claim status None none = record { of_command = refl; timed = tt }
 good_adoption job from budget h claim status (Some d) none = record { of_command = refl; timed = omega arith }
 
-good_once : (c : Run) (h : List Entry) (st : Stand) (x ev : Event) → stand_of h c.job ≡ st → once st x ≡ Some ev → (failures (stand_of h c.job) ≡ 0 → Good c h x) → Good c h ev
+good_once : (c : Run) (h : List Entry) (st : JobState) (x ev : Event) → stand_of h c.job ≡ st → once st x ≡ Some ev → (failures (stand_of h c.job) ≡ 0 → Good c h x) → Good c h ev
 good_once c h st x ev is e good =
     let p = some_if (is_fresh st) x ev e in
     subst (Good c h) p.1 (good (ap failures is ∙ fresh_fails st p.0))
@@ -297,14 +297,14 @@ step_is c h w ev r e =
 
 -- ---- what a turn keeps
 
-may_by : (most : ℕ) (st : Stand) → tries most st ≡ true → may_try st ≡ true
+may_by : (most : ℕ) (st : JobState) → tries most st ≡ true → may_try st ≡ true
 may_by most stand.Fresh e = refl
 may_by most (stand.Reserved k) e = absurd cc
 may_by most (stand.Conflicted k) e = absurd cc
 may_by most (stand.Failed k) e = refl
 may_by most (stand.Ended p) e = absurd cc
 
-left_by : (most : ℕ) (st : Stand) → 0 < most → tries most st ≡ true → failures st < most
+left_by : (most : ℕ) (st : JobState) → 0 < most → tries most st ≡ true → failures st < most
 left_by most stand.Fresh some e = some
 left_by most (stand.Reserved k) some e = absurd cc
 left_by most (stand.Conflicted k) some e = absurd cc
@@ -330,7 +330,7 @@ staged_none job from budget (Schedule pod attempts) h some began =
 staged_none job from budget (Release pod) h some began = tt
 staged_none job from budget (Adopt claim status) h some began = tt
 
-pub staged_some : (h : List Entry) (st : Stand) (cmd : Command) (ev : Event) → stage_by h st cmd (Some ev) ≡ Ready
+pub staged_some : (h : List Entry) (st : JobState) (cmd : Command) (ev : Event) → stage_by h st cmd (Some ev) ≡ Ready
 staged_some h st (Apply object mode) ev = refl
 staged_some h st (Invalid error) ev = refl
 staged_some h st (Delete target) ev = refl

@@ -7,9 +7,9 @@ use Rattle.std.proofs.lemmas.Bool.{eqb-true}
 use Rattle.std.specs.List.{list_any}
 use Rattle.cluster.specs.declared.entry.Entry.{Entry}
 use Rattle.cluster.specs.declared.entry.Event.{Event}
-use Rattle.cluster.specs.declared.entry.Event.TheVariants.{Applied, Deleted, Reserved, Refused, Wrote, Conflict, Unreserved, Bound, Judged, Contended, Released, Adopted, Denied}
-use Rattle.cluster.specs.declared.entry.Stand.{Stand}
-use Rattle.cluster.specs.declared.entry.Stand.TheVariants as stand
+use Rattle.cluster.specs.declared.entry.Event.TheVariants.{Applied, Deleted, Reserved, Refused, Wrote, Conflict, Unreserved, Bound, VerdictGiven, Contended, Released, Adopted, Denied}
+use Rattle.cluster.specs.declared.entry.JobState.{JobState}
+use Rattle.cluster.specs.declared.entry.JobState.TheVariants as stand
 use Rattle.cluster.specs.Events.{stand_after}
 use Rattle.cluster.specs.History.{next_stand, stand_of, told}
 use Rattle.ledger_core.specs.Ledger.{History}
@@ -31,7 +31,7 @@ use Rattle.sched_job.proofs.Runnings.{running_fits, running_ended, staged_ready,
 abbrev pub GoesOn : Type 0
 GoesOn = (c : Run) (h : List Entry) (w : Work) (e : Entry) → eqb e.job c.job ≡ false → Running c h w → Running c (h ++ e ∷ []) w
 
-not_fresh : (st : Stand) (place : ℕ) (ev : Event) → stand_after st place ev ≡ stand.Fresh → ⊥
+not_fresh : (st : JobState) (place : ℕ) (ev : Event) → stand_after st place ev ≡ stand.Fresh → ⊥
 not_fresh st place (Applied object mode) e = cc
 not_fresh st place (Deleted target) e = cc
 not_fresh st place (Reserved pod plan) e = cc
@@ -40,17 +40,17 @@ not_fresh st place (Wrote pod claim seen) e = cc
 not_fresh st place (Conflict pod claim had now) e = cc
 not_fresh st place (Unreserved pod) e = cc
 not_fresh st place (Bound pod node) e = cc
-not_fresh st place (Judged pod verdict) e = cc
+not_fresh st place (VerdictGiven pod verdict) e = cc
 not_fresh st place (Contended pod failed) e = cc
 not_fresh st place (Released pod) e = cc
 not_fresh st place (Adopted claim status) e = cc
 not_fresh st place (Denied command refusal) e = cc
 
-fresh_pick : (b : Bool) (st : Stand) (place : ℕ) (ev : Event) → cond b (stand_after st place ev) st ≡ stand.Fresh → (st ≡ stand.Fresh) × (b ≡ true → ⊥)
+fresh_pick : (b : Bool) (st : JobState) (place : ℕ) (ev : Event) → cond b (stand_after st place ev) st ≡ stand.Fresh → (st ≡ stand.Fresh) × (b ≡ true → ⊥)
 fresh_pick true st place ev e = absurd (not_fresh st place ev e)
 fresh_pick false st place ev e = (e, λ t. cc)
 
-fresh_from : (job : ℕ) (st : Stand) (n : ℕ) (before es : List Entry) → told (next_stand job) st n es ≡ stand.Fresh → (st ≡ stand.Fresh) × Each (λ b d. d.job ≡ job → ⊥) before es
+fresh_from : (job : ℕ) (st : JobState) (n : ℕ) (before es : List Entry) → told (next_stand job) st n es ≡ stand.Fresh → (st ≡ stand.Fresh) × Each (λ b d. d.job ≡ job → ⊥) before es
 unfolding told Each
 fresh_from job st n before [] e = (e, tt)
 fresh_from job st n before (d ∷ ds) e =
@@ -247,7 +247,7 @@ thought_unseen budget (Schedule pod attempts) (Chosen choice) e = refl
 thought_unseen budget (Release pod) (Chosen choice) e = refl
 thought_unseen budget (Adopt claim status) (Chosen choice) e = refl
 
-again_by : (st : Stand) (kept : Stage) → answer st kept ≡ next.Again → answer_by kept ≡ next.Again
+again_by : (st : JobState) (kept : Stage) → answer st kept ≡ next.Again → answer_by kept ≡ next.Again
 again_by stand.Fresh kept e = e
 again_by (stand.Reserved k) kept e = e
 again_by (stand.Conflicted k) kept e = e
@@ -259,7 +259,7 @@ not_ended_by Ready p e = cc
 not_ended_by (Seen seen) p e = cc
 not_ended_by (Chosen choice) p e = cc
 
-ended_by : (st : Stand) (kept : Stage) (p : ℕ) → answer st kept ≡ next.Ended p → is_ended st ≡ false → ⊥
+ended_by : (st : JobState) (kept : Stage) (p : ℕ) → answer st kept ≡ next.Ended p → is_ended st ≡ false → ⊥
 ended_by stand.Fresh kept p e open_yet = not_ended_by kept p e
 ended_by (stand.Reserved k) kept p e open_yet = not_ended_by kept p e
 ended_by (stand.Conflicted k) kept p e open_yet = not_ended_by kept p e
@@ -267,7 +267,7 @@ ended_by (stand.Failed k) kept p e open_yet = not_ended_by kept p e
 ended_by (stand.Ended q) kept p e open_yet = cc
 
 -- where a turn is followed by another one, no search is due
-pub thought_again : (budget : ℕ) (st : Stand) (cmd : Command) (kept made : Stage) → answer st made ≡ next.Again → made ≡ kept → Thought budget cmd kept made
+pub thought_again : (budget : ℕ) (st : JobState) (cmd : Command) (kept made : Stage) → answer st made ≡ next.Again → made ≡ kept → Thought budget cmd kept made
 thought_again budget st cmd kept made e is = subst (λ (x : Stage). Thought budget cmd x made) is (thought_unseen budget cmd made (again_by st made e))
 
 -- nor where the turn ended the job
@@ -280,7 +280,7 @@ thought_ended budget H H' w made p (Some ev) is now kept open_yet e =
     let after : stage_after H.entries w ≡ Ready = ap (λ (o : Option Event). stage_by H.entries (stand_of H.entries w.job) w.command o) is ∙ ready in
     subst (λ (x : Stage). Thought budget w.command x made) (sym after) (subst (λ (x : Stage). Thought budget w.command Ready x) (sym (kept ∙ ready)) (thought_ready budget w.command))
 
-think_by : (st : Stand) (kept : Stage) → answer st kept ≡ next.Think → is_ended st ≡ false
+think_by : (st : JobState) (kept : Stage) → answer st kept ≡ next.Think → is_ended st ≡ false
 think_by stand.Fresh kept e = refl
 think_by (stand.Reserved k) kept e = refl
 think_by (stand.Conflicted k) kept e = refl
@@ -288,7 +288,7 @@ think_by (stand.Failed k) kept e = refl
 think_by (stand.Ended p) kept e = absurd cc
 
 -- where a search is due, the job hasn't ended
-pub think_open : (st : Stand) (kept : Stage) → answer st kept ≡ next.Think → is_ended st ≡ false
+pub think_open : (st : JobState) (kept : Stage) → answer st kept ≡ next.Think → is_ended st ≡ false
 think_open st kept e = think_by st kept e
 
 -- ---- one step

@@ -6,17 +6,17 @@ use Rattle.object_fields.specs.declared.key.Key.{Key}
 use Rattle.pool_view.specs.Names.{at_key}
 use Rattle.cluster.specs.declared.entry.Entry.{Entry}
 use Rattle.cluster.specs.declared.entry.Event.{Event}
-use Rattle.cluster.specs.declared.entry.Event.TheVariants.{Applied, Deleted, Reserved, Refused, Wrote, Conflict, Unreserved, Bound, Judged, Contended, Released, Adopted, Denied}
+use Rattle.cluster.specs.declared.entry.Event.TheVariants.{Applied, Deleted, Reserved, Refused, Wrote, Conflict, Unreserved, Bound, VerdictGiven, Contended, Released, Adopted, Denied}
 use Rattle.cluster.specs.declared.entry.Refusal.{Refusal}
-use Rattle.cluster.specs.declared.entry.Stand.{Stand}
-use Rattle.cluster.specs.declared.entry.Stand.TheVariants as stand
+use Rattle.cluster.specs.declared.entry.JobState.{JobState}
+use Rattle.cluster.specs.declared.entry.JobState.TheVariants as stand
 use Rattle.cluster.specs.declared.state.Phase.{Phase}
 use Rattle.cluster.specs.declared.state.Phase.TheVariants as phase
 use Rattle.cluster.specs.declared.state.PodState.{PodState}
 use Rattle.cluster.specs.declared.state.State.{State}
 use Rattle.cluster.specs.Denied.{phase_refusal, schedule_refusal}
 use Rattle.cluster.specs.History.{state_of, stand_of}
-use Rattle.cluster.specs.Stand.{failures, is_fresh, may_try}
+use Rattle.cluster.specs.JobState.{failures, is_fresh, may_try}
 use Rattle.cluster.specs.State.{is_idle}
 use Rattle.alloc_rules.specs.declared.decision.Decision.{Decision}
 use Rattle.alloc_rules.specs.declared.decision.Decision.TheVariants.{Reserve, Judge}
@@ -51,7 +51,7 @@ about attempts n pod other (Wrote p claim seen) e f = let g : p ≡ other = cc i
 about attempts n pod other (Conflict p claim had now) e f = let g : p ≡ other = cc in sym g ∙ pod_same p pod attempts n e
 about attempts n pod other (Unreserved p) e f = let g : p ≡ other = cc in sym g ∙ pod_same p pod attempts n e
 about attempts n pod other (Bound p node) e f = let g : p ≡ other = cc in sym g ∙ pod_same p pod attempts n e
-about attempts n pod other (Judged p verdict) e f = let g : p ≡ other = cc in sym g ∙ pod_same p pod attempts n e
+about attempts n pod other (VerdictGiven p verdict) e f = let g : p ≡ other = cc in sym g ∙ pod_same p pod attempts n e
 about attempts n pod other (Contended p failed) e f = let g : p ≡ other = cc in sym g ∙ pod_same p pod attempts n e
 about attempts n pod other (Released p) e f = absurd cc
 about attempts n pod other (Adopted claim status) e f = absurd cc
@@ -111,11 +111,11 @@ failed_none attempts k x o true e = absurd cc
 failed_none attempts k x o false e = (refl, e)
 
 -- a job to schedule a pod that appends nothing begins an attempt
-record Begins (attempts : ℕ) (s : State) (pod : Key) (kept : Stage) (st : Stand) : Type 0 where
+record Begins (attempts : ℕ) (s : State) (pod : Key) (kept : Stage) (st : JobState) : Type 0 where
   pub tries : tries attempts st ≡ true
   pub none : try_move s pod kept ≡ None
 
-begins : StaysTaken → (c : Run) (h : List Entry) (pod : Key) (attempts : ℕ) (kept : Stage) (st : Stand) → c.command ≡ Schedule pod attempts → Legal h → JobKept c h → stand_of h c.job ≡ st → is_ended st ≡ false
+begins : StaysTaken → (c : Run) (h : List Entry) (pod : Key) (attempts : ℕ) (kept : Stage) (st : JobState) → c.command ≡ Schedule pod attempts → Legal h → JobKept c h → stand_of h c.job ≡ st → is_ended st ≡ false
     → schedule_move (state_of h) c.job pod attempts kept st ≡ None → Begins attempts (state_of h) pod kept st
 begins stays c h pod attempts kept stand.Fresh is legal jk st_is open_yet none = record { tries = refl; none = none }
 begins stays c h pod attempts kept (stand.Reserved k) is legal jk st_is open_yet none =
@@ -148,14 +148,14 @@ try_idle s pod (Seen seen) e = idle_pod (at_key s.pods pod) (denial_none pod (sc
 try_idle s pod (Chosen choice) e = absurd cc
 
 -- a job that isn't to schedule a pod has no entry, or has ended
-counted_fresh : (cmd : Command) (st : Stand) → is_schedule cmd ≡ false → Counted cmd st → is_ended st ≡ false → is_fresh st ≡ true
+counted_fresh : (cmd : Command) (st : JobState) → is_schedule cmd ≡ false → Counted cmd st → is_ended st ≡ false → is_fresh st ≡ true
 counted_fresh cmd stand.Fresh other count open_yet = refl
 counted_fresh cmd (stand.Reserved k) other count open_yet = never (is_schedule cmd) count.schedules other
 counted_fresh cmd (stand.Conflicted k) other count open_yet = never (is_schedule cmd) count.schedules other
 counted_fresh cmd (stand.Failed k) other count open_yet = never (is_schedule cmd) count.schedules other
 counted_fresh cmd (stand.Ended p) other count open_yet = absurd cc
 
-once_some : {X : Type 0} (st : Stand) (x : Event) → is_fresh st ≡ true → once st x ≡ None → X
+once_some : {X : Type 0} (st : JobState) (x : Event) → is_fresh st ≡ true → once st x ≡ None → X
 once_some st x fresh none = never (is_fresh st) fresh (none_if (is_fresh st) x none)
 
 -- what is kept after a turn that appends nothing is a snapshot
@@ -186,7 +186,7 @@ idles stays c h w pod attempts is legal r open_yet none =
     let b = begins stays c h pod attempts w.stage (stand_of h c.job) command legal r.kept refl (sym (ap (λ (n : ℕ). is_ended (stand_of h n)) r.job) ∙ open_yet) none' in
     try_idle (state_of h) pod w.stage b.none
 
-seen_thinks : (st : Stand) (h : List Entry) → is_ended st ≡ false → answer st (looked h) ≡ next.Think
+seen_thinks : (st : JobState) (h : List Entry) → is_ended st ≡ false → answer st (looked h) ≡ next.Think
 seen_thinks stand.Fresh h e = refl
 seen_thinks (stand.Reserved k) h e = refl
 seen_thinks (stand.Conflicted k) h e = refl
@@ -207,7 +207,7 @@ more_left : (attempts k : ℕ) (x : Event) (o : Option Event) (b : Bool) → nat
 more_left attempts k x o true t lt = absurd (let le = leb-true attempts k t in omega arith)
 more_left attempts k x o false t lt = refl
 
-chosen_moves : (s : State) (job : ℕ) (pod : Key) (attempts : ℕ) (choice : Decision) (st : Stand) → may_try st ≡ true → failures st < attempts → schedule_move s job pod attempts (Chosen choice) st ≡ Some (chosen_event s pod choice)
+chosen_moves : (s : State) (job : ℕ) (pod : Key) (attempts : ℕ) (choice : Decision) (st : JobState) → may_try st ≡ true → failures st < attempts → schedule_move s job pod attempts (Chosen choice) st ≡ Some (chosen_event s pod choice)
 chosen_moves s job pod attempts choice stand.Fresh may left = refl
 chosen_moves s job pod attempts choice (stand.Reserved k) may left = absurd cc
 chosen_moves s job pod attempts choice (stand.Conflicted k) may left = absurd cc

@@ -7,9 +7,9 @@ use Rattle.object_fields.specs.declared.key.Key.{Key}
 use Rattle.pool_view.specs.Names.{at_key}
 use Rattle.cluster.specs.declared.entry.Entry.{Entry}
 use Rattle.cluster.specs.declared.entry.Event.{Event}
-use Rattle.cluster.specs.declared.entry.Event.TheVariants.{Applied, Deleted, Reserved, Refused, Wrote, Conflict, Unreserved, Bound, Judged, Contended, Released, Adopted, Denied}
-use Rattle.cluster.specs.declared.entry.Stand.{Stand}
-use Rattle.cluster.specs.declared.entry.Stand.TheVariants as stand
+use Rattle.cluster.specs.declared.entry.Event.TheVariants.{Applied, Deleted, Reserved, Refused, Wrote, Conflict, Unreserved, Bound, VerdictGiven, Contended, Released, Adopted, Denied}
+use Rattle.cluster.specs.declared.entry.JobState.{JobState}
+use Rattle.cluster.specs.declared.entry.JobState.TheVariants as stand
 use Rattle.cluster.specs.declared.failure.Failure.{Failure}
 use Rattle.cluster.specs.declared.plan.Plan.{Plan}
 use Rattle.cluster.specs.declared.state.Phase.{Phase}
@@ -18,7 +18,7 @@ use Rattle.cluster.specs.Denied.{is_busy, is_user}
 use Rattle.cluster.specs.Events.{after, allows, stand_after}
 use Rattle.cluster.specs.History.{state_at, state_of, stand_of}
 use Rattle.cluster.specs.Reserved.{with_reserved}
-use Rattle.cluster.specs.Stand.{has_reserved}
+use Rattle.cluster.specs.JobState.{has_reserved}
 use Rattle.cluster.specs.State.{is_idle, version_of}
 use Rattle.cluster.specs.Wrote.{with_written}
 use Rattle.alloc_rules.specs.Plans.{PlanTrue}
@@ -43,7 +43,7 @@ pub record Laws : Type 0 where
   pub idle : (h : List Entry) (pod : Key) → Legal h → is_busy (at_key (state_of h).pods pod) ≡ false → is_user (state_of h) pod ≡ false
   pub holds : (h : List Entry) (pod : Key) (plan : Plan) → Legal h → PlanTrue (state_of h) pod plan → failing (state_of h) pod plan ≡ None
 
-abbrev calm : Stand → Bool
+abbrev calm : JobState → Bool
 calm stand.Fresh = true
 calm (stand.Reserved k) = true
 calm (stand.Conflicted k) = false
@@ -78,14 +78,14 @@ here c h pod n q le t =
 state_here : (h : List Entry) (n : ℕ) → n ≡ length h → state_at h n ≡ state_of h
 state_here h n is = ap (λ (k : ℕ). state_at h k) is ∙ ap state_of (take_all (length h) h (omega arith))
 
-not_conflicted : (st : Stand) (pod : Key) → calm st ≡ true → allows st (Unreserved pod) ≡ true → ⊥
+not_conflicted : (st : JobState) (pod : Key) → calm st ≡ true → allows st (Unreserved pod) ≡ true → ⊥
 not_conflicted stand.Fresh pod is may = cc
 not_conflicted (stand.Reserved k) pod is may = cc
 not_conflicted (stand.Conflicted k) pod is may = cc
 not_conflicted (stand.Failed k) pod is may = cc
 not_conflicted (stand.Ended p) pod is may = cc
 
-not_failed : (st : Stand) (pod : Key) (n : ℕ) → calm st ≡ true → allows st (Contended pod n) ≡ true → ⊥
+not_failed : (st : JobState) (pod : Key) (n : ℕ) → calm st ≡ true → allows st (Contended pod n) ≡ true → ⊥
 not_failed stand.Fresh pod n is may = cc
 not_failed (stand.Reserved k) pod n is may = cc
 not_failed (stand.Conflicted k) pod n is may = cc
@@ -93,7 +93,7 @@ not_failed (stand.Failed k) pod n is may = cc
 not_failed (stand.Ended p) pod n is may = cc
 
 -- what an entry of the job leaves
-record After (pod : Key) (s' : State) (st' : Stand) (ev : Event) : Type 0 where
+record After (pod : Key) (s' : State) (st' : JobState) (ev : Event) : Type 0 where
   fine : is_setback ev ≡ false
   stands : calm st' ≡ true
   steady : has_reserved st' ≡ true → Steady pod s'.claims
@@ -101,7 +101,7 @@ record After (pod : Key) (s' : State) (st' : Stand) (ev : Event) : Type 0 where
 pod_is : (p pod : Key) (a b : ℕ) → Schedule p a ≡ Schedule pod b → p ≡ pod
 pod_is p pod a b e = cc
 
-own_after : Laws → (c : Run) (pod : Key) (attempts : ℕ) (h : List Entry) (st : Stand) (place job : ℕ) (ev : Event) → c.command ≡ Schedule pod attempts → Legal h → Calm c pod h → c.from ≤ length h → stand_of h c.job ≡ st
+own_after : Laws → (c : Run) (pod : Key) (attempts : ℕ) (h : List Entry) (st : JobState) (place job : ℕ) (ev : Event) → c.command ≡ Schedule pod attempts → Legal h → Calm c pod h → c.from ≤ length h → stand_of h c.job ≡ st
     → allows st ev ≡ true → MayStand h job ev → JobStep c h ev → After pod (after place job ev (state_of h)) (stand_after st place ev) ev
 own_after laws c pod attempts h st place job (Applied object mode) cmd legal q le sd may stands k = record { fine = refl; stands = refl; steady = λ held. absurd cc }
 own_after laws c pod attempts h st place job (Deleted target) cmd legal q le sd may stands k = record { fine = refl; stands = refl; steady = λ held. absurd cc }
@@ -129,7 +129,7 @@ own_after laws c pod attempts h st place job (Conflict p claim had now) cmd lega
     absurd (stands.differ (sym fits ∙ sym stands.version))
 own_after laws c pod attempts h st place job (Unreserved p) cmd legal q le sd may stands k = absurd (not_conflicted st p (ap calm (sym sd) ∙ q.stands) may)
 own_after laws c pod attempts h st place job (Bound p node) cmd legal q le sd may stands k = record { fine = refl; stands = refl; steady = λ held. absurd cc }
-own_after laws c pod attempts h st place job (Judged p v) cmd legal q le sd may stands k = record { fine = refl; stands = refl; steady = λ held. absurd cc }
+own_after laws c pod attempts h st place job (VerdictGiven p v) cmd legal q le sd may stands k = record { fine = refl; stands = refl; steady = λ held. absurd cc }
 own_after laws c pod attempts h st place job (Contended p n) cmd legal q le sd may stands k = absurd (not_failed st p n (ap calm (sym sd) ∙ q.stands) may)
 own_after laws c pod attempts h st place job (Released p) cmd legal q le sd may stands k = record { fine = refl; stands = refl; steady = λ held. absurd cc }
 own_after laws c pod attempts h st place job (Adopted claim status) cmd legal q le sd may stands k = record { fine = refl; stands = refl; steady = λ held. absurd cc }
@@ -217,7 +217,7 @@ setback_schedules attempts (Wrote pod claim seen) e = refl
 setback_schedules attempts (Conflict pod claim had now) e = absurd cc
 setback_schedules attempts (Unreserved pod) e = absurd cc
 setback_schedules attempts (Bound pod node) e = refl
-setback_schedules attempts (Judged pod verdict) e = refl
+setback_schedules attempts (VerdictGiven pod verdict) e = refl
 setback_schedules attempts (Contended pod failed) e = absurd cc
 setback_schedules attempts (Released pod) e = refl
 setback_schedules attempts (Adopted claim status) e = refl

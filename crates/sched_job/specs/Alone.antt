@@ -2,7 +2,7 @@
 use Rattle.std.specs.Prelude.{ℕ, ◌≡◌, ◌≤◌, Bool, true, false, List, [], length}
 use Rattle.cluster.specs.declared.entry.Entry.{Entry}
 use Rattle.cluster.specs.declared.entry.Event.{Event}
-use Rattle.cluster.specs.declared.entry.Event.TheVariants.{Applied, Deleted, Reserved, Refused, Wrote, Conflict, Unreserved, Bound, Judged, Contended, Released, Adopted, Denied}
+use Rattle.cluster.specs.declared.entry.Event.TheVariants.{Applied, Deleted, Reserved, Refused, Wrote, Conflict, Unreserved, Bound, VerdictGiven, Contended, Released, Adopted, Denied}
 use Rattle.sched_job.specs.Histories.{Each}
 
 -- all entries past the first ones are the job's
@@ -20,7 +20,7 @@ is_setback (Wrote pod claim seen) = false
 is_setback (Conflict pod claim had now) = true
 is_setback (Unreserved pod) = true
 is_setback (Bound pod node) = false
-is_setback (Judged pod verdict) = false
+is_setback (VerdictGiven pod verdict) = false
 is_setback (Contended pod failed) = true
 is_setback (Released pod) = false
 is_setback (Adopted claim status) = false

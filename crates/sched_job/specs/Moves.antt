@@ -5,18 +5,18 @@ use Rattle.pool_view.specs.Names.{at_key}
 use Rattle.cluster.specs.declared.entry.Command.TheVariants as asked
 use Rattle.cluster.specs.declared.entry.Entry.{Entry}
 use Rattle.cluster.specs.declared.entry.Event.{Event}
-use Rattle.cluster.specs.declared.entry.Event.TheVariants.{Unreserved, Bound, Judged, Contended, Denied}
+use Rattle.cluster.specs.declared.entry.Event.TheVariants.{Unreserved, Bound, VerdictGiven, Contended, Denied}
 use Rattle.cluster.specs.declared.entry.Refusal.{Refusal}
 use Rattle.cluster.specs.declared.entry.Refusal.TheVariants as refusal
-use Rattle.cluster.specs.declared.entry.Stand.{Stand}
-use Rattle.cluster.specs.declared.entry.Stand.TheVariants as stand
+use Rattle.cluster.specs.declared.entry.JobState.{JobState}
+use Rattle.cluster.specs.declared.entry.JobState.TheVariants as stand
 use Rattle.cluster.specs.declared.state.Phase.{Phase}
 use Rattle.cluster.specs.declared.state.Phase.TheVariants as phase
 use Rattle.cluster.specs.declared.state.PodState.{PodState}
 use Rattle.cluster.specs.declared.state.State.{State}
 use Rattle.cluster.specs.Denied.{first_refusal}
 use Rattle.cluster.specs.History.{state_of, stand_of}
-use Rattle.cluster.specs.Stand.{is_fresh}
+use Rattle.cluster.specs.JobState.{is_fresh}
 use Rattle.cluster.specs.State.{claims_of, has_written, taken_node}
 use Rattle.alloc_rules.specs.declared.decision.Decision.{Decision}
 use Rattle.alloc_rules.specs.declared.decision.Decision.TheVariants.{Reserve, Judge}
@@ -24,7 +24,7 @@ use Rattle.ledger_core.specs.Adopted.{adoption}
 use Rattle.ledger_core.specs.Applied.{application}
 use Rattle.ledger_core.specs.Conflict.{status_event}
 use Rattle.ledger_core.specs.Deleted.{deletion}
-use Rattle.ledger_core.specs.Judged.{MayJudge}
+use Rattle.ledger_core.specs.VerdictGiven.{MayJudge}
 use Rattle.ledger_core.specs.Ledger.{History, appended}
 use Rattle.ledger_core.specs.Released.{release_of}
 use Rattle.ledger_core.specs.Reserved.{IsPlanned, reservation}
@@ -90,7 +90,7 @@ give_up_move s job pod = if taken_by job (at_key s.pods pod) then Some (Unreserv
 -- what a search found comes to
 abbrev pub chosen_event : State → Key → Decision → Event
 chosen_event s pod (Reserve plan) = reservation s pod plan
-chosen_event s pod (Judge verdict) = Judged pod verdict
+chosen_event s pod (Judge verdict) = VerdictGiven pod verdict
 
 abbrev pub denial_by : Key → Option Refusal → Option Event
 denial_by pod None = None
@@ -108,7 +108,7 @@ try_move s pod (stage.Chosen choice) = Some (chosen_event s pod choice)
 
 -- ---- a turn
 
-abbrev pub schedule_move : State → ℕ → Key → ℕ → Stage → Stand → Option Event
+abbrev pub schedule_move : State → ℕ → Key → ℕ → Stage → JobState → Option Event
 schedule_move s job pod attempts stage stand.Fresh = try_move s pod stage
 schedule_move s job pod attempts stage (stand.Reserved failed) = finish_move s job pod
 schedule_move s job pod attempts stage (stand.Conflicted failed) = give_up_move s job pod
@@ -116,10 +116,10 @@ schedule_move s job pod attempts stage (stand.Failed failed) = if nat_le attempt
 schedule_move s job pod attempts stage (stand.Ended place) = None
 
 -- the one event of a job that isn't to schedule a pod
-abbrev pub once : Stand → Event → Option Event
+abbrev pub once : JobState → Event → Option Event
 once st event = if is_fresh st then Some event else None
 
-abbrev pub move_by : State → ℕ → Stage → Stand → Command → Option Event
+abbrev pub move_by : State → ℕ → Stage → JobState → Command → Option Event
 move_by s job stage st (command.Apply object mode) = once st (application s object mode)
 move_by s job stage st (command.Invalid error) = once st (Denied (asked.Invalid error) refusal.Invalid)
 move_by s job stage st (command.Delete target) = once st (deletion s target)
@@ -143,18 +143,18 @@ tried h None = looked h
 tried h (Some event) = stage.Ready
 
 -- the job has attempts left, and none is under way
-abbrev pub tries : ℕ → Stand → Bool
+abbrev pub tries : ℕ → JobState → Bool
 tries attempts stand.Fresh = true
 tries attempts (stand.Reserved failed) = false
 tries attempts (stand.Conflicted failed) = false
 tries attempts (stand.Failed failed) = if nat_le attempts failed then false else true
 tries attempts (stand.Ended place) = false
 
-abbrev pub schedule_stage : List Entry → Stand → ℕ → Option Event → Stage
+abbrev pub schedule_stage : List Entry → JobState → ℕ → Option Event → Stage
 schedule_stage h st attempts None = if tries attempts st then looked h else stage.Ready
 schedule_stage h st attempts (Some event) = stage.Ready
 
-abbrev pub stage_by : List Entry → Stand → Command → Option Event → Stage
+abbrev pub stage_by : List Entry → JobState → Command → Option Event → Stage
 stage_by h st (command.Apply object mode) event = stage.Ready
 stage_by h st (command.Invalid error) event = stage.Ready
 stage_by h st (command.Delete target) event = stage.Ready
@@ -172,7 +172,7 @@ answer_by (stage.Seen seen) = next.Think
 answer_by (stage.Chosen choice) = next.Again
 
 -- how a job goes on that has come so far
-abbrev pub answer : Stand → Stage → Next
+abbrev pub answer : JobState → Stage → Next
 answer stand.Fresh stage = answer_by stage
 answer (stand.Reserved failed) stage = answer_by stage
 answer (stand.Conflicted failed) stage = answer_by stage

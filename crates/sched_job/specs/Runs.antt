@@ -5,13 +5,13 @@ use Rattle.cluster.specs.declared.entry.Command.TheVariants as asked
 use Rattle.cluster.specs.declared.entry.Command.{Command as Asked}
 use Rattle.cluster.specs.declared.entry.Entry.{Entry}
 use Rattle.cluster.specs.declared.entry.Event.{Event}
-use Rattle.cluster.specs.declared.entry.Event.TheVariants.{Applied, Deleted, Reserved, Refused, Wrote, Conflict, Unreserved, Bound, Judged, Contended, Released, Adopted, Denied}
-use Rattle.cluster.specs.declared.entry.Stand.{Stand}
-use Rattle.cluster.specs.declared.entry.Stand.TheVariants as stand
+use Rattle.cluster.specs.declared.entry.Event.TheVariants.{Applied, Deleted, Reserved, Refused, Wrote, Conflict, Unreserved, Bound, VerdictGiven, Contended, Released, Adopted, Denied}
+use Rattle.cluster.specs.declared.entry.JobState.{JobState}
+use Rattle.cluster.specs.declared.entry.JobState.TheVariants as stand
 use Rattle.cluster.specs.declared.plan.Plan.{Plan}
 use Rattle.cluster.specs.declared.plan.Verdict.{Verdict}
 use Rattle.cluster.specs.History.{state_at, stand_of}
-use Rattle.cluster.specs.Stand.{failures, may_try}
+use Rattle.cluster.specs.JobState.{failures, may_try}
 use Rattle.alloc_rules.specs.declared.decision.Decision.{Decision}
 use Rattle.alloc_rules.specs.declared.decision.Decision.TheVariants.{Reserve, Judge}
 use Rattle.alloc_rules.specs.Plans.{PlanBy, PlanTrue, VerdictBy, VerdictTrue}
@@ -67,7 +67,7 @@ command_of attempts (Wrote pod claim seen) = Schedule pod attempts
 command_of attempts (Conflict pod claim had now) = Schedule pod attempts
 command_of attempts (Unreserved pod) = Schedule pod attempts
 command_of attempts (Bound pod node) = Schedule pod attempts
-command_of attempts (Judged pod verdict) = Schedule pod attempts
+command_of attempts (VerdictGiven pod verdict) = Schedule pod attempts
 command_of attempts (Contended pod failed) = Schedule pod attempts
 command_of attempts (Released pod) = Release pod
 command_of attempts (Adopted claim status) = Adopt claim status
@@ -103,7 +103,7 @@ Timed c before (Wrote pod claim seen) = Unit {0}
 Timed c before (Conflict pod claim had now) = Unit {0}
 Timed c before (Unreserved pod) = Unit {0}
 Timed c before (Bound pod node) = Unit {0}
-Timed c before (Judged pod verdict) = TriedVerdict c before pod verdict
+Timed c before (VerdictGiven pod verdict) = TriedVerdict c before pod verdict
 Timed c before (Contended pod failed) = failed ≡ attempts_of c.command
 Timed c before (Released pod) = Unit {0}
 Timed c before (Adopted claim status) = Unit {0}
@@ -125,7 +125,7 @@ pub record JobRun (c : Run) (h : List Entry) : Type 0 where
   pub place : ℕ
   pub ended : stand_of h c.job ≡ stand.Ended place
 
-abbrev pub is_ended : Stand → Bool
+abbrev pub is_ended : JobState → Bool
 is_ended stand.Fresh = false
 is_ended (stand.Reserved failed) = false
 is_ended (stand.Conflicted failed) = false
@@ -150,7 +150,7 @@ pub record HasFailed (c : Command) (failed : ℕ) : Type 0 where
   pub within : failed ≤ attempts_of c
 
 -- how far a job may have come
-abbrev pub Counted : Command → Stand → Type 0
+abbrev pub Counted : Command → JobState → Type 0
 Counted c stand.Fresh = Unit {0}
 Counted c (stand.Reserved failed) = IsUnderWay c failed
 Counted c (stand.Conflicted failed) = IsUnderWay c failed

@@ -3,8 +3,8 @@ use Rattle.std.specs.Prelude.{ℕ, ◌+◌, ◌-◌, ◌*◌, List, [], ◌∷�
 use Rattle.object_fields.specs.declared.key.Key.{Key}
 use Rattle.pool_view.specs.Names.{at_key}
 use Rattle.cluster.specs.declared.entry.Entry.{Entry}
-use Rattle.cluster.specs.declared.entry.Stand.{Stand}
-use Rattle.cluster.specs.declared.entry.Stand.TheVariants as stand
+use Rattle.cluster.specs.declared.entry.JobState.{JobState}
+use Rattle.cluster.specs.declared.entry.JobState.TheVariants as stand
 use Rattle.cluster.specs.declared.state.PodState.{PodState}
 use Rattle.cluster.specs.declared.state.State.{State}
 use Rattle.cluster.specs.History.{state_of, stand_of}
@@ -39,7 +39,7 @@ waits Ready = 1
 waits (Seen seen) = 1
 waits (Chosen choice) = 0
 
-abbrev pub attempts_left : State → Key → ℕ → Stage → Stand → ℕ
+abbrev pub attempts_left : State → Key → ℕ → Stage → JobState → ℕ
 attempts_left s pod attempts kept stand.Fresh = attempt_turns * attempts + waits kept
 attempts_left s pod attempts kept (stand.Reserved failed) = attempt_turns * (attempts - failed - 1) + 2 + unwritten s pod
 attempts_left s pod attempts kept (stand.Conflicted failed) = attempt_turns * (attempts - failed - 1) + 2
@@ -47,14 +47,14 @@ attempts_left s pod attempts kept (stand.Failed failed) = attempt_turns * (attem
 attempts_left s pod attempts kept (stand.Ended place) = 0
 
 -- a job that isn't to schedule a pod makes one entry
-abbrev pub once_left : Stand → ℕ
+abbrev pub once_left : JobState → ℕ
 once_left stand.Fresh = 1
 once_left (stand.Reserved failed) = 1
 once_left (stand.Conflicted failed) = 1
 once_left (stand.Failed failed) = 1
 once_left (stand.Ended place) = 0
 
-abbrev pub left_by : State → Stage → Stand → Command → ℕ
+abbrev pub left_by : State → Stage → JobState → Command → ℕ
 left_by s kept st (Apply object mode) = once_left st
 left_by s kept st (Invalid error) = once_left st
 left_by s kept st (Delete target) = once_left st

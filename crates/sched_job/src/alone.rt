@@ -1,5 +1,5 @@
 ghost use Rattle.std.specs.Prelude.{◌≡◌, ◌≤◌, ◌<◌, ◌+◌, ◌*◌, ◌∷◌, [], ℕ, length, IfOk, OnOk, OnErr, IsErrOf};
-ghost use Rattle.cluster.specs.declared.entry.Stand.TheVariants.{Ended, Fresh};
+ghost use Rattle.cluster.specs.declared.entry.JobState.TheVariants.{Ended, Fresh};
 ghost use Rattle.cluster.specs.History.{stand_of};
 ghost use Rattle.ledger_core.specs.Legal.{Legal};
 ghost use Rattle.sched_job.specs.Alone.{NeverSetBack};
@@ -9,7 +9,7 @@ ghost use Rattle.sched_job.specs.Steps.{Extends, run_of};
 
 use crate::steps::go;
 use crate::{Command, Work, alone_is_undisturbed, turns_are_few};
-use cluster::Stand;
+use cluster::JobState;
 use ledger_core::{Ledger, LedgerError};
 use std::alloc::Global;
 
@@ -65,7 +65,7 @@ fn run_work(
     turns_are_few();
     let _len = ledger.len();
     'turns: loop {
-        if let Stand::Ended(place) = ledger.stand(work.job) {
+        if let JobState::Ended(place) = ledger.stand(work.job) {
             return Ok(place);
         }
         go(alloc, ledger, work, budget)?;

@@ -15,7 +15,7 @@ ghost use Rattle.ledger_core.specs.Ledger.{History};
 
 use crate::{Command, Next, Stage};
 use alloc_rules::plan_holds;
-use cluster::Stand;
+use cluster::JobState;
 use ledger_core::{
     histories_grow, legal_steps, objects_keep_limits, pods_stay_taken, uids_keep_claims,
     users_are_busy,
@@ -62,7 +62,7 @@ pub fn alone_is_undisturbed()
 /// entry of another job leaves it no more, and a new work has at most 35 for each attempt and one more:
 /// so a job whose entries are all made by one work ends within these, whatever other jobs do.
 pub fn turns_are_few()
-    ensures first { (h : List Entry) (w : Work) → stand_of h w.job ≡ Stand.Fresh → w.stage ≡ Stage.Ready → most_turns h w ≤ 35 * attempts_of w.command + 1 }
+    ensures first { (h : List Entry) (w : Work) → stand_of h w.job ≡ JobState.Fresh → w.stage ≡ Stage.Ready → most_turns h w ≤ 35 * attempts_of w.command + 1 }
     ensures fewer { (budget : ℕ) (c : Run) (H H' : History) (w w' : Work) → Legal H.entries → Legal H'.entries → Running c H.entries w → is_ended (stand_of H.entries w.job) ≡ false → OneTurn budget H H' w w' →
         most_turns H'.entries w' < most_turns H.entries w }
     ensures others { (c : Run) (h : List Entry) (w : Work) (e : Entry) → Legal (h ++ e ∷ []) → Running c h w → (e.job == c.job) ≡ false → most_turns (h ++ e ∷ []) w ≤ most_turns h w }

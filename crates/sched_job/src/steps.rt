@@ -7,16 +7,17 @@ ghost use Rattle.sched_job.specs.Runs.{Run, Running, is_ended};
 ghost use Rattle.sched_job.specs.Steps.{jobs_of, Differ, Extends, AllNew, AllFit, AllEnds, Ran, Went, WentAt, Walk};
 
 use crate::{Next, Work, runs_go_on};
-use cluster::Stand;
+use cluster::JobState;
 use ledger_core::{Ledger, LedgerError};
 use std::alloc::Global;
 
-fn is_ended(stand: Stand) -> bool
+fn is_ended(stand: JobState) -> bool
     ensures { result ≡ is_ended stand }
 {
     match stand {
-        Stand::Ended(_) => true,
-        Stand::Fresh | Stand::Reserved(_) | Stand::Conflicted(_) | Stand::Failed(_) => false,
+        JobState::Ended(_) => true,
+        JobState::Fresh | JobState::Reserved(_) | JobState::Conflicted(_) | JobState::Failed(_) =>
+            false,
     }
 }
 

@@ -3,7 +3,7 @@ ghost use Rattle.cluster.specs.declared.entry.Command.TheVariants.{Invalid};
 ghost use Rattle.cluster.specs.declared.entry.Event.TheVariants.{Denied};
 ghost use Rattle.cluster.specs.declared.entry.Refusal.TheVariants as refusal;
 ghost use Rattle.cluster.specs.History.{state_of, stand_of};
-ghost use Rattle.cluster.specs.Stand.{has_reserved, is_conflicted, is_fresh, may_try};
+ghost use Rattle.cluster.specs.JobState.{has_reserved, is_conflicted, is_fresh, may_try};
 ghost use Rattle.ledger_core.specs.Adopted.{adoption};
 ghost use Rattle.ledger_core.specs.Applied.{application};
 ghost use Rattle.ledger_core.specs.Deleted.{deletion};
@@ -15,7 +15,7 @@ use crate::due::{Due, due_of, is_taken};
 use crate::{Command, Stage};
 use alloc_rules::Decision;
 use api_claim::ClaimStatus;
-use cluster::{Mode, Ready, Stand, Target};
+use cluster::{JobState, Mode, Ready, Target};
 use ledger_core::{Done, Ledger, LedgerError, Start, pods_use_claims};
 use object_fields::{FieldError, Key};
 use std::alloc::Global;
@@ -59,12 +59,15 @@ pub fn step(
     }
 }
 
-fn is_fresh(stand: Stand) -> bool
+fn is_fresh(stand: JobState) -> bool
     ensures { result ≡ is_fresh stand }
 {
     match stand {
-        Stand::Fresh => true,
-        Stand::Reserved(_) | Stand::Conflicted(_) | Stand::Failed(_) | Stand::Ended(_) => false,
+        JobState::Fresh => true,
+        JobState::Reserved(_)
+        | JobState::Conflicted(_)
+        | JobState::Failed(_)
+        | JobState::Ended(_) => false,
     }
 }
 
@@ -92,12 +95,15 @@ fn deny(alloc: Global, ledger: &mut Ledger, job: u64, error: &FieldError) -> Res
     ensures err { OnErr result (ledger.new ≡ ledger.old) }
 {
     match ledger.stand(job) {
-        Stand::Fresh => {
+        JobState::Fresh => {
             let error = error.copy(alloc)?;
             ledger.deny(job, error)?;
             Ok(())
         }
-        Stand::Reserved(_) | Stand::Conflicted(_) | Stand::Failed(_) | Stand::Ended(_) => Ok(()),
+        JobState::Reserved(_)
+        | JobState::Conflicted(_)
+        | JobState::Failed(_)
+        | JobState::Ended(_) => Ok(()),
     }
 }
 
@@ -156,17 +162,17 @@ fn schedule(
     ensures err { OnErr result (ledger.new ≡ ledger.old) }
 {
     match ledger.stand(job) {
-        Stand::Ended(_) => Ok(Stage::Ready),
-        Stand::Reserved(_) => {
+        JobState::Ended(_) => Ok(Stage::Ready),
+        JobState::Reserved(_) => {
             finish(alloc, ledger, job, pod)?;
             Ok(Stage::Ready)
         }
-        Stand::Conflicted(_) => {
+        JobState::Conflicted(_) => {
             give_up(alloc, ledger, job, pod)?;
             Ok(Stage::Ready)
         }
-        Stand::Fresh => attempt(alloc, ledger, job, pod, stage),
-        Stand::Failed(failed) => {
+        JobState::Fresh => attempt(alloc, ledger, job, pod, stage),
+        JobState::Failed(failed) => {
             if attempts <= failed {
                 ledger.record_contended(alloc, job, pod)?;
                 Ok(Stage::Ready)

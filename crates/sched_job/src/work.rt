@@ -9,7 +9,7 @@ ghost use Rattle.sched_job.specs.Steps.{IsSearched, Thought, ThoughtOf};
 use crate::turns::step;
 use alloc_rules::{Decision, decide, may_schedule};
 use api_claim::ClaimStatus;
-use cluster::{Mode, Ready, Stand, Target};
+use cluster::{JobState, Mode, Ready, Target};
 use ledger_core::{Ledger, LedgerError, Snapshot, histories_grow, legal_steps};
 use object_fields::{FieldError, Key};
 use std::alloc::{AllocError, Global};
@@ -115,15 +115,16 @@ impl Work {
     }
 }
 
-fn answer(stand: Stand, stage: &Stage) -> Next
+fn answer(stand: JobState, stage: &Stage) -> Next
     ensures { result ≡ answer stand stage.now }
 {
     match stand {
-        Stand::Ended(place) => Next::Ended(place),
-        Stand::Fresh | Stand::Reserved(_) | Stand::Conflicted(_) | Stand::Failed(_) => match stage {
-            Stage::Seen(_) => Next::Think,
-            Stage::Ready | Stage::Chosen(_) => Next::Again,
-        },
+        JobState::Ended(place) => Next::Ended(place),
+        JobState::Fresh | JobState::Reserved(_) | JobState::Conflicted(_) | JobState::Failed(_) =>
+            match stage {
+                Stage::Seen(_) => Next::Think,
+                Stage::Ready | Stage::Chosen(_) => Next::Again,
+            },
     }
 }
 

@@ -12,8 +12,8 @@ use Rattle.serde_json.specs.Find.{as_str}
 use Rattle.object_fields.specs.Fields.{error_at, field_at, field_error, member_of, object_value, some_or, table_at, text_at, unless, ◌>>=◌}
 use Rattle.object_fields.specs.NewNames.{is_among}
 use Rattle.object_fields.specs.declared.error.FieldError.{FieldError}
-use Rattle.object_fields.specs.declared.kind.Kind.{Kind}
-use Rattle.object_fields.specs.declared.kind.Kind.TheVariants.{Doubled, Missing, TooMany, Unknown, WrongType}
+use Rattle.object_fields.specs.declared.kind.FieldErrorKind.{FieldErrorKind}
+use Rattle.object_fields.specs.declared.kind.FieldErrorKind.TheVariants.{Doubled, Missing, TooMany, Unknown, WrongType}
 use Rattle.object_fields.specs.declared.path.Step.{Step}
 use Rattle.object_fields.specs.declared.path.Step.TheVariants as step
 use Rattle.api_slice.specs.Amounts.{amount_of}
@@ -62,7 +62,7 @@ among_draws : (name : List ℕ) (draws : List CounterConsumption) → draws_on n
 among_draws name [] = refl
 among_draws name (c ∷ cs) = ap (λ b. bytes_eq c.set name || b) (among_draws name cs)
 
-never_amounts : (kind : Kind) → Plain kind → (counters : List (List ℕ × ℤ)) (path : List Step) (amounts : List (List ℕ × ℤ)) (ms : Members) → Never kind (amounts_with counters path amounts ms)
+never_amounts : (kind : FieldErrorKind) → Plain kind → (counters : List (List ℕ × ℤ)) (path : List Step) (amounts : List (List ℕ × ℤ)) (ms : Members) → Never kind (amounts_with counters path amounts ms)
 never_amounts kind p counters path amounts no_members = never_done kind amounts
 never_amounts kind p counters path amounts (member key d ms) =
     never_then kind (known_counter (path ++ step.Key key ∷ []) counters key) (λ name. amount_of (path ++ step.Key key ∷ []) d >>= λ amount. amounts_with counters path (insert_entry (slice_cmp nat_cmp) amounts name amount) ms)
@@ -151,7 +151,7 @@ never_rest path at met d s =
     (λ more. never_then Doubled (amounts_with s.counters (at ++ step.Member (codes "counters") ∷ []) [] ms) (λ amounts. with_count amounts more) (never_amounts Doubled not_doubled s.counters (at ++ step.Member (codes "counters") ∷ []) [] ms) (λ amounts. never_counted Doubled amounts more))))
     (λ c. never_counted Doubled (made_draw s c.0) c.1)
 
-never_said : (kind : Kind) → Plain kind → (at : List Step) (d : Data) → Never kind (object_value at d >>= text_at at (codes "counterSet"))
+never_said : (kind : FieldErrorKind) → Plain kind → (at : List Step) (d : Data) → Never kind (object_value at d >>= text_at at (codes "counterSet"))
 never_said kind p at d = never_then kind (object_value at d) (text_at at (codes "counterSet")) (never_object kind p at d) (λ v. never_text kind p at (codes "counterSet") v)
 
 draw_doubled : Labels → (all : List CounterSet) (path at : List Step) (met : ℕ) (before : List CounterConsumption) (d : Data) (e : FieldError) → draw_step all path at met before d ≡ Err e → e.kind ≡ Doubled → IsTakenText (codes "counterSet") at (map draw_text before) d e

@@ -15,8 +15,8 @@ use Rattle.object_fields.specs.Fields.{dns_label_at, error_at, field_at, field_e
 use Rattle.object_fields.specs.Names.{is_dns_label, label_most}
 use Rattle.object_fields.specs.NewNames.{is_among, label_of}
 use Rattle.object_fields.specs.declared.error.FieldError.{FieldError}
-use Rattle.object_fields.specs.declared.kind.Kind.{Kind}
-use Rattle.object_fields.specs.declared.kind.Kind.TheVariants.{BadName, BadQuantity, BadVersion, Doubled, Missing, NotOne, NotSupported, OutOfRange, TooLong, TooMany, Unknown, WrongType}
+use Rattle.object_fields.specs.declared.kind.FieldErrorKind.{FieldErrorKind}
+use Rattle.object_fields.specs.declared.kind.FieldErrorKind.TheVariants.{BadName, BadQuantity, BadVersion, Doubled, Missing, NotOne, NotSupported, OutOfRange, TooLong, TooMany, Unknown, WrongType}
 use Rattle.object_fields.specs.declared.path.Step.{Step}
 use Rattle.object_fields.specs.declared.path.Step.TheVariants as step
 use Rattle.api_slice.specs.Amounts.{amount_of, not_negative, ones_most, quantity_at, quantity_kind, quantity_of, quantity_or, whole_quantity}
@@ -32,7 +32,7 @@ use Rattle.slice_laws.proofs.Read.{along, gave, kept, the_same, was_some}
 -- ---- errors that a reading never has
 
 -- a kind that a single field is never refused with
-pub record Plain (kind : Kind) : Type 0 where
+pub record Plain (kind : FieldErrorKind) : Type 0 where
   pub missing : Missing ≡ kind → ⊥
   pub wrong : WrongType ≡ kind → ⊥
   pub long : TooLong ≡ kind → ⊥
@@ -57,17 +57,17 @@ abbrev pub failed : {A : Type 0} → FieldError → Result A FieldError
 failed e = Err e
 
 -- no error of that kind
-abbrev pub Never : {A : Type 0} → Kind → Result A FieldError → Type 0
+abbrev pub Never : {A : Type 0} → FieldErrorKind → Result A FieldError → Type 0
 Never kind r = (e : FieldError) → r ≡ Err e → e.kind ≡ kind → ⊥
 
-pub never_then : {A B : Type 0} (kind : Kind) (x : Result A FieldError) (f : A → Result B FieldError) → Never kind x → ((a : A) → Never kind (f a)) → Never kind (x >>= f)
+pub never_then : {A B : Type 0} (kind : FieldErrorKind) (x : Result A FieldError) (f : A → Result B FieldError) → Never kind x → ((a : A) → Never kind (f a)) → Never kind (x >>= f)
 never_then kind (Ok a) f p q e h k = q a e h k
 never_then kind (Err g) f p q e h k = let same : g ≡ e = cc in p e (ap Err same) k
 
-pub never_err : {A : Type 0} (kind : Kind) (g : FieldError) → (g.kind ≡ kind → ⊥) → Never kind (failed {A = A} g)
+pub never_err : {A : Type 0} (kind : FieldErrorKind) (g : FieldError) → (g.kind ≡ kind → ⊥) → Never kind (failed {A = A} g)
 never_err kind g n e h k = let same : g ≡ e = cc in n (ap (λ (x : FieldError). x.kind) same ∙ k)
 
-pub never_some : {A : Type 0} (kind : Kind) (g : FieldError) (o : Option A) → (g.kind ≡ kind → ⊥) → Never kind (some_or g o)
+pub never_some : {A : Type 0} (kind : FieldErrorKind) (g : FieldError) (o : Option A) → (g.kind ≡ kind → ⊥) → Never kind (some_or g o)
 never_some kind g (Some x) n e h k = let no_value : ⊥ = cc in no_value
 never_some kind g None n e h k = let same : g ≡ e = cc in n (ap (λ (x : FieldError). x.kind) same ∙ k)
 
@@ -79,62 +79,62 @@ with_count a n = Ok (a, n)
 abbrev pub counted_or : {A : Type 0} → FieldError → Bool → A → ℕ → Result (A × ℕ) FieldError
 counted_or e b a n = unless e b (a, n)
 
-pub never_done : {A : Type 0} (kind : Kind) (x : A) → Never kind (done x)
+pub never_done : {A : Type 0} (kind : FieldErrorKind) (x : A) → Never kind (done x)
 never_done kind x e h k = let no_value : ⊥ = cc in no_value
 
-pub never_counted : {A : Type 0} (kind : Kind) (a : A) (n : ℕ) → Never kind (with_count a n)
+pub never_counted : {A : Type 0} (kind : FieldErrorKind) (a : A) (n : ℕ) → Never kind (with_count a n)
 never_counted kind a n e h k = let no_value : ⊥ = cc in no_value
 
-pub never_unless : {A : Type 0} (kind : Kind) (g : FieldError) (b : Bool) (x : A) → (g.kind ≡ kind → ⊥) → Never kind (unless g b x)
+pub never_unless : {A : Type 0} (kind : FieldErrorKind) (g : FieldError) (b : Bool) (x : A) → (g.kind ≡ kind → ⊥) → Never kind (unless g b x)
 never_unless kind g true x n e h k = let same : g ≡ e = cc in n (ap (λ (y : FieldError). y.kind) same ∙ k)
 never_unless kind g false x n e h k = let no_value : ⊥ = cc in no_value
 
-never_judged : (kind : Kind) (a b : Bool) (g1 g2 : FieldError) (t : List ℕ) → (g1.kind ≡ kind → ⊥) → (g2.kind ≡ kind → ⊥) → Never kind (if a then Err g1 else (if b then Ok t else Err g2))
+never_judged : (kind : FieldErrorKind) (a b : Bool) (g1 g2 : FieldError) (t : List ℕ) → (g1.kind ≡ kind → ⊥) → (g2.kind ≡ kind → ⊥) → Never kind (if a then Err g1 else (if b then Ok t else Err g2))
 never_judged kind true b g1 g2 t n m e h k = let same : g1 ≡ e = cc in n (ap (λ (x : FieldError). x.kind) same ∙ k)
 never_judged kind false true g1 g2 t n m e h k = let no_value : ⊥ = cc in no_value
 never_judged kind false false g1 g2 t n m e h k = let same : g2 ≡ e = cc in m (ap (λ (x : FieldError). x.kind) same ∙ k)
 
-pub never_field : (kind : Kind) → Plain kind → (path : List Step) (name : List ℕ) (d : Data) → Never kind (field_at path name d)
+pub never_field : (kind : FieldErrorKind) → Plain kind → (path : List Step) (name : List ℕ) (d : Data) → Never kind (field_at path name d)
 never_field kind p path name d = never_some kind (field_error path name Missing) (member_of name d) p.missing
 
-pub never_table : (kind : Kind) → Plain kind → (path : List Step) (name : List ℕ) (d : Data) → Never kind (table_at path name d)
+pub never_table : (kind : FieldErrorKind) → Plain kind → (path : List Step) (name : List ℕ) (d : Data) → Never kind (table_at path name d)
 never_table kind p path name d = never_then kind (field_at path name d) (λ v. some_or (field_error path name WrongType) (as_object v)) (never_field kind p path name d) (λ v. never_some kind (field_error path name WrongType) (as_object v) p.wrong)
 
-pub never_text : (kind : Kind) → Plain kind → (path : List Step) (name : List ℕ) (d : Data) → Never kind (text_at path name d)
+pub never_text : (kind : FieldErrorKind) → Plain kind → (path : List Step) (name : List ℕ) (d : Data) → Never kind (text_at path name d)
 never_text kind p path name d = never_then kind (field_at path name d) (λ v. some_or (field_error path name WrongType) (as_str v)) (never_field kind p path name d) (λ v. never_some kind (field_error path name WrongType) (as_str v) p.wrong)
 
-pub never_object : (kind : Kind) → Plain kind → (path : List Step) (d : Data) → Never kind (object_value path d)
+pub never_object : (kind : FieldErrorKind) → Plain kind → (path : List Step) (d : Data) → Never kind (object_value path d)
 never_object kind p path d =
     never_then kind (table_value path d) (λ ms. Ok (object ms))
     (never_then kind (value_at path d) (λ v. some_or (error_at path WrongType) (as_object v)) (never_some kind (error_at path Missing) (not_null d) p.missing) (λ v. never_some kind (error_at path WrongType) (as_object v) p.wrong))
     (λ ms. never_done kind (object ms))
 
-never_name : (kind : Kind) → Plain kind → (path : List Step) (key : List ℕ) → Never kind (name_in path label_most is_dns_label key)
+never_name : (kind : FieldErrorKind) → Plain kind → (path : List Step) (key : List ℕ) → Never kind (name_in path label_most is_dns_label key)
 never_name kind p path key = never_judged kind (nat_lt label_most (length key)) (is_dns_label key) (error_at path TooLong) (error_at path BadName) key p.long p.bad
 
-never_label : (kind : Kind) → Plain kind → (path : List Step) (d : Data) → Never kind (label_of path d)
+never_label : (kind : FieldErrorKind) → Plain kind → (path : List Step) (d : Data) → Never kind (label_of path d)
 never_label kind p path d =
     never_then kind (object_value path d) (dns_label_at path (codes "name")) (never_object kind p path d)
     (λ v. never_then kind (text_at path (codes "name") v) (name_in (path ++ step.Member (codes "name") ∷ []) label_most is_dns_label) (never_text kind p path (codes "name") v) (λ t. never_name kind p (path ++ step.Member (codes "name") ∷ []) t))
 
-never_kind : (kind : Kind) → Plain kind → (e : QuantityError) → quantity_kind e ≡ kind → ⊥
+never_kind : (kind : FieldErrorKind) → Plain kind → (e : QuantityError) → quantity_kind e ≡ kind → ⊥
 never_kind kind p quantity.BadText h = p.quantity h
 never_kind kind p quantity.TooPrecise h = p.quantity h
 never_kind kind p quantity.OutOfRange h = p.out h
 
-never_quantity_or : (kind : Kind) → Plain kind → (path : List Step) (r : Result ℤ QuantityError) → Never kind (quantity_or path r)
+never_quantity_or : (kind : FieldErrorKind) → Plain kind → (path : List Step) (r : Result ℤ QuantityError) → Never kind (quantity_or path r)
 never_quantity_or kind p path (Ok n) e h k = let no_value : ⊥ = cc in no_value
 never_quantity_or kind p path (Err g) e h k = let same : error_at path (quantity_kind g) ≡ e = cc in never_kind kind p g (ap (λ (x : FieldError). x.kind) same ∙ k)
 
-never_chosen : {A : Type 0} (kind : Kind) (b : Bool) (x : A) (g : FieldError) → (g.kind ≡ kind → ⊥) → Never kind (if b then Ok x else Err g)
+never_chosen : {A : Type 0} (kind : FieldErrorKind) (b : Bool) (x : A) (g : FieldError) → (g.kind ≡ kind → ⊥) → Never kind (if b then Ok x else Err g)
 never_chosen kind true x g n e h k = let no_value : ⊥ = cc in no_value
 never_chosen kind false x g n e h k = let same : g ≡ e = cc in n (ap (λ (y : FieldError). y.kind) same ∙ k)
 
-never_whole : (kind : Kind) → Plain kind → (path : List Step) (n : ℤ) → Never kind (whole_quantity path n)
+never_whole : (kind : FieldErrorKind) → Plain kind → (path : List Step) (n : ℤ) → Never kind (whole_quantity path n)
 never_whole kind p path (pos n) = never_chosen kind (nat_le n ones_most) (pos n *ℤ pos 1000000000) (error_at path OutOfRange) p.out
 never_whole kind p path (negsuc n) = never_chosen kind (nat_lt n ones_most) (negsuc n *ℤ pos 1000000000) (error_at path OutOfRange) p.out
 
-never_quantity_of : (kind : Kind) → Plain kind → (path : List Step) (d : Data) → Never kind (quantity_of path d)
+never_quantity_of : (kind : FieldErrorKind) → Plain kind → (path : List Step) (d : Data) → Never kind (quantity_of path d)
 never_quantity_of kind p path null = never_err kind (error_at path WrongType) p.wrong
 never_quantity_of kind p path (boolean b) = never_err kind (error_at path WrongType) p.wrong
 never_quantity_of kind p path (number n) = never_then kind (some_or (error_at path WrongType) (as_integer n)) (whole_quantity path) (never_some kind (error_at path WrongType) (as_integer n) p.wrong) (λ z. never_whole kind p path z)
@@ -142,20 +142,20 @@ never_quantity_of kind p path (string t) = never_quantity_or kind p path (quanti
 never_quantity_of kind p path (array ds) = never_err kind (error_at path WrongType) p.wrong
 never_quantity_of kind p path (object ms) = never_err kind (error_at path WrongType) p.wrong
 
-pub never_quantity : (kind : Kind) → Plain kind → (path : List Step) (name : List ℕ) (d : Data) → Never kind (quantity_at path name d)
+pub never_quantity : (kind : FieldErrorKind) → Plain kind → (path : List Step) (name : List ℕ) (d : Data) → Never kind (quantity_at path name d)
 never_quantity kind p path name d = never_then kind (field_at path name d) (quantity_of (path ++ step.Member name ∷ [])) (never_field kind p path name d) (λ v. never_quantity_of kind p (path ++ step.Member name ∷ []) v)
 
-never_not_negative : (kind : Kind) → Plain kind → (path : List Step) (z : ℤ) → Never kind (not_negative path z)
+never_not_negative : (kind : FieldErrorKind) → Plain kind → (path : List Step) (z : ℤ) → Never kind (not_negative path z)
 never_not_negative kind p path (pos n) = never_done kind (pos n)
 never_not_negative kind p path (negsuc n) = never_err kind (error_at path OutOfRange) p.out
 
-pub never_amount : (kind : Kind) → Plain kind → (path : List Step) (d : Data) → Never kind (amount_of path d)
+pub never_amount : (kind : FieldErrorKind) → Plain kind → (path : List Step) (d : Data) → Never kind (amount_of path d)
 never_amount kind p path d =
     never_then kind (object_value path d >>= quantity_at path (codes "value")) (not_negative (path ++ step.Member (codes "value") ∷ []))
     (never_then kind (object_value path d) (quantity_at path (codes "value")) (never_object kind p path d) (λ v. never_quantity kind p path (codes "value") v))
     (λ z. never_not_negative kind p (path ++ step.Member (codes "value") ∷ []) z)
 
-never_counters : (kind : Kind) → Plain kind → (path : List Step) (counters : List (List ℕ × ℤ)) (ms : Members) → Never kind (counters_with path counters ms)
+never_counters : (kind : FieldErrorKind) → Plain kind → (path : List Step) (counters : List (List ℕ × ℤ)) (ms : Members) → Never kind (counters_with path counters ms)
 unfolding counter_name
 never_counters kind p path counters no_members = never_done kind counters
 never_counters kind p path counters (member key d ms) =

@@ -17,8 +17,8 @@ use Rattle.object_fields.specs.Fields.{error_at, name_in, unless, ◌>>=◌}
 use Rattle.object_fields.specs.Names.{is_dns_name}
 use Rattle.object_fields.specs.Qualified.{cut_at, domain_most, id_most, is_c_identifier, qual_name_in, qualified_from}
 use Rattle.object_fields.specs.declared.error.FieldError.{FieldError}
-use Rattle.object_fields.specs.declared.kind.Kind.{Kind}
-use Rattle.object_fields.specs.declared.kind.Kind.TheVariants.{BadName, Doubled, TooLong}
+use Rattle.object_fields.specs.declared.kind.FieldErrorKind.{FieldErrorKind}
+use Rattle.object_fields.specs.declared.kind.FieldErrorKind.TheVariants.{BadName, Doubled, TooLong}
 use Rattle.object_fields.specs.declared.path.Step.{Step}
 use Rattle.object_fields.specs.declared.path.Step.TheVariants as step
 use Rattle.object_fields.specs.declared.qualified.QualName.{QualName}
@@ -139,19 +139,19 @@ means_by p q driver key (Some c) n h = pair_so (nat_lt domain_most (length c.0) 
 means_everywhere : (p : List Step) (driver key : List ℕ) (n : QualName) → qual_name_in p driver key ≡ Ok n → (q : List Step) → qual_name_in q driver key ≡ Ok n
 means_everywhere p driver key n h q = means_by p q driver key (cut_at 47 key) n h
 
-never_judged : {A : Type 0} (kind : Kind) → Plain kind → (a b : Bool) (p : List Step) (x : A) → Never kind (chosen a b p x)
+never_judged : {A : Type 0} (kind : FieldErrorKind) → Plain kind → (a b : Bool) (p : List Step) (x : A) → Never kind (chosen a b p x)
 never_judged kind q true b p x e h k = let same : error_at p TooLong ≡ e = cc in q.long (ap (λ (y : FieldError). y.kind) same ∙ k)
 never_judged kind q false true p x e h k = let no_value : ⊥ = cc in no_value
 never_judged kind q false false p x e h k = let same : error_at p BadName ≡ e = cc in q.bad (ap (λ (y : FieldError). y.kind) same ∙ k)
 
-never_meant : (kind : Kind) (driver id : List ℕ) → Never kind (meant_by driver id)
+never_meant : (kind : FieldErrorKind) (driver id : List ℕ) → Never kind (meant_by driver id)
 never_meant kind driver id e h k = let no_value : ⊥ = cc in no_value
 
-never_by : (kind : Kind) → Plain kind → (p : List Step) (driver key : List ℕ) (o : Option (List ℕ × List ℕ)) → Never kind (qualified_from p driver key o)
+never_by : (kind : FieldErrorKind) → Plain kind → (p : List Step) (driver key : List ℕ) (o : Option (List ℕ × List ℕ)) → Never kind (qualified_from p driver key o)
 never_by kind q p driver key None = never_then kind (name_in p id_most is_c_identifier key) (λ id. meant_by driver id) (never_judged kind q (nat_lt id_most (length key)) (is_c_identifier key) p key) (λ id. never_meant kind driver id)
 never_by kind q p driver key (Some c) = never_judged kind q (nat_lt domain_most (length c.0) || nat_lt id_most (length c.1)) (is_dns_name c.0 && is_c_identifier c.1) p (as_name c.0 c.1)
 
-pub never_key : (kind : Kind) → Plain kind → (p : List Step) (driver key : List ℕ) → Never kind (qual_name_in p driver key)
+pub never_key : (kind : FieldErrorKind) → Plain kind → (p : List Step) (driver key : List ℕ) → Never kind (qual_name_in p driver key)
 never_key kind q p driver key = never_by kind q p driver key (cut_at 47 key)
 
 -- ---- the table of a map, key by key

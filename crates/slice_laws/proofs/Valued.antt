@@ -8,8 +8,8 @@ use Rattle.serde_json.specs.Find.{as_bool, as_integer, as_number, get}
 use Rattle.object_fields.specs.Fields.{error_at, field_at, field_error, if_there, is_unset, member_of, object_value, optional_at, signed_at, some_or, table_at, text_at, truth_at, unless, unset_at, unset_or, whole_at, within_signed, ◌>>=◌}
 use Rattle.object_fields.specs.Qualified.{qual_name_in}
 use Rattle.object_fields.specs.declared.error.FieldError.{FieldError}
-use Rattle.object_fields.specs.declared.kind.Kind.{Kind}
-use Rattle.object_fields.specs.declared.kind.Kind.TheVariants.{BadVersion, Doubled, NotOne, NotSupported, OutOfRange, TooLong, TooMany, WrongType}
+use Rattle.object_fields.specs.declared.kind.FieldErrorKind.{FieldErrorKind}
+use Rattle.object_fields.specs.declared.kind.FieldErrorKind.TheVariants.{BadVersion, Doubled, NotOne, NotSupported, OutOfRange, TooLong, TooMany, WrongType}
 use Rattle.object_fields.specs.declared.path.Step.{Step}
 use Rattle.object_fields.specs.declared.path.Step.TheVariants as step
 use Rattle.object_fields.specs.declared.qualified.QualName.{QualName}
@@ -28,36 +28,36 @@ use Rattle.slice_laws.proofs.Renamed.{never_key, table_from}
 abbrev nothing_there : (A : Type 0) → Option A
 nothing_there A = None
 
-never_there : {A : Type 0} (kind : Kind) (o : Option Data) (r : Result A FieldError) → Never kind r → Never kind (if_there o r)
+never_there : {A : Type 0} (kind : FieldErrorKind) (o : Option Data) (r : Result A FieldError) → Never kind r → Never kind (if_there o r)
 never_there {A = A} kind None r n = never_done kind (nothing_there A)
 never_there kind (Some v) r n = never_then kind r (λ x. done (Some x)) n (λ x. never_done kind (Some x))
 
-never_whole : (kind : Kind) → Plain kind → (path : List Step) (name : List ℕ) (d : Data) → Never kind (whole_at path name d)
+never_whole : (kind : FieldErrorKind) → Plain kind → (path : List Step) (name : List ℕ) (d : Data) → Never kind (whole_at path name d)
 never_whole kind p path name d = never_then kind (field_at path name d) (λ v. some_or (field_error path name WrongType) (option_and_then as_integer (as_number v))) (never_field kind p path name d) (λ v. never_some kind (field_error path name WrongType) (option_and_then as_integer (as_number v)) p.wrong)
 
-never_chosen : {A : Type 0} (kind : Kind) (b : Bool) (x : A) (g : FieldError) → (g.kind ≡ kind → ⊥) → Never kind (if b then Ok x else Err g)
+never_chosen : {A : Type 0} (kind : FieldErrorKind) (b : Bool) (x : A) (g : FieldError) → (g.kind ≡ kind → ⊥) → Never kind (if b then Ok x else Err g)
 never_chosen kind true x g n e h k = let no_value : ⊥ = cc in no_value
 never_chosen kind false x g n e h k = let same : g ≡ e = cc in n (ap (λ (y : FieldError). y.kind) same ∙ k)
 
-never_within : (kind : Kind) → Plain kind → (g : FieldError) → (g.kind ≡ kind → ⊥) → (z : ℤ) → Never kind (within_signed g z)
+never_within : (kind : FieldErrorKind) → Plain kind → (g : FieldError) → (g.kind ≡ kind → ⊥) → (z : ℤ) → Never kind (within_signed g z)
 never_within kind p g n (pos m) = never_chosen kind (nat_lt m (2 ^ 63)) (pos m) g n
 never_within kind p g n (negsuc m) = never_chosen kind (nat_lt m (2 ^ 63)) (negsuc m) g n
 
-never_signed : (kind : Kind) → Plain kind → (path : List Step) (name : List ℕ) (d : Data) → Never kind (signed_at path name d)
+never_signed : (kind : FieldErrorKind) → Plain kind → (path : List Step) (name : List ℕ) (d : Data) → Never kind (signed_at path name d)
 never_signed kind p path name d = never_then kind (whole_at path name d) (within_signed (field_error path name OutOfRange)) (never_whole kind p path name d) (λ z. never_within kind p (field_error path name OutOfRange) p.out z)
 
-never_truth : (kind : Kind) → Plain kind → (path : List Step) (name : List ℕ) (d : Data) → Never kind (truth_at path name d)
+never_truth : (kind : FieldErrorKind) → Plain kind → (path : List Step) (name : List ℕ) (d : Data) → Never kind (truth_at path name d)
 never_truth kind p path name d = never_then kind (field_at path name d) (λ v. some_or (field_error path name WrongType) (as_bool v)) (never_field kind p path name d) (λ v. never_some kind (field_error path name WrongType) (as_bool v) p.wrong)
 
-never_short : (kind : Kind) → Plain kind → (path : List Step) (name : List ℕ) (d : Data) → Never kind (short_text_at path name d)
+never_short : (kind : FieldErrorKind) → Plain kind → (path : List Step) (name : List ℕ) (d : Data) → Never kind (short_text_at path name d)
 never_short kind p path name d = never_then kind (text_at path name d) (λ text. unless (field_error path name TooLong) (is_long text) text) (never_text kind p path name d) (λ text. never_unless kind (field_error path name TooLong) (is_long text) text p.long)
 
-never_version : (kind : Kind) → Plain kind → (path : List Step) (name : List ℕ) (d : Data) → Never kind (version_at path name d)
+never_version : (kind : FieldErrorKind) → Plain kind → (path : List Step) (name : List ℕ) (d : Data) → Never kind (version_at path name d)
 never_version kind p path name d =
     never_then kind (short_text_at path name d) (λ text. version_text path text >>= λ nothing. done text) (never_short kind p path name d)
     (λ text. never_then kind (version_text path text) (λ nothing. done text) (never_unless kind (field_error path (codes "version") BadVersion) (not (is_version text)) tt p.version) (λ nothing. never_done kind text))
 
-pub never_attribute : (kind : Kind) → Plain kind → (path : List Step) (d : Data) → Never kind (attribute_of path d)
+pub never_attribute : (kind : FieldErrorKind) → Plain kind → (path : List Step) (d : Data) → Never kind (attribute_of path d)
 never_attribute kind p path value =
     never_then kind (object_value path value) (λ d.
     optional_at signed_at path (codes "int") d >>= λ n.
@@ -85,11 +85,11 @@ never_attribute kind p path value =
     (never_there kind (member_of (codes "version") d) (version_at path (codes "version") d) (never_version kind p path (codes "version") d))
     (λ version. never_some kind (error_at path NotOne) (one_value n b text version) p.one)))))
 
-never_unset : (kind : Kind) (g : FieldError) → (g.kind ≡ kind → ⊥) → (o : Option Data) → Never kind (unset_or g o)
+never_unset : (kind : FieldErrorKind) (g : FieldError) → (g.kind ≡ kind → ⊥) → (o : Option Data) → Never kind (unset_or g o)
 never_unset kind g n None = never_done kind tt
 never_unset kind g n (Some d) = never_unless kind g (not (is_unset d)) tt n
 
-pub never_capacity : (kind : Kind) → Plain kind → (path : List Step) (d : Data) → Never kind (amount_of path d)
+pub never_capacity : (kind : FieldErrorKind) → Plain kind → (path : List Step) (d : Data) → Never kind (amount_of path d)
 never_capacity kind p path value =
     never_then kind (object_value path value) (λ d. quantity_at path (codes "value") d >>= λ amount. unset_at path (codes "requestPolicy") d >>= λ nothing. done amount)
     (never_object kind p path value)

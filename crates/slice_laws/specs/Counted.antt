@@ -5,7 +5,7 @@ use Rattle.serde_json.specs.Find.{as_str}
 use Rattle.object_fields.specs.Fields.{error_at, field_error, member_of, object_value, some_or, table_at, text_at, ◌>>=◌}
 use Rattle.object_fields.specs.NewNames.{is_among, label_of}
 use Rattle.object_fields.specs.declared.error.FieldError.{FieldError}
-use Rattle.object_fields.specs.declared.kind.Kind.TheVariants.{Doubled, TooMany, Unknown}
+use Rattle.object_fields.specs.declared.kind.FieldErrorKind.TheVariants.{Doubled, TooMany, Unknown}
 use Rattle.object_fields.specs.declared.path.Step.{Step}
 use Rattle.object_fields.specs.declared.path.Step.TheVariants.{Member, Place}
 use Rattle.api_slice.specs.Consumption.{amounts_with, find_set}

@@ -6,7 +6,7 @@ use Rattle.serde_json.specs.Data.{Data, Members, no_members, member}
 use Rattle.object_fields.specs.Fields.{error_at, field_error, ◌>>=◌}
 use Rattle.object_fields.specs.Qualified.{qual_name_in}
 use Rattle.object_fields.specs.declared.error.FieldError.{FieldError}
-use Rattle.object_fields.specs.declared.kind.Kind.TheVariants.{Doubled, TooMany}
+use Rattle.object_fields.specs.declared.kind.FieldErrorKind.TheVariants.{Doubled, TooMany}
 use Rattle.object_fields.specs.declared.path.Step.{Step}
 use Rattle.object_fields.specs.declared.path.Step.TheVariants.{Key}
 use Rattle.object_fields.specs.declared.qualified.QualName.{QualName}

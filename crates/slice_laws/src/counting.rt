@@ -4,7 +4,7 @@ ghost use Rattle.object_fields.specs.Fields.{error_at, field_error};
 ghost use Rattle.api_slice.specs.Lists.{each};
 ghost use Rattle.object_fields.specs.NewNames.{AreNew, is_among};
 ghost use Rattle.object_fields.specs.declared.error.FieldError.{FieldError};
-ghost use Rattle.object_fields.specs.declared.kind.Kind.TheVariants.{Doubled, TooMany};
+ghost use Rattle.object_fields.specs.declared.kind.FieldErrorKind.TheVariants.{Doubled, TooMany};
 ghost use Rattle.object_fields.specs.declared.path.Step.{Step};
 ghost use Rattle.object_fields.specs.declared.path.Step.TheVariants.{Place};
 ghost use Rattle.api_slice.specs.Consumption.{amounts_most, draws_from};

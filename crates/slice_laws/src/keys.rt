@@ -3,7 +3,7 @@ ghost use Rattle.std.specs.Result.{is_ok};
 ghost use Rattle.serde_json.specs.Data.{Data, Members};
 ghost use Rattle.object_fields.specs.Fields.{error_at, field_error, optional_at, table_at};
 ghost use Rattle.object_fields.specs.declared.error.FieldError.{FieldError};
-ghost use Rattle.object_fields.specs.declared.kind.Kind.TheVariants.{Doubled, TooMany};
+ghost use Rattle.object_fields.specs.declared.kind.FieldErrorKind.TheVariants.{Doubled, TooMany};
 ghost use Rattle.object_fields.specs.declared.path.Step.{Step};
 ghost use Rattle.object_fields.specs.declared.path.Step.TheVariants.{Key};
 ghost use Rattle.object_fields.specs.declared.qualified.QualName.{QualName};

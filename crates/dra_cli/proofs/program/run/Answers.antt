@@ -7,7 +7,7 @@ use Rattle.cluster.specs.Held.{HeldOnce}
 use Rattle.cluster.specs.declared.entry.Command.{Command}
 use Rattle.cluster.specs.declared.entry.Refusal.{Refusal}
 use Rattle.cluster.specs.declared.entry.Entry.{Entry}
-use Rattle.cluster.specs.declared.entry.Event.TheVariants.{Reserved, Refused, Judged, Adopted, Denied}
+use Rattle.cluster.specs.declared.entry.Event.TheVariants.{Reserved, Refused, VerdictGiven, Adopted, Denied}
 use Rattle.ledger_core.specs.Legal.{Legal, Step}
 use Rattle.api_claim.specs.declared.types.ClaimStatus.{ClaimStatus}
 use Rattle.cluster.specs.declared.failure.Failure.{Failure}
@@ -30,10 +30,10 @@ GrantLaw : Type 0
 GrantLaw = (front back : List Entry) (job : ℕ) (pod : Key) (plan : Plan) → Legal (front ++ record { job = job; event = Reserved pod plan } ∷ back) → IsGrantOf front pod plan
 
 VerdictLaw : Type 0
-VerdictLaw = (front back : List Entry) (job : ℕ) (pod : Key) (verdict : Verdict) → Legal (front ++ record { job = job; event = Judged pod verdict } ∷ back) → IsVerdictOf front pod verdict
+VerdictLaw = (front back : List Entry) (job : ℕ) (pod : Key) (verdict : Verdict) → Legal (front ++ record { job = job; event = VerdictGiven pod verdict } ∷ back) → IsVerdictOf front pod verdict
 
 BudgetLaw : Type 0
-BudgetLaw = (budget attempts : ℕ) (commands : List script.Command) (front back : List Entry) (job : ℕ) (pod : Key) (verdict : Verdict) → RunOf budget attempts commands (front ++ record { job = job; event = Judged pod verdict } ∷ back)
+BudgetLaw = (budget attempts : ℕ) (commands : List script.Command) (front back : List Entry) (job : ℕ) (pod : Key) (verdict : Verdict) → RunOf budget attempts commands (front ++ record { job = job; event = VerdictGiven pod verdict } ∷ back)
     → VerdictBy (state_at front verdict.at) pod budget verdict
 
 DenialLaw : Type 0

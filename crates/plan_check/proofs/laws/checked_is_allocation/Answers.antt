@@ -1,4 +1,4 @@
-use Rattle.plan_check.proofs.Judged.{plan_allocates, status_allocates}
+use Rattle.plan_check.proofs.VerdictGiven.{plan_allocates, status_allocates}
 use Rattle.plan_check.proofs.laws.checked_is_allocation.Goals as goal
 
 pub returns-clause-plan : goal.returns-clause-plan

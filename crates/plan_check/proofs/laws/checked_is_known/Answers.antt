@@ -1,4 +1,4 @@
-use Rattle.plan_check.proofs.Judged.{plan_fits}
+use Rattle.plan_check.proofs.VerdictGiven.{plan_fits}
 use Rattle.plan_check.proofs.laws.checked_is_known.Goals as goal
 
 pub returns : goal.returns

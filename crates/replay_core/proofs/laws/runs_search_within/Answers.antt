@@ -1,5 +1,5 @@
 use Rattle.std.proofs.Common.{subst}
-use Rattle.cluster.specs.declared.entry.Event.TheVariants.{Judged, Reserved}
+use Rattle.cluster.specs.declared.entry.Event.TheVariants.{VerdictGiven, Reserved}
 use Rattle.cluster.specs.History.{state_at}
 use Rattle.alloc_rules.specs.Plans.{PlanBy, VerdictBy}
 use Rattle.replay_core.proofs.Searched.{entry_tells}
@@ -12,5 +12,5 @@ returns-clause-plans c = λ budget attempts commands front back job pod plan run
 
 pub returns-clause-verdicts : goal.returns-clause-verdicts
 returns-clause-verdicts c = λ budget attempts commands front back job pod verdict run.
-    let tells = entry_tells budget attempts commands front (record { job = job; event = Judged pod verdict }) back run in
+    let tells = entry_tells budget attempts commands front (record { job = job; event = VerdictGiven pod verdict }) back run in
     subst (λ b. VerdictBy (state_at front verdict.at) pod b verdict) tells.1 tells.2.by

@@ -1,5 +1,5 @@
 use Rattle.std.proofs.Common.{◌∙◌, [], ap, sym}
-use Rattle.object_fields.specs.declared.kind.Kind.TheVariants.{Doubled}
+use Rattle.object_fields.specs.declared.kind.FieldErrorKind.TheVariants.{Doubled}
 use Rattle.std.specs.Result.{is_ok}
 use Rattle.api_slice.specs.Capacity.{amount_of}
 use Rattle.slice_laws.proofs.CountedSets.{not_doubled}

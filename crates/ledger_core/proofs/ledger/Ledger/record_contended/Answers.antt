@@ -1,9 +1,9 @@
 use Rattle.std.proofs.Common.{◌≡◌, ◌∙◌, ap, refl, sym, subst}
 use Rattle.cluster.specs.declared.entry.Entry.{Entry}
 use Rattle.cluster.specs.declared.entry.Event.TheVariants.{Contended}
-use Rattle.cluster.specs.declared.entry.Stand.{Stand}
+use Rattle.cluster.specs.declared.entry.JobState.{JobState}
 use Rattle.cluster.specs.History.{stand_of}
-use Rattle.cluster.specs.Stand.{failures}
+use Rattle.cluster.specs.JobState.{failures}
 use Rattle.ledger_core.specs.Ledger.{History}
 use Rattle.ledger_core.specs.Legal.{Step}
 use Rattle.ledger_core.proofs.Keeping.{few_tries, kept_more, may_contend}
@@ -18,7 +18,7 @@ invariant_of-self-2 c =
     subst (λ (h : History). Step h.entries (record { job = c.args.job; event = Contended c.args.pod.now (failures (stand_of h.entries c.args.job)) })) (sym c.self.view_is)
     (record { allowed = may_contend (stand_of c.args.self.now.entries c.args.job) c.args.pod.now c.requires.stand; stands = tt }) in
     let attempts : c.failures-attempts.result ≡ failures (stand_of c.self.inside.entries.items c.args.job) =
-    c.failures-attempts.ensures ∙ ap (λ (st : Stand). failures st) c.stand.ensures ∙ ap (λ (h : History). failures (stand_of h.entries c.args.job)) (sym c.self.view_is) in
+    c.failures-attempts.ensures ∙ ap (λ (st : JobState). failures st) c.stand.ensures ∙ ap (λ (h : History). failures (stand_of h.entries c.args.job)) (sym c.self.view_is) in
     rw (c.append.ensures.entries, room.entries, c.in_ok-pod.ensures, attempts) (kept_more _ e _ _ _ _ _ _ _ _ kept step room.within refl kept.holders_are room.stands (rw room.entries at c.append.ensures.stands))
 
 pub returns-clause-legal : goal.returns-clause-legal

@@ -1,6 +1,6 @@
 use Rattle.std.proofs.Common.{refl, sym, subst}
 use Rattle.cluster.specs.declared.entry.Entry.{Entry}
-use Rattle.cluster.specs.declared.entry.Event.TheVariants.{Judged}
+use Rattle.cluster.specs.declared.entry.Event.TheVariants.{VerdictGiven}
 use Rattle.ledger_core.specs.Ledger.{History}
 use Rattle.ledger_core.specs.Legal.{Step}
 use Rattle.ledger_core.proofs.Keeping.{few_tries, kept_more}
@@ -10,7 +10,7 @@ pub invariant_of-self-2 : goal.invariant_of-self-2
 invariant_of-self-2 c =
     let kept = c.self.invariant in
     let room = c.in_ok-place.ensures in
-    let e : Entry = record { job = c.args.job; event = Judged c.args.pod.now c.args.verdict } in
+    let e : Entry = record { job = c.args.job; event = VerdictGiven c.args.pod.now c.args.verdict } in
     let step = subst (λ (h : History). Step h.entries e) (sym c.self.view_is) (record { allowed = c.requires.stand; stands = c.requires.verdict }) in
     rw (c.append.ensures.entries, room.entries, c.in_ok-pod.ensures) (kept_more _ e _ _ _ _ _ _ _ _ kept step room.within refl kept.holders_are room.stands (rw room.entries at c.append.ensures.stands))
 

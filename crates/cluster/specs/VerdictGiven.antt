@@ -1,8 +1,8 @@
 -- A verdict that a pod can't be scheduled.
 use Rattle.std.specs.Prelude.{ℕ, List, Bool, true, false}
 use Rattle.std.specs.List.{list_any}
-use Rattle.cluster.specs.declared.entry.Stand.{Stand}
-use Rattle.cluster.specs.declared.entry.Stand.TheVariants as stand
+use Rattle.cluster.specs.declared.entry.JobState.{JobState}
+use Rattle.cluster.specs.declared.entry.JobState.TheVariants as stand
 use Rattle.cluster.specs.declared.plan.Cause.{Cause}
 use Rattle.cluster.specs.declared.plan.Cause.TheVariants as cause
 use Rattle.cluster.specs.declared.plan.Passed.{Passed}
@@ -13,7 +13,7 @@ abbrev pub with_verdict : State → State
 with_verdict s = s
 
 -- its job is ended
-abbrev pub judged_leaves : ℕ → Stand
+abbrev pub judged_leaves : ℕ → JobState
 judged_leaves place = stand.Ended place
 
 abbrev pub is_fault : Cause → Bool
