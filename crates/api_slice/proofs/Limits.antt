@@ -72,7 +72,7 @@ device_keeps driver sets per_device path d x is a c draws own =
 
 -- ---- all devices
 
--- each element is what the reading gives of the item at its place
+-- each element is what the reading returns for the item at its index
 abbrev pub Column : {A : Type 0} → (List Step → Data → Result A FieldError) → List Step → ℕ → List A → Items → Type 0
 Column r path place [] no_items = Unit {0}
 Column r path place [] (item d ds) = ⊥

@@ -165,7 +165,7 @@ list_by (Some v) e f o h =
 list_is : (path : List Step) (name : List ℕ) (d : Data) (o : Option Items) → optional_at list_at path name d ≡ Ok o → items_or_none o ≡ items_or_none (option_and_then as_array (member_of name d))
 list_is path name d o h = list_by (member_of name d) (field_error path name Missing) (field_error path name WrongType) o h
 
--- what is read as an object stands there
+-- what is read as an object is at that member
 stands : (path : List Step) (name : List ℕ) (d v : Data) → object_at path name d ≡ Ok v → member_of name d ≡ Some v
 stands path name d v h =
     let s = gave (table_at path name d) (λ ms. Ok (object ms)) v h in

@@ -187,7 +187,7 @@ counters_table path most before (member key value ms) out t h =
     let r = counters_table path (most + 1) (insert_entry (slice_cmp nat_cmp) before n.value v.value) ms out (one_more (slice_cmp nat_cmp) IsLabel IsAmount most before n.value v.value t label (an_amount (path ++ step.Key key ∷ []) value v.value v.first)) v.second in
     record { keys = r.keys; values = r.values; size = omega (arith, r.size) }
 
--- how many are met, and that they are few enough
+-- how many there are so far, and that they are within the limit
 pub counted_on : (path : List Step) (most met : ℕ) (ms : Members) (n : ℕ) → count_on path most met ms ≡ Ok n → (met + members_length ms ≡ n) × (n ≤ most)
 counted_on path most met ms n h =
     let b = not_refused (error_at path TooMany) (nat_lt most (met + members_length ms)) (met + members_length ms) n h in
@@ -215,7 +215,7 @@ counters_of list path met d c h =
     along (CountersOf met) (t.value, n.value) c (the_same (t.value, n.value) c t.second)
     (record { keys = u.keys; values = u.values; size = omega (arith, u.size, k.0); few = k.1 })
 
--- sets read so far, with so many counters met
+-- sets read so far, with that many counters
 pub record SetsMet (met : ℕ) (sets : List CounterSet) : Type 0 where
   pub all : All IsCounterSet sets
   pub different : AreDifferent (map (λ (c : CounterSet). c.name) sets)
@@ -344,7 +344,7 @@ a_set sets path before value s h =
       once = along (λ x. All (λ other. other ≢ x) (map (λ (c : CounterConsumption). c.set) before)) g.value f.value.name (sym n) others;
     })
 
--- draws read so far, with so many amounts met
+-- draws read so far, with that many amounts
 pub record DrawsMet (sets : List CounterSet) (met : ℕ) (draws : List CounterConsumption) : Type 0 where
   pub different : AreDifferent (map (λ (c : CounterConsumption). c.set) draws)
   pub all : All (DrawsOn sets) draws

@@ -29,7 +29,7 @@ use Rattle.api_slice.proofs.Readings.{gave, the_same, not_refused, kept, was_som
 
 -- ---- each item of a list
 
--- what the reading promises of one is so of all
+-- what the reading guarantees for one holds for all
 each_keeps : {A : Type 0} (P : A → Type 0) (r : List Step → Data → Result A FieldError) → ((path : List Step) (d : Data) (x : A) → r path d ≡ Ok x → P x) →
     (path : List Step) (place : ℕ) (before : List A) (ds : Items) (xs : List A) → All P before → each_from r path place before ds ≡ Ok xs → All P xs
 each_keeps P r one path place before no_items xs p h = along (All P) before xs (the_same before xs h) p

@@ -1,4 +1,4 @@
--- What a reading that gave a value says of its steps: of texts, numbers, lists, names and tables.
+-- What a reading that returned a value says about its steps: of texts, numbers, lists, names and tables.
 use Rattle.std.proofs.Common.{◌≡◌, ℕ, ◌+◌, ◌≤◌, nat_lt, nat_le, ◌≢◌, ℤ, pos, negsuc, map, Bool, true, false, ◌&&◌, ◌||◌, not, List, [], ◌∷◌, ◌++◌, length, Option, Some, None, Result, Ok, Err, refl, sym, subst, arith, if◌then◌else◌}
 use Rattle.std.proofs.lemmas.Bool.Decides.{nat_tests}
 use Rattle.std.proofs.lemmas.Slice.Eq.{bytes_eq-Decides}
@@ -27,9 +27,9 @@ use Rattle.api_slice.specs.Limits.{AreDifferent, IsAmount, IsLabel}
 use Rattle.api_slice.specs.Properties.{IsFullName}
 use Rattle.api_slice.specs.Lists.{items_or_none}
 
--- ---- readings that gave a value
+-- ---- readings that returned a value
 
--- the first step gave a value, and the second gave y of it
+-- the first step returned a value, and the second returned y for it
 pub record Gave {A B : Type 0} (r : Result A FieldError) (f : A → Result B FieldError) (y : B) : Type 0 where
   pub value : A
   pub first : r ≡ Ok value
@@ -63,7 +63,7 @@ at_most most n h = grind (arith, nat_tests)
 pub along : {A : Type 0} (P : A → Type 0) (x y : A) → x ≡ y → P x → P y
 along P x y e p = subst P e p
 
--- what a reading gave of a member that may be missing
+-- what a reading returned for a member that may be missing
 pub given : {A : Type 0} (P : A → Type 0) (o : Option Data) (r : Result A FieldError) (y : Option A) → if_there o r ≡ Ok y → ((x : A) → r ≡ Ok x → P x) → (x : A) → y ≡ Some x → P x
 given P None r y h p x e =
     let none : None ≡ y = the_same None y h in

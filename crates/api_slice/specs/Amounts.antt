@@ -12,7 +12,7 @@ use Rattle.object_fields.specs.declared.kind.FieldErrorKind.TheVariants.{BadQuan
 use Rattle.object_fields.specs.declared.path.Step.{Step}
 use Rattle.object_fields.specs.declared.path.Step.TheVariants.{Member}
 
--- the kind of a text's fault
+-- the kind of a text's error
 abbrev pub quantity_kind : QuantityError → FieldErrorKind
 quantity_kind quantity.BadText = BadQuantity
 quantity_kind quantity.TooPrecise = BadQuantity
@@ -29,7 +29,7 @@ quantity_text path text = quantity_or path (quantity_value text)
 abbrev pub ones_most : ℕ
 ones_most = 2 ^ 63 - 1
 
--- a whole number of ones, as what its digits write
+-- a whole number of ones, with the value of its digits
 abbrev pub whole_quantity : List Step → ℤ → Result ℤ FieldError
 whole_quantity path (pos n) =
     if nat_le n ones_most then Ok (pos n *ℤ pos 1000000000) else Err (error_at path OutOfRange)

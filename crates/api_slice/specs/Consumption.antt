@@ -54,8 +54,8 @@ abbrev pub new_draw_on : List CounterSet → List Step → List CounterConsumpti
 new_draw_on sets path before value =
     object_value path value >>= text_at path (codes "counterSet") >>= undrawn_set sets path before
 
--- The amounts that are drawn from a set, and how many are met with them. The list's path is the place
--- of TooMany.
+-- The amounts that are drawn from a set, and how many there are so far with them. TooMany is at the
+-- list's path.
 abbrev pub amounts_at : List (List ℕ × ℤ) → List Step → List Step → ℕ → Data → Result (List (List ℕ × ℤ) × ℕ) FieldError
 amounts_at counters list path met d =
     table_at path (codes "counters") d >>= λ ms.
@@ -63,7 +63,7 @@ amounts_at counters list path met d =
     amounts_with counters (path ++ Member (codes "counters") ∷ []) [] ms >>= λ amounts.
     Ok (amounts, more)
 
--- what is drawn from a place on, behind what came before with so many amounts met
+-- what is drawn from an index on, after what came before with that many amounts
 abbrev pub draws_from : List CounterSet → List Step → ℕ → ℕ → List CounterConsumption → Items → Result (List CounterConsumption) FieldError
 draws_from sets path place met before no_items = Ok before
 draws_from sets path place met before (item d ds) =

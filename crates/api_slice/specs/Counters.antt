@@ -41,7 +41,7 @@ new_set_name path before value =
     object_value path value >>= dns_label_at path (codes "name") >>= λ name.
     unless (field_error path (codes "name") Doubled) (has_set name before) name
 
--- The counters of a set, and how many are met with them. The list's path is the place of TooMany.
+-- The counters of a set, and how many there are so far with them. TooMany is at the list's path.
 abbrev pub counters_at : List Step → List Step → ℕ → Data → Result (List (List ℕ × ℤ) × ℕ) FieldError
 counters_at list path met d =
     table_at path (codes "counters") d >>= λ ms.
@@ -49,7 +49,7 @@ counters_at list path met d =
     counters_with (path ++ Member (codes "counters") ∷ []) [] ms >>= λ counters.
     Ok (counters, more)
 
--- the sets from a place on, behind those before with so many counters met
+-- the sets from an index on, after those before with that many counters
 abbrev pub sets_from : List Step → ℕ → ℕ → List CounterSet → Items → Result (List CounterSet) FieldError
 sets_from path place met before no_items = Ok before
 sets_from path place met before (item d ds) =

@@ -83,7 +83,7 @@ abbrev pub IsSliceNodes : SliceNodes → Type 0
 IsSliceNodes (slice.Nodes n) = IsNodes n
 IsSliceNodes slice.PerDevice = Unit {0}
 
--- Nodes of a device, there exactly where its slice leaves it to the devices.
+-- Nodes of a device, set if and only if its slice leaves them to the devices.
 pub record IsDue (per_device : Bool) (own : Option Nodes) : Type 0 where
   pub there : is_some own ≡ per_device
   pub nodes : (n : Nodes) → own ≡ Some n → IsNodes n

@@ -8,14 +8,14 @@ use Rattle.object_fields.specs.declared.kind.FieldErrorKind.TheVariants.{TooMany
 use Rattle.object_fields.specs.declared.path.Step.{Step}
 use Rattle.object_fields.specs.declared.path.Step.TheVariants.{Place}
 
--- What a reading gives of each item from a place on, in order, behind what came before. The first
--- error counts.
+-- What a reading returns for each item from an index on, in order, after what came before. The first
+-- error is returned.
 abbrev pub each_from : {A : Type 0} → (List Step → Data → Result A FieldError) → List Step → ℕ → List A → Items → Result (List A) FieldError
 each_from reading path place before no_items = Ok before
 each_from reading path place before (item d ds) =
     reading (path ++ Place place ∷ []) d >>= λ x. each_from reading path (place + 1) (before ++ x ∷ []) ds
 
--- what it gives of each item of a list
+-- what it returns for each item of a list
 abbrev pub each : {A : Type 0} → (List Step → Data → Result A FieldError) → List Step → Items → Result (List A) FieldError
 each reading path ds = each_from reading path 0 [] ds
 
@@ -34,11 +34,11 @@ abbrev pub members_length : Members → ℕ
 members_length no_members = 0
 members_length (member key d ms) = members_length ms + 1
 
--- how many members the object of that name has; none where it isn't there
+-- how many members the object of that name has; 0 if it is missing
 abbrev pub count_at : List ℕ → Data → ℕ
 count_at name d = members_length (members_or_none (option_and_then as_object (member_of name d)))
 
--- How many are met with the members of a map, which are to be no more than so many.
+-- How many there are so far with the members of a map, which must not exceed a limit.
 abbrev pub count_on : List Step → ℕ → ℕ → Members → Result ℕ FieldError
 count_on path most met ms =
     unless (error_at path TooMany) (nat_lt most (met + members_length ms)) (met + members_length ms)

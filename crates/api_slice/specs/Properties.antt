@@ -1,4 +1,4 @@
--- The attributes and the capacities of a device, and what is so of them in each device (KEP 4381, API
+-- The attributes and the capacities of a device, and what holds of them in each device (KEP 4381, API
 -- reference of resource.k8s.io/v1).
 use Rattle.std.specs.Prelude.{◌≡◌, ℕ, ◌+◌, ◌≤◌, ℤ, Bool, true, List, [], ◌∷◌, length}
 use Rattle.std.specs.List.{All}
@@ -31,7 +31,7 @@ char_count (attribute.Bool b) = 0
 char_count (attribute.Text text) = length (chars text)
 char_count (attribute.Version text) = length (chars text)
 
--- whether a version is one of Semantic Versioning 2.0.0; nothing is asked of the other kinds
+-- whether a version is one of Semantic Versioning 2.0.0; true for the other kinds
 abbrev pub reads : Attribute → Bool
 reads (attribute.Int n) = true
 reads (attribute.Bool b) = true

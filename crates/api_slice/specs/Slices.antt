@@ -17,7 +17,7 @@ use Rattle.api_slice.specs.declared.types.ResourceSlice.{ResourceSlice}
 abbrev pub driver_at : List Step → Data → Result (List ℕ) FieldError
 driver_at path spec = dns_subdomain_at driver_most path (codes "driver") spec
 
--- the greatest number that a signed number of 64 bits holds
+-- the maximum of a signed 64-bit integer
 abbrev pub signed_most : ℕ
 signed_most = 2 ^ 63 - 1
 

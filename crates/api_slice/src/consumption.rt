@@ -108,7 +108,7 @@ fn undrawn_set<'a>(
     }
 }
 
-/// The amounts that are drawn from these counters, and how many are met with them. It is TooMany at
+/// The amounts that are drawn from these counters, and how many there are so far with them. It is TooMany at
 /// the list's path where these are too many.
 fn read_amounts(
     alloc: Global,

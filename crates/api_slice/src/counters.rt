@@ -73,7 +73,7 @@ fn new_set_name(
     }
 }
 
-/// The counters of a set, and how many are met with them. It is TooMany at the list's path where
+/// The counters of a set, and how many there are so far with them. It is TooMany at the list's path where
 /// these are too many.
 fn read_counters(
     alloc: Global,

@@ -33,7 +33,7 @@ impl Model for DriverName {
 
 impl DriverName {
     /// The driver's name that a text is, or `None` where it isn't a DNS subdomain of at most 63
-    /// bytes. Takes no memory.
+    /// bytes. Allocates nothing.
     pub fn new(name: Text) -> Option<DriverName>
         ensures { result ≡ driver_of name }
     {
@@ -60,7 +60,7 @@ impl DriverName {
         &self.name
     }
 
-    /// An equal name. `AllocError` comes only where memory runs out.
+    /// An equal name. `AllocError` is returned only if memory runs out.
     pub fn copy(&self, alloc: Global) -> Result<DriverName, AllocError>
         ensures { IfOk result (λ copy. copy ≡ self.now) }
     {

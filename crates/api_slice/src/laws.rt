@@ -27,7 +27,7 @@ use object_fields::{labels_are_names, metadata_keeps_limits, names_are_new};
 ///   one of Semantic Versioning 2.0.0, and attributes and capacities are at most 32 together
 /// - a device draws at most 32 amounts, none negative, on counters of sets of the slice, and on a set
 ///   at most once
-/// - a device has nodes of its own exactly where the slice has `perDeviceNodeSelection`
+/// - a device has nodes of its own if and only if the slice has `perDeviceNodeSelection`
 /// - a node's name isn't empty; a node selector has a value for each In and NotIn, and asks of fields
 ///   only with these, of `metadata.name`
 pub fn slices_keep_limits()

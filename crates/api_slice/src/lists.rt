@@ -25,7 +25,7 @@ pub(crate) fn member_count(members: &Map<String, Value>) -> usize
     members.len()
 }
 
-/// How many members the object of that name has; none where it isn't there.
+/// How many members the object of that name has; 0 if it is missing.
 pub(crate) fn count_in(object: &Value, name: &str) -> usize
     ensures { result ≡ count_at name.now (view object.now) }
 {
@@ -35,7 +35,7 @@ pub(crate) fn count_in(object: &Value, name: &str) -> usize
     }
 }
 
-/// How many are met with the members of a map, where `met` were met before; TooMany at the path
+/// How many there are so far with the members of a map, `met` of them before it; TooMany at the path
 /// where these are more than `most`.
 pub(crate) fn count_on(
     alloc: Global,

@@ -31,7 +31,7 @@ impl Model for Properties {
 }
 
 impl Properties {
-    /// Those of a device that has neither attributes nor capacities. Takes no memory.
+    /// Those of a device that has neither attributes nor capacities. Allocates nothing.
     pub fn none(alloc: Global) -> Properties
         ensures { result ≡ record { attributes = []; capacity = [] } }
     {
@@ -68,7 +68,7 @@ impl Properties {
         &self.capacity
     }
 
-    /// Equal ones. `AllocError` comes only where memory runs out.
+    /// Equal ones. `AllocError` is returned only if memory runs out.
     pub fn copy(&self, alloc: Global) -> Result<Properties, AllocError>
         ensures { IfOk result (λ copy. copy ≡ self.now) }
     {

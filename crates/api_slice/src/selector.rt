@@ -15,19 +15,19 @@ use object_fields::{
 use serde_json::Value;
 use std::alloc::Global;
 
-/// Reads a node selector (NodeSelector of the Kubernetes API reference) that stands at the path.
+/// Reads a node selector (NodeSelector of the Kubernetes API reference) at the path.
 ///
 /// It has exactly one term under `nodeSelectorTerms`, else NotOne there (this project's own rule).
 /// The term has `matchExpressions` and `matchFields`, of any length; each item has `key`, `operator`
-/// and `values`, which are looked at in this order:
+/// and `values`, which are checked in this order:
 ///
-/// - In and NotIn take one text or more, Exists and DoesNotExist none, Gt and Lt one whole number
-///   from -2^63 to 2^63-1; another number of values is NotOne at `values`, a value of Gt or Lt of
-///   another form is WrongType there, and another operator is NotSupported
+/// - In and NotIn need one text or more, Exists and DoesNotExist none, Gt and Lt one integer
+///   from -2^63 to 2^63-1; another number of values is NotOne at `values`, a value of Gt or Lt
+///   that isn't such an integer is WrongType there, and another operator is NotSupported
 /// - of `matchFields` the key is `metadata.name` and the operator In or NotIn, else NotSupported
 ///
 /// What must be there is Missing where it isn't there or is null, then WrongType where it is of
-/// another JSON type. Memory may come at any time, with the path of the top.
+/// another JSON type. Memory may be returned at any time, with the top's path.
 #[tactic(auto, unfolding(crate::specs::Selectors::selector_of))]
 pub fn read_selector(alloc: Global, value: &Value, path: &Path) -> Result<Selector, FieldError>
     ensures { Reads result (fields.selector_of path.now (view value.now)) }
@@ -143,7 +143,7 @@ fn field_key<'a>(alloc: Global, object: &'a Value, path: &Path) -> Result<&'a st
     }
 }
 
-/// What a requirement's operator asks with its `values`.
+/// What a requirement's operator tests with its `values`.
 fn read_test(
     alloc: Global,
     object: &Value,
@@ -212,7 +212,7 @@ fn no_texts(alloc: Global, values: &[Value], path: &Path) -> Result<(), FieldErr
     }
 }
 
-/// One text that writes a whole number of 64 bits.
+/// One text that is the notation of a 64-bit integer.
 fn one_number(alloc: Global, values: &[Value], path: &Path) -> Result<i64, FieldError>
     ensures { Reads result (fields.one_number path.now (items_view values.now)) }
 {

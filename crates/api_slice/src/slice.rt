@@ -17,12 +17,12 @@ use object_fields::{
 use serde_json::Value;
 use std::alloc::Global;
 
-/// The greatest number that a signed number of 64 bits holds.
+/// The maximum of a signed 64-bit integer.
 const SIGNED_MOST: u64 = 0x7fff_ffff_ffff_ffff;
 
 impl ResourceSlice {
-    /// Reads a ResourceSlice of the API reference of `resource.k8s.io/v1`. The first error counts.
-    /// The fields are looked at in this order; a row is read of all devices before the next row of
+    /// Reads a ResourceSlice of the API reference of `resource.k8s.io/v1`. The first error is returned.
+    /// The fields are checked in this order; a row is read of all devices before the next row of
     /// any, lists in their order, and the members of a map in the byte order of their keys.
     ///
     /// - `metadata.name`, a DNS subdomain of at most 253 bytes; `metadata.labels`, which are read
@@ -46,7 +46,7 @@ impl ResourceSlice {
     ///   quantity as its `value`, and without a `requestPolicy` (NotSupported); with the attributes
     ///   at most 32, else TooMany
     /// - `consumesCounters` of a device, which may be missing: each with a `counterSet` of the slice
-    ///   (Unknown), which stands once (Doubled), and `counters` of that set (Unknown) with a `value`
+    ///   (Unknown), which appears once (Doubled), and `counters` of that set (Unknown) with a `value`
     ///   that isn't negative; with more than 32 of these in all it is TooMany
     /// - `nodeName`, `nodeSelector` and `allNodes` of a device: just one where the slice has
     ///   `perDeviceNodeSelection`, else none, NotOne at the device
@@ -55,8 +55,8 @@ impl ResourceSlice {
     ///
     /// What must be there is Missing where it isn't there or is null; then it is WrongType where it
     /// is of another JSON type, TooLong, and BadName, BadQuantity or BadVersion, and a number or an
-    /// amount out of its range is OutOfRange. Fields that this project doesn't know are not looked
-    /// at. Memory may come at any time, with the path of the top.
+    /// amount out of its range is OutOfRange. Fields that this project doesn't know are ignored.
+    /// Memory may be returned at any time, with the top's path.
     pub fn read(alloc: Global, value: &Value) -> Result<ResourceSlice, FieldError>
         ensures { Reads result (fields.slice_of (view value.now)) }
     {

@@ -11,7 +11,7 @@ use std::marker::Model;
 
 /// A ResourceSlice of `resource.k8s.io/v1`: devices that a driver offers.
 ///
-/// Each slice keeps the limits and name rules that stand at its fields and at those of its parts;
+/// Each slice keeps the limits and name rules given at its fields and at those of its parts;
 /// contracts see the record of its fields.
 #[derive(Drop)]
 pub struct ResourceSlice {
@@ -81,7 +81,7 @@ pub struct Device {
     pub properties: Properties,
     /// `consumesCounters`, each set at most once, and at most 32 amounts in all.
     pub consumes: Seq<CounterConsumption>,
-    /// Where the device is; there exactly where the slice has `perDeviceNodeSelection`.
+    /// Where the device is; set if and only if the slice has `perDeviceNodeSelection`.
     pub nodes: Option<Nodes>,
 }
 
@@ -119,7 +119,7 @@ impl Model for ResourceSlice {
 
 impl ResourceSlice {
     /// Each slice keeps the limits and name rules of the API reference of `resource.k8s.io/v1`, as
-    /// `slices_keep_limits` says them. Takes no memory.
+    /// `slices_keep_limits` says them. Allocates nothing.
     pub fn keeps_limits(&self)
         ensures { IsWithinLimits self.now }
     {

@@ -219,7 +219,7 @@ pub refused : {A : Type 0} (g e : FieldError) (b : Bool) (x : A) → unless g b 
 refused g e true x h = let same : g ≡ e = cc in (refl, sym same)
 refused g e false x h = absurd (let no_value : ⊥ = cc in no_value)
 
--- a count that is refused or goes on, with a reading that gave a value behind it
+-- a count that is refused or goes on, with a reading that returned a value after it
 pub passed_on : {A B : Type 0} (e : FieldError) (b : Bool) (m : ℕ) (r : Result A FieldError) (a : A) (f : A → B) → r ≡ Ok a →
     (unless e b m >>= λ more. r >>= λ c. with_count c more) >>= (λ (p : A × ℕ). with_count (f p.0) p.1) ≡ counted_or e b (f a) m
 passed_on e true m r a f h = refl
@@ -273,7 +273,7 @@ set_met path at met before d p h =
     let few : met + has d ≤ counters_most = along (λ k. k ≤ counters_most) m.value (met + has d) (sym o.0 ∙ ap (λ k. met + k) (members_counted at (codes "counters") d t.value t.first)) o.1 in
     record { is = now; few = few }
 
--- the name that a label says
+-- the name that a label has
 said : Labels → (at : List Step) (d : Data) (name : List ℕ) → label_of at d ≡ Ok name → text_in (codes "name") d ≡ Some name
 said law at d name h =
     let l = gave (object_value at d) (dns_label_at at (codes "name")) name h in

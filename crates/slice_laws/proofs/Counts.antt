@@ -20,11 +20,11 @@ use Rattle.slice_laws.proofs.Read.{gave}
 abbrev pub has : Data → ℕ
 has d = count_at (codes "counters") d
 
--- what reads an item beside those before, where so many counters are met, and says how many then are
+-- reads an item after those before, with that many counters so far, and returns how many there then are
 abbrev pub Reading : Type 0 → Type 0
 Reading X = List Step → List Step → ℕ → List X → Data → Result (X × ℕ) FieldError
 
--- the items from a place on
+-- the items from an index on
 abbrev pub from : {X : Type 0} → Reading X → List Step → ℕ → ℕ → List X → Items → Result (List X) FieldError
 from r path place met before no_items = Ok before
 from r path place met before (item d ds) = r path (path ++ step.Place place ∷ []) met before d >>= λ p. from r path (place + 1) p.1 (before ++ p.0 ∷ []) ds
@@ -36,7 +36,7 @@ pub record IsTakenText (name : List ℕ) (at : List Step) (before : List (List �
   pub stands : is_among text before ≡ true
   pub is : e ≡ field_error at name Doubled
 
--- more counters are met than there may be
+-- there are more counters than allowed
 pub record IsPast (most : ℕ) (path : List Step) (met : ℕ) (e : FieldError) : Type 0 where
   pub many : most < met
   pub is : e ≡ error_at path TooMany
@@ -95,7 +95,7 @@ too_many_with name most text path at met before d x new many =
     ap (λ b. unless (field_error at name Doubled) b x >>= λ y. unless (error_at path TooMany) (nat_lt most (met + has d)) (y, met + has d)) new
     ∙ ap (λ b. unless (error_at path TooMany) b (x, met + has d)) (past most (met + has d) many)
 
--- one whose name stands before
+-- one whose name appears before
 taken_before : {X : Type 0} (name : List ℕ) (most : ℕ) (text : X → List ℕ) (path at : List Step) (met : ℕ) (before : List X) (d : Data) (x : X) → is_among (text x) (map text before) ≡ true → judged_item name most text path at met before d x ≡ Err (field_error at name Doubled)
 taken_before name most text path at met before d x old =
     ap (λ b. unless (field_error at name Doubled) b x >>= λ y. unless (error_at path TooMany) (nat_lt most (met + has d)) (y, met + has d)) old
@@ -133,7 +133,7 @@ over {X = X} name most text alone r is path place met before (x ∷ xs) (item d 
     ∙ over name most text alone r is path (place + 1) (met + has d) (before ++ x ∷ []) xs ds h.1 new f rest)
     (less_or (met + has d) most)
 
--- ---- a name that stands before
+-- ---- a name that appears before
 
 repeated : {X : Type 0} (name : List ℕ) (most : ℕ) (text : X → List ℕ) (alone : List Step → Data → Result X FieldError) (r : Reading X) → IsCounting name most text alone r → (path : List Step) (place met : ℕ) (before us vs : List X) (x : X) (ds : Items) → Column alone path place (us ++ x ∷ vs) ds → AreNew (map text before) (map text us) → met + counted_first (length us) ds ≤ most → is_among (text x) (map text before ++ map text us) ≡ true → from r path place met before ds ≡ Err (field_error (path ++ step.Place (place + length us) ∷ []) name Doubled)
 repeated {X = X} name most text alone r is path place met before [] vs x no_items h n few old = absurd h

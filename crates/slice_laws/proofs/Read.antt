@@ -1,4 +1,4 @@
--- What a reading that gave a value says of its steps.
+-- What a reading that returned a value says about its steps.
 use Rattle.std.proofs.Common.{◌≡◌, ◌∙◌, ℕ, ◌+◌, ◌≤◌, nat_lt, Bool, true, false, cond, List, [], ◌∷◌, ◌++◌, Option, Some, None, Result, Ok, Err, append_assoc, arith, codes, refl, subst, sym}
 use Rattle.std.proofs.lemmas.Bool.Decides.{nat_tests}
 use Rattle.std.proofs.lemmas.List.{append-nil}
@@ -49,7 +49,7 @@ along P x y e p = subst P e p
 
 -- ---- items, one after another
 
--- each element is what the reading gives of the item at its place
+-- each element is what the reading returns for the item at its index
 abbrev pub Column : {A : Type 0} → (List Step → Data → Result A FieldError) → List Step → ℕ → List A → Items → Type 0
 Column r path place [] no_items = Unit {0}
 Column r path place [] (item d ds) = ⊥

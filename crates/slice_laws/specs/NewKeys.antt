@@ -19,7 +19,7 @@ same_name a b = bytes_eq a.domain b.domain && bytes_eq a.id b.id
 abbrev pub is_name_among : QualName → List QualName → Bool
 is_name_among name names = list_any (same_name name) names
 
--- none of the names is among those before it, of which the first list stands in front of them
+-- none of the names is among those before it, the first list coming before all of them
 abbrev pub AreNewNames : List QualName → List QualName → Type 0
 AreNewNames before [] = Unit {0}
 AreNewNames before (name ∷ names) = (is_name_among name before ≡ false) × AreNewNames (before ++ name ∷ []) names

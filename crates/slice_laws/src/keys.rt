@@ -25,7 +25,7 @@ pub fn attribute_names_are_new()
         attributes_with driver path [] ms ≡ Err e → e.kind ≡ Doubled → IsRepeatedKey driver path ms e }
 {}
 
-/// The same of the names of a device's capacities. Capacities that stand in a map are TooMany if and only
+/// The same of the names of a device's capacities. Capacities in a map are TooMany if and only
 /// if there are more than 32 attributes and capacities together.
 pub fn capacity_names_are_new()
     ensures new { (driver : List ℕ) (path : List Step) (ms : Members) (names : List QualName) →
