@@ -1,4 +1,4 @@
--- What changes that grant nothing leave of the devices that claims hold, and what it says of two claims.
+-- What changes that grant nothing leave of the devices that claims hold, and what follows for two claims.
 use Rattle.std.proofs.Common.{ℕ, ◌≡◌, ◌∙◌, ⊎_elim, List, [], ◌∷◌, ◌++◌, Bool, true, false, cond, Option, None, Some, refl, sym, ap, subst}
 use Rattle.std.specs.List.{Contains}
 use Rattle.std.specs.Map.{lookup, remove_entry, set_value}
@@ -42,7 +42,7 @@ once_applied place (object.Class x) s h = once_same s (with_object place (object
 once_applied place (object.Claim x) s h = once_same s (with_object place (object.Claim x) s) h (put_same place x s.claims (at_key s.claims x.key) refl)
 once_applied place (object.Pod x) s h = once_same s (with_object place (object.Pod x) s) h refl
 
--- what stands where a claim was taken away: the devices differ, and each was held before
+-- the devices held after a claim was removed: they differ, and each was held before
 record Left (olds all : List DeviceId) : Type 0 where
   apart : Apart all
   among : (d : DeviceId) → Contains all d → Contains olds d
@@ -91,7 +91,7 @@ once_written place pod claim s h = once_same s (with_written place pod claim s) 
 pub once_bound : (pod : Key) (node : List ℕ) (s : State) → HeldOnce s → HeldOnce (with_bound pod node s)
 once_bound pod node s h = once_same s (with_bound pod node s) h refl
 
--- ---- what it says of two claims
+-- ---- what follows for two claims
 
 table_by : (test : Key → Bool) (b : Bool) (e : Key × ClaimState) (es : Claims) (c : ClaimState) (d : DeviceId) → cond b (Some e.1) (lookup test es) ≡ Some c → Contains (held_by c.grant) d
     → (lookup test es ≡ Some c → Contains (held_in es) d) → Contains (held_in (e ∷ es)) d

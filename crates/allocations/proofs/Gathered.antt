@@ -1,4 +1,4 @@
--- Keys gathered in order, each at its first place.
+-- Keys gathered in order, each at its first index.
 use Rattle.std.proofs.Common.{ℕ, ◌≤◌, ◌≡◌, ◌∙◌, List, [], ◌∷◌, ◌++◌, Bool, true, false, ◌||◌, cond, drop, length, map, refl, sym, ap, append_assoc}
 use Rattle.std.specs.List.{list_any}
 use Rattle.std.proofs.lemmas.List.{append-nil, drop_all}
@@ -13,7 +13,7 @@ abbrev pub gathered : List Key → List Key → List Key
 gathered keys [] = keys
 gathered keys (k ∷ ks) = gathered (added_key keys k) ks
 
--- the keys are among the one list where they are among the other
+-- the keys are among the one list if they are among the other
 abbrev AreSame : List Key → List Key → Type 0
 AreSame seen keys = (k : Key) → list_any (λ l. key_eq l k) seen ≡ list_any (λ l. key_eq l k) keys
 
@@ -41,10 +41,10 @@ gathered_is seen keys (l ∷ ks) same =
     gathered_by seen keys ks l (list_any (λ m. key_eq m l) keys) refl (gathered_is seen keys ks same) (gathered_is (l ∷ seen) (keys ++ l ∷ []) ks (same_more seen keys l same))
     ∙ ap (λ b. keys ++ cond b (first_places seen ks) (l ∷ first_places (l ∷ seen) ks)) (sym (same l))
 
--- each key at its first place
+-- each key at its first index
 pub gathered_first : (ks : List Key) → gathered [] ks ≡ first_places [] ks
 gathered_first ks = gathered_is [] [] ks (λ k. refl)
 
--- where none is left to be added
+-- if none is left to be added
 pub gathered_all : {X : Type 0} (f : X → Key) (xs : List X) (i : ℕ) (keys : List Key) → length xs ≤ i → gathered keys (map f (drop i xs)) ≡ gathered [] (map f xs) → keys ≡ first_places [] (map f xs)
 gathered_all {X} f xs i keys over whole = ap (λ (l : List X). gathered keys (map f l)) (sym (drop_all i xs over)) ∙ whole ∙ gathered_first (map f xs)

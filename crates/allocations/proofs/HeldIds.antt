@@ -26,7 +26,7 @@ held_in claims = flat_map (λ e. held_by e.1.grant) claims
 abbrev pub first_of : DeviceId × Key → DeviceId
 first_of p = p.0
 
--- what a map has at a place is made of what stands there
+-- the element of a map at an index is made of the element at that index
 pub mapped_at : {X Y : Type 0} (f : X → Y) (xs : List X) (i : ℕ) (y : Y) → slice_get (map f xs) i ≡ Some y → (x : X) × (slice_get xs i ≡ Some x) × (f x ≡ y)
 mapped_at f [] i y e = absurd (cc)
 mapped_at f (x ∷ xs) zero y e = let same : f x ≡ y = cc in (x, refl, same)
@@ -62,7 +62,7 @@ any_with : (d : DeviceId) (k : Key) (ds : List DeviceId) → list_any (λ h. dev
 any_with d k [] = refl
 any_with d k (x ∷ xs) = ap (λ b. device_eq x d || b) (any_with d k xs)
 
--- whether a claim or one of those behind it holds the device
+-- whether a claim or one of those after it holds the device
 pub any_held : (d : DeviceId) (e : Key × ClaimState) (es : Claims)
     → list_any (λ h. device_eq h.0 d) (pairs_in (e ∷ es)) ≡ (list_any (λ h. device_eq h d) (held_by e.1.grant) || list_any (λ h. device_eq h.0 d) (pairs_in es))
 any_held d e es =
@@ -76,14 +76,14 @@ later_by : (b c all : Bool) → b ≡ false → (b || c) ≡ all → c ≡ all
 later_by true c all e h = absurd (cc)
 later_by false c all e h = h
 
--- where the first claim holds the device, one does
+-- if the first claim holds the device, one does
 pub held_here : (d : DeviceId) (items rest : Claims) (e : Key × ClaimState) (b all : Bool) → items ≡ e ∷ rest → b ≡ list_any (λ h. device_eq h d) (held_by e.1.grant)
     → list_any (λ h. device_eq h.0 d) (pairs_in items) ≡ all → b ≡ true → true ≡ all
 held_here d items rest e b all is told whole so =
     here_by (list_any (λ h. device_eq h d) (held_by e.1.grant)) (list_any (λ h. device_eq h.0 d) (pairs_in rest)) all (sym told ∙ so)
     (sym (any_held d e rest) ∙ ap (λ (l : Claims). list_any (λ h. device_eq h.0 d) (pairs_in l)) (sym is) ∙ whole)
 
--- where it doesn't, those behind it decide
+-- if it doesn't, those after it decide
 pub held_later : (d : DeviceId) (items rest : Claims) (e : Key × ClaimState) (b all : Bool) → items ≡ e ∷ rest → b ≡ list_any (λ h. device_eq h d) (held_by e.1.grant)
     → list_any (λ h. device_eq h.0 d) (pairs_in items) ≡ all → b ≡ false → list_any (λ h. device_eq h.0 d) (pairs_in rest) ≡ all
 held_later d items rest e b all is told whole so =

@@ -141,7 +141,7 @@ pub inserted_held : (es : Claims) (k : Key) (w : ClaimState) → lookup (is_at (
 inserted_held [] k w h none = ap (λ g. held_by g ++ []) none
 inserted_held (e ∷ es) k w h none = inserted_by (key_cmp k e.0) e es k w refl h none (λ g. inserted_held es k w g none)
 
--- what stands where a claim's grant was written: the devices differ, and each was held before or is one of the grant's
+-- the devices held after a claim's grant was written: they differ, and each was held before or is in the grant
 record Given (news olds all : List DeviceId) : Type 0 where
   apart : Apart all
   among : (d : DeviceId) → Contains all d → Contains news d ⊎ Contains olds d
@@ -204,12 +204,12 @@ skip_by e es k l w true true n is at later = absurd (n (same_from_key_cmp k e.0 
 skip_by e es k l w true false n is at later = rw (is) (rw (at) refl)
 skip_by e es k l w false c n is at later = rw (is) (ap (λ o. cond (is_eq (key_cmp l e.0)) (Some e.1) o) later)
 
--- what is written at a key leaves the others
+-- writing at a key leaves the others unchanged
 skip_there : (es : Claims) (k l : Key) (w : ClaimState) → k ≢ l → at_key (set_value (is_at (key_cmp k)) es w) l ≡ at_key es l
 skip_there [] k l w n = refl
 skip_there (e ∷ es) k l w n = skip_by e es k l w (is_eq (key_cmp k e.0)) (is_eq (key_cmp l e.0)) n refl refl (skip_there es k l w n)
 
--- a claim that is there without a grant
+-- a claim that exists without a grant
 record Ungranted (claims : Claims) (k : Key) : Type 0 where
   claim : ClaimState
   is_there : at_key claims k ≡ Some claim
@@ -260,7 +260,7 @@ or_right : (b c : Bool) → c ≡ true → (b || c) ≡ true
 or_right true c e = refl
 or_right false c e = e
 
--- a key that was seen comes no more
+-- a key that was seen doesn't appear again
 away_seen : (s : State) (k : Key) (ks seen : List Key) → list_any (λ m. key_eq m k) seen ≡ true → Away k (wanted_of s (first_places seen ks))
 away_seen s k [] seen at = tt
 away_seen s k (l ∷ ks) seen at =
@@ -281,7 +281,7 @@ apart_if s l seen ks false here later =
     apart_by l (at_key s.claims l) (wanted_of s (first_places (l ∷ seen) ks))
     (away_seen s l ks (l ∷ seen) (ap (λ b. b || list_any (λ m. key_eq m l) seen) (key_eq-same l))) later
 
--- the claims that a pod wants have keys that differ
+-- the claims that a pod needs have keys that differ
 apart_wanted : (s : State) (ks seen : List Key) → KeysApart (wanted_of s (first_places seen ks))
 apart_wanted s [] seen = tt
 apart_wanted s (l ∷ ks) seen = apart_if s l seen ks (list_any (λ m. key_eq m l) seen) (apart_wanted s ks seen) (apart_wanted s ks (l ∷ seen))
@@ -295,7 +295,7 @@ grant_sets : (node : List ℕ) (pod k : Key) (results : List DeviceResult) (clai
     → with_grant node pod k results claims ≡ set_value (is_at (key_cmp k)) claims (granted node pod results u.claim)
 grant_sets node pod k results claims u = ap (λ o. option_map_or (λ x. set_value (is_at (key_cmp k)) claims (granted node pod results x)) o claims) u.is_there
 
--- the claims of the grants are there, and have no grant
+-- the claims of the grants exist, and have no grant
 abbrev EachOpen : Claims → List Grant → Type 0
 EachOpen claims [] = Unit {0}
 EachOpen claims (g ∷ gs) = Ungranted claims g.claim × EachOpen claims gs
@@ -344,7 +344,7 @@ grants_apart node pod (g ∷ gs) claims each keys olds news apart =
     grants_apart node pod gs (with_grant node pod g.claim g.results claims) (each_kept node pod g.claim g.results claims each.0 gs keys.0 each.1) keys.1 given.apart (apart_back first rest news)
     (λ d h k. ⊎_elim (λ m. apart_disjoint first rest news d m h) (λ m. apart d (Contains-append_right first rest d h) m) (given.among d k))
 
--- ---- the results that each claim is given
+-- ---- the results that each claim gets
 
 abbrev Once : List Result → Type 0
 Once rs = EachTwo (λ r s. r.label.admin ≡ false → s.label.admin ≡ false → r.device ≢ s.device) rs
@@ -362,7 +362,7 @@ step_by i r rs false = refl
 cut_step : (i : ℕ) (r : Result) (rs : List Result) → cut_devices i (r ∷ rs) ≡ cut_by (eqb r.label.claim i) r.label.admin r.device (cut_devices i rs)
 cut_step i r rs = step_by i r rs (eqb r.label.claim i)
 
--- a result without admin access for the claim at a place
+-- a result without admin access for the claim at an index
 record Cut (i : ℕ) (rs : List Result) (d : DeviceId) : Type 0 where
   place : ℕ
   result : Result
@@ -426,7 +426,7 @@ cut_disjoint i j rs n once d h g =
 abbrev cuts : ℕ → List ResourceClaim → List Result → List Grant
 cuts i cs rs = map grant_of (grants_from i cs rs)
 
--- what the claims from a place on are given is a later claim's result
+-- a device of the claims from an index on is among the results of one of them
 record Later (i : ℕ) (rs : List Result) (d : DeviceId) : Type 0 where
   claim : ℕ
   after : i ≤ claim
@@ -480,7 +480,7 @@ apart_of s h = apart_from (held_in s.claims) (λ i j d e lt f g same.
     let y = pair_at s j e g in
     h.apart i j x.0 y.0 lt x.1 y.1 (x.2 ∙ same ∙ sym y.2))
 
--- where the same devices are held
+-- if the same devices are held
 pub once_same : (s t : State) → HeldOnce s → held_in t.claims ≡ held_in s.claims → HeldOnce t
 once_same s t h e = once_from t (subst (λ (ds : List DeviceId). Apart ds) (sym e) (apart_of s h))
 
@@ -492,7 +492,7 @@ joins_same : (pod : Key) (ks : List Key) (es : Claims) → held_in (with_joins p
 joins_same pod [] es = refl
 joins_same pod (k ∷ ks) es = joins_same pod ks (changed_at k (joined_by pod) es) ∙ joined_same pod k es (at_key es k) refl
 
--- what an allocation says of the devices that its results hold
+-- what an allocation guarantees for the devices that its results hold
 abbrev pub HoldLaw : Type 0
 HoldLaw = (w : SearchInput) (c : List ℕ) (rs : List Result) → IsAllocation w c rs → HoldsOnce w rs
 

@@ -1,4 +1,4 @@
--- Names are equal where the tests say so.
+-- Names are equal if the tests are true.
 use Rattle.std.proofs.Common.{ℕ, ◌≡◌, List, true, ◌&&◌, sym}
 use Rattle.std.specs.List.{Contains}
 use Rattle.std.specs.Map.{keys_of}

@@ -19,7 +19,7 @@ use Rattle.allocations.specs.Input.{grants_at, grants_by, input_for, outcome_on,
 use Rattle.allocations.specs.Allocation.{IsAllocation}
 use Rattle.allocations.specs.Outcomes.{IsFault, IsUnsat}
 
--- what the laws of walks say
+-- the statement of the laws of walks
 abbrev pub Fulls : Type 0
 Fulls = (w : SearchInput) (x : Item) → Contains (walk (problem_of w)) x → x.mark ≡ Full → rules.IsAllocation w x.choice (results_of w x.choice x.positions)
 

@@ -1,4 +1,4 @@
--- The claims of a pod that want devices, and those that it joins.
+-- The claims of a pod that need devices, and those that it joins.
 use Rattle.std.specs.Prelude.{ℕ, List, [], ◌∷◌, ◌++◌, Bool, false, not, Option, None, Some, is_none, is_some, find, filter, if◌then◌else◌}
 use Rattle.std.specs.List.{list_any}
 use Rattle.object_fields.specs.declared.key.Key.{Key}
@@ -11,15 +11,15 @@ use Rattle.cluster.specs.declared.state.Granted.{Granted}
 use Rattle.cluster.specs.Claims.{claim_keys, first_places}
 use Rattle.cluster.specs.State.{may_use}
 
--- the claims that a pod names, each at its first place
+-- the claims that a pod names, each at its first index
 abbrev pub keys_of_pod : Pod → List Key
 keys_of_pod p = first_places [] (claim_keys p)
 
--- the keys with one more at the end, where it isn't among them
+-- the keys with one more at the end, if it isn't among them
 abbrev pub added_key : List Key → Key → List Key
 added_key keys k = if list_any (λ l. key_eq l k) keys then keys else keys ++ k ∷ []
 
--- the claim before others, under the key by which the pod names it, where it has no grant
+-- the claim before others, under the key by which the pod names it, if it has no grant
 abbrev pub add_ungranted : Key → ClaimState → Option Granted → List ResourceClaim → List ResourceClaim
 add_ungranted k c None claims = record c.claim.object { key = k } ∷ claims
 add_ungranted k c (Some g) claims = claims
@@ -33,7 +33,7 @@ abbrev pub wanted_of : State → List Key → List ResourceClaim
 wanted_of s [] = []
 wanted_of s (k ∷ ks) = add_wanted k (at_key s.claims k) (wanted_of s ks)
 
--- the pod's claims without a grant, each at its first place
+-- the pod's claims without a grant, each at its first index
 unfoldable pub wanted : State → Pod → List ResourceClaim
 wanted s p = wanted_of s (keys_of_pod p)
 
@@ -41,7 +41,7 @@ abbrev pub has_grant : Option ClaimState → Bool
 has_grant None = false
 has_grant (Some c) = is_some c.grant
 
--- the pod's claims with a grant, each at its first place
+-- the pod's claims with a grant, each at its first index
 unfoldable pub joined : State → Pod → List Key
 joined s p = filter (λ k. has_grant (at_key s.claims k)) (keys_of_pod p)
 
@@ -57,7 +57,7 @@ is_elsewhere node (Some c) = is_off node c.grant
 unfoldable pub other_claim : State → Pod → List ℕ → Option Key
 other_claim s p node = find (λ k. is_elsewhere node (at_key s.claims k)) (keys_of_pod p)
 
--- the first of the pod's claims that isn't there
+-- the first of the pod's claims that doesn't exist
 unfoldable pub missing_claim : State → Pod → Option Key
 missing_claim s p = find (λ k. is_none (at_key s.claims k)) (keys_of_pod p)
 

@@ -1,4 +1,4 @@
--- What a search of a node is given, in a state, and what it answers.
+-- The input of a search of a node, in a state, and what the search returns.
 use Rattle.std.specs.Prelude.{ℕ, List, Option, map}
 use Rattle.api_claim.specs.declared.types.ResourceClaim.{ResourceClaim}
 use Rattle.api_cluster.specs.declared.types.Pod.{Pod}
@@ -21,7 +21,7 @@ use Rattle.request_rules.specs.Problem.{problem_of}
 use Rattle.request_rows.specs.Match.{matched_by}
 use Rattle.allocations.specs.Claims.{wanted}
 
--- the value of a counter, where a slice has it
+-- the value of a counter, if a slice has it
 abbrev pub value_among : List ResourceSlice → CounterId → Option ℕ
 value_among xs c = first_some (λ x. counter_value x c) xs
 
@@ -36,7 +36,7 @@ input_of s claims node = record {
   broken = has_broken s.inventory node;
 }
 
--- what a search of a node for a pod is given
+-- the input of a search of a node for a pod
 abbrev pub input_for : State → Pod → List ℕ → SearchInput
 input_for s pod node = input_of s (wanted s pod) node
 
@@ -44,11 +44,11 @@ input_for s pod node = input_of s (wanted s pod) node
 unfoldable pub walk_on : State → Pod → List ℕ → List Item
 walk_on s pod node = walk (problem_of (input_for s pod node))
 
--- what a search of a node for a pod answers within a budget
+-- what a search of a node for a pod returns within a budget
 unfoldable pub outcome_on : State → Pod → List ℕ → ℕ → Outcome
 outcome_on s pod node budget = outcome budget (walk_on s pod node)
 
--- ---- results and faults as plans have them
+-- ---- results and evaluation errors as plans have them
 
 abbrev pub device_result : NamedResult → DeviceResult
 device_result r = record { name = r.name; device = r.device; admin = r.admin }

@@ -29,7 +29,7 @@ pub fn grants_hold_once()
     allocations_hold_once();
 }
 
-/// Each device has one holder where there is nothing yet, and each change that grants nothing keeps it so.
+/// Each device has one holder in the empty state, and each change that grants nothing preserves this.
 pub fn changes_hold_once()
     ensures empty { HeldOnce empty_state }
     ensures applied { (place : ℕ) (object : Object) (s : State) → HeldOnce s → HeldOnce (with_object place object s) }
@@ -38,7 +38,7 @@ pub fn changes_hold_once()
     ensures bound { (pod : Key) (node : List ℕ) (s : State) → HeldOnce s → HeldOnce (with_bound pod node s) }
 {}
 
-/// Where each device has one holder, two claims that hold the same device are the same claim.
+/// If each device has one holder, two claims that hold the same device are the same claim.
 pub fn holders_are_one_claim()
     ensures { (s : State) (k l : Key) (c b : ClaimState) (d : DeviceId) → HeldOnce s → at_key s.claims k ≡ Some c → at_key s.claims l ≡ Some b →
         Contains (held_by c.grant) d → Contains (held_by b.grant) d → k ≡ l }

@@ -8,8 +8,8 @@ use dra_values::Seq;
 use object_fields::Key;
 use std::alloc::{AllocError, Global};
 
-/// The claims that a pod names, in order, each at its first place.
-/// `AllocError` comes only if memory runs out.
+/// The claims that a pod names, in order, each at its first index.
+/// `AllocError` is returned only if memory runs out.
 pub fn keys_of_pod(alloc: Global, pod: &Pod) -> Result<Seq<Key>, AllocError>
     ensures { IfOk result (λ keys. keys ≡ keys_of_pod pod.now) }
 {
@@ -31,7 +31,7 @@ fn claim_key(alloc: Global, pod: &Pod, entry: &PodResourceClaim) -> Result<Key, 
     })
 }
 
-/// Puts a key at the end, where it isn't among the keys yet.
+/// Puts a key at the end, if it isn't among the keys yet.
 fn add_key(keys: &mut Seq<Key>, key: Key) -> Result<(), AllocError>
     ensures { IfOk result (λ _. keys.new ≡ added_key keys.old key) }
 {

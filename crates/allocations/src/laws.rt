@@ -16,7 +16,7 @@ use request_rules::walk_is_meant;
 use walk::{outcome_is_exact, walk_is_exact};
 
 /// If a search within some budget returns Unsat, the node has no allocation for the pod, and its walk
-/// has no fault.
+/// has no evaluation error.
 pub fn unsat_is_true()
     ensures { (s : State) (pod : Pod) (node : List ℕ) (b : ℕ) → outcome_on s pod node b ≡ Unsat → IsUnsat s pod node }
 {
@@ -25,7 +25,7 @@ pub fn unsat_is_true()
 }
 
 /// If a search ends with its budget, the walk of the node has more items than the budget, and those
-/// within it are neither full nor a fault.
+/// within it are neither full nor an evaluation error.
 pub fn budget_is_true()
     ensures more { (s : State) (pod : Pod) (node : List ℕ) (b : ℕ) → outcome_on s pod node b ≡ Budget → b < length (walk_on s pod node) }
     ensures parts { (s : State) (pod : Pod) (node : List ℕ) (b : ℕ) (x : Item) → outcome_on s pod node b ≡ Budget → Contains (take b (walk_on s pod node)) x → x.mark ≡ Part }
@@ -33,8 +33,8 @@ pub fn budget_is_true()
     outcome_is_exact();
 }
 
-/// The place of a fault is that of the first of the choice's requests, in order, that gives one, on the
-/// first device, in order, on which it does; and the search ended at a choice with a fault.
+/// The location of an evaluation error is that of the first of the choice's requests, in order, that has one,
+/// on the first device, in order, on which it has one; and the search ended at a choice with one.
 pub fn faults_are_first()
     ensures { (s : State) (pod : Pod) (b : ℕ) (node : List ℕ) (fault : SelectorFault) (f : IsFault s pod b node fault) →
         (place : FaultPlace) × (selector_fault place ≡ fault) × IsFirstFault (input_for s pod node) f.item.choice place }
@@ -42,7 +42,7 @@ pub fn faults_are_first()
     request_rules::faults_are_first();
 }
 
-/// The walk of a node that is there has a full item for each allocation of the pod's claims on it,
+/// The walk of a node that exists has a full item for each allocation of the pod's claims on it,
 /// with positions of its devices, and no other full items; the first full item comes before the
 /// others.
 pub fn walk_is_allocations()

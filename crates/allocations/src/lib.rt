@@ -1,5 +1,5 @@
-//! What an allocation is in a state of a cluster, for claims of every form: which claims of a pod want devices,
-//! what a search of a node is given, and what its outcomes tell.
+//! What an allocation is in a state of a cluster, for all supported claims: which claims of a pod need devices,
+//! what the input of a search of a node is, and what its outcomes mean.
 #![tactic(auto)]
 
 mod holders;

@@ -1,4 +1,4 @@
--- Each object that is printed is plain: without floats, and not nested too deep.
+-- Each object that is printed is `Plain`: without floats, and not nested too deep.
 use Rattle.std.proofs.Common.{◌≡◌, ◌≤◌, ℕ, suc, ℤ, pos, negsuc, List, [], ◌∷◌, Bool, true, false, Option, Some, None, refl, ap, arith}
 use Rattle.std.specs.Prelude.{option_map, codes, if◌then◌else◌}
 use Rattle.serde_json.specs.Read.{max_depth, read}
@@ -299,7 +299,7 @@ json_plain s (target.Class name) = option_plain 21 class_json _ class_plain
 json_plain s (target.Claim key) = option_plain 21 (claim_json s.pods) _ (claim_plain s.pods)
 json_plain s (target.Pod key) = option_plain 21 (λ (p : PodState). pod_json p.pod) _ (λ p. pod_plain p.pod)
 
--- the text of a value that is plain
+-- the text of a value that is `Plain`
 pub text_from : (v : Data) (o : Option Data) (bytes : List ℕ) → Some v ≡ o → PlainIf 21 o → (has_float v ≡ false → bytes ≡ compact_text v) → Some bytes ≡ option_map compact_text o
 text_from v o bytes e h t =
     let p = rw (← e) at h in

@@ -42,7 +42,7 @@ slash_place (b ∷ bs) id h =
     let split = and_parts (not (b == 47)) (list_all (λ c. not (c == 47)) bs) h in
     rw (split.0, slash_place bs id split.1) (omega arith)
 
--- a domain has no `/`, so the name is cut behind it
+-- a domain has no `/`, so the name is cut after it
 pub name_cut : (domain id : List ℕ) → is_dns_name domain ≡ true → cut_at 47 (domain ++ 47 ∷ id) ≡ Some (domain, id)
 name_cut domain id h =
     let place : position_or_len (λ b. b == 47) (domain ++ 47 ∷ id) ≡ length domain = slash_place domain id (no_slash domain (dns_bytes (parts_at 46 domain) h)) in

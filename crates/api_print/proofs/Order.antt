@@ -1,4 +1,4 @@
--- Members that are put in front of others.
+-- Members that are put before others.
 use Rattle.std.proofs.Common.{◌≡◌, ℕ, List, Ordering, Less, Equal, Greater, true, Option, Some, None, refl}
 use Rattle.std.specs.Ordering.{nat_cmp, is_lt, match_ordering}
 use Rattle.std.specs.Cmp.Lexicographic.{slice_cmp}

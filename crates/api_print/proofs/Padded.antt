@@ -1,10 +1,10 @@
--- Numbers with zeros in front.
+-- Numbers with leading zeros.
 use Rattle.std.proofs.Common.{◌≡◌, ℕ, ◌-◌, List, [], ◌++◌, false, length, replicate, ap, arith}
 use Rattle.std.proofs.lemmas.List.{append-nil}
 use Rattle.std.specs.Fmt.{format_spec, padded_integral, char_count}
 use Rattle.api_print.specs.Metadata.{twelve}
 
--- what a hole with a width of twelve and zeros in front writes
+-- what a placeholder with a width of twelve and leading zeros writes
 pub padded_twelve : (numeral : List ℕ) → padded_integral (format_spec 32 0 4 12 18446744073709551615) false [] numeral ≡ twelve numeral
 unfolding padded_integral char_count
 padded_twelve numeral =

@@ -9,7 +9,7 @@ use Rattle.serde_json.specs.View.{items_of}
 use Rattle.serde_json.specs.Written.{has_float, items_have_float, members_have_float}
 use Rattle.api_print.specs.Shapes.{flag_if, list_if, list_json, listed, member_if, table_if, table_json, with_entries}
 
--- no float, and at most so many levels of lists and objects
+-- no float, and at most n levels of lists and objects
 abbrev mutual
   pub is_plain : ℕ → Data → Bool
   is_plain n null = true
@@ -55,7 +55,7 @@ no_float (unsigned n) h = refl
 no_float (negative z) h = refl
 no_float (float x) h = cc
 
--- what is plain has no float and is nested no deeper
+-- what is `Plain` has no float and is nested no deeper
 mutual
   pub plain_floats : (n : ℕ) (d : Data) → is_plain n d ≡ true → has_float d ≡ false
   plain_floats n null h = refl

@@ -34,7 +34,7 @@ use Rattle.api_print.specs.Shapes.{flag_if, list_json, listed, member_if}
 use Rattle.api_print.proofs.Decimals.{not_longer}
 use Rattle.api_print.proofs.Readings.{each_found, label_read, listed_length}
 
--- ---- a member behind others that may be missing
+-- ---- a member after others that may be missing
 
 skip_at : (o : Ordering) (a b : Option Data) → is_eq o ≡ false → match_ordering o a b a ≡ a
 skip_at Less a b h = refl

@@ -13,7 +13,7 @@ use Rattle.object_fields.specs.Meta.{labels_with}
 use Rattle.object_fields.specs.declared.path.Step.{Step}
 use Rattle.api_print.specs.Shapes.{own_text, with_entries}
 
--- a member for each entry, as they stand
+-- a member for each entry, in the same order
 abbrev pub in_order : {V : Type 0} → (V → Data) → List (List ℕ × V) → Members
 in_order json [] = no_members
 in_order json (e ∷ es) = member e.0 (json e.1) (in_order json es)
@@ -38,7 +38,7 @@ insert_last (first ∷ done) e more h =
     let above : slice_cmp nat_cmp e.0 first.0 ≡ Greater = nat_list_cmp_total.antisymm e.0 first.0 ∙ ap ordering_reverse (below_later first done e more h.0) in
     rw above (ap (λ es. first ∷ es) (insert_last done e more h.1))
 
--- the entries put in are the members as they stand
+-- the entries put in are the members in the same order
 pub entries_in_order : {V : Type 0} (json : V → Data) (done es : List (List ℕ × V)) → IsStrictlySortedBy (slice_cmp nat_cmp) (keys_of (done ++ es)) → with_entries own_text json (in_order json done) es ≡ in_order json (done ++ es)
 entries_in_order json done [] h = rw (append-nil done) refl
 entries_in_order json done (e ∷ es) h =

@@ -20,7 +20,7 @@ abbrev pub mode_text : AllocationMode → List ℕ
 mode_text (ExactCount n) = codes "ExactCount"
 mode_text All = codes "All"
 
--- the count is printed also where it is 1
+-- the count is printed even if it is 1
 abbrev pub count_if : AllocationMode → Option Data
 count_if (ExactCount n) = Some (number (unsigned n))
 count_if All = None
@@ -43,7 +43,7 @@ subrequest_json s =
 
 -- ---- requests
 
--- the member of the request's kind, in front of others
+-- the member of the request's kind, before others
 abbrev pub kind_before : RequestKind → Members → Members
 kind_before (kind.Exactly exactly) ms = member (codes "exactly") (exactly_json exactly) ms
 kind_before (kind.FirstAvailable subrequests) ms = member (codes "firstAvailable") (list_json subrequest_json subrequests) ms
@@ -53,7 +53,7 @@ request_json r = object (kind_before r.kind (member (codes "name") (string r.nam
 
 -- ---- constraints
 
--- the requests are left out where they are all
+-- the requests are left out if they are all
 abbrev pub constraint_json : DeviceConstraint → Data
 constraint_json c =
     object (member (codes "matchAttribute") (string (full_name c.attribute))

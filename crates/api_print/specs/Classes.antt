@@ -11,7 +11,7 @@ abbrev pub selector_json : List ℕ → Data
 selector_json expression =
     object (member (codes "cel") (object (member (codes "expression") (string expression) no_members)) no_members)
 
--- selectors, left out where there are none
+-- selectors, left out if there are none
 abbrev pub selectors_if : List (List ℕ) → Option Data
 selectors_if expressions = list_if selector_json expressions
 

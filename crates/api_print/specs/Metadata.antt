@@ -6,11 +6,11 @@ use Rattle.serde_json.specs.Data.{Data, string, object, no_members, member}
 use Rattle.object_fields.specs.declared.key.Key.{Key}
 use Rattle.api_print.specs.Shapes.{member_if, own_text, table_if}
 
--- zeros in front of less than twelve digits
+-- leading zeros before fewer than twelve digits
 abbrev pub twelve : List ℕ → List ℕ
 twelve numeral = replicate (12 - length numeral) 48 ++ numeral
 
--- the uid of what the entry at a place created: its last part is the place in lower-case hexadecimal digits
+-- the uid of what the entry at an index created: its last part is the index in lower-case hexadecimal digits
 unfoldable pub uid_text : ℕ → List ℕ
 uid_text place = codes "00000000-0000-4000-8000-" ++ twelve (digits 16 false place)
 
@@ -18,7 +18,7 @@ uid_text place = codes "00000000-0000-4000-8000-" ++ twelve (digits 16 false pla
 abbrev pub labels_if : List (List ℕ × List ℕ) → Option Data
 labels_if labels = table_if own_text string labels
 
--- of an object without namespace: labels where there are any, the name, the version and the uid
+-- of an object without namespace: labels if there are any, the name, the version and the uid
 abbrev pub metadata_json : Option Data → List ℕ → ℕ → ℕ → Data
 metadata_json labels name version uid =
     object (member_if (codes "labels") labels
@@ -34,7 +34,7 @@ key_metadata_json key version uid =
     (member (codes "resourceVersion") (string (decimal version))
     (member (codes "uid") (string (uid_text uid)) no_members))))
 
--- apiVersion and kind, the metadata, and the spec and the status where there are any
+-- apiVersion and kind, the metadata, and the spec and the status if there are any
 abbrev pub object_json : List ℕ → List ℕ → Data → Option Data → Option Data → Data
 object_json version kind metadata spec status =
     object (member (codes "apiVersion") (string version)

@@ -12,7 +12,7 @@ use Rattle.api_print.specs.Pods.{pod_json}
 use Rattle.api_print.specs.Slices.{slice_json}
 use Rattle.api_print.specs.Status.{claim_json}
 
--- the object of a kind and name, if it is there
+-- the object of a kind and name, if it exists
 abbrev pub json_of : State → Target → Option Data
 json_of s (target.Node name) = option_map node_json (at_name s.inventory.nodes name)
 json_of s (target.Slice name) = option_map slice_json (at_name s.inventory.slices name)

@@ -1,4 +1,4 @@
--- How a Pod is printed (API reference of v1). The node that it was bound to is no field that is kept.
+-- How a Pod is printed (API reference of v1). The node that it was bound to isn't a kept field.
 use Rattle.std.specs.Prelude.{Some, None, codes}
 use Rattle.serde_json.specs.Data.{Data, string, object, no_members, member}
 use Rattle.api_cluster.specs.declared.types.Pod.{Pod}

@@ -5,7 +5,7 @@ use Rattle.std.specs.Cmp.Lexicographic.{slice_cmp}
 use Rattle.serde_json.specs.Data.{Data, boolean, array, object, Items, Members, no_members, member, put}
 use Rattle.serde_json.specs.View.{items_of}
 
--- a member that may be missing, in front of others
+-- a member that may be missing, before others
 abbrev pub member_if : List ℕ → Option Data → Members → Members
 member_if key None ms = ms
 member_if key (Some d) ms = member key d ms
@@ -27,12 +27,12 @@ listed json xs = items_of (map json xs)
 abbrev pub list_json : {A : Type 0} → (A → Data) → List A → Data
 list_json json xs = array (listed json xs)
 
--- a list, left out where it is empty
+-- a list, left out if it is empty
 abbrev pub list_if : {A : Type 0} → (A → Data) → List A → Option Data
 list_if json [] = None
 list_if json (x ∷ xs) = Some (list_json json (x ∷ xs))
 
--- the members with an entry of a table put in, at its name's place in the order of bytes
+-- the members with an entry of a table put in, at its name's index in the order of bytes
 abbrev pub with_entries : {K V : Type 0} → (K → List ℕ) → (V → Data) → Members → List (K × V) → Members
 with_entries name json ms [] = ms
 with_entries name json ms (e ∷ es) = with_entries name json (put (name e.0) (json e.1) ms) es
@@ -41,7 +41,7 @@ with_entries name json ms (e ∷ es) = with_entries name json (put (name e.0) (j
 abbrev pub table_json : {K V : Type 0} → (K → List ℕ) → (V → Data) → List (K × V) → Data
 table_json name json es = object (with_entries name json no_members es)
 
--- a table, left out where it is empty
+-- a table, left out if it is empty
 abbrev pub table_if : {K V : Type 0} → (K → List ℕ) → (V → Data) → List (K × V) → Option Data
 table_if name json [] = None
 table_if name json (e ∷ es) = Some (table_json name json (e ∷ es))

@@ -55,7 +55,7 @@ user_json name uid =
     (member (codes "resource") (string (codes "pods"))
     (member (codes "uid") (string (uid_text uid)) no_members)))
 
--- the pod, if it is there
+-- the pod, if it exists
 abbrev pub user_of : Key → Option PodState → List Data
 user_of key None = []
 user_of key (Some p) = user_json key.name p.pod.uid ∷ []
@@ -69,7 +69,7 @@ user_by pods key Written = user_of key (at_key pods key)
 abbrev pub written_users : List (Key × PodState) → List (Key × Use) → List Data
 written_users pods users = flat_map (λ (e : Key × Use). user_by pods e.0 e.1) users
 
--- a list of these items, left out where there are none
+-- a list of these items, left out if there are none
 abbrev pub items_if : List Data → Option Data
 items_if [] = None
 items_if (d ∷ ds) = Some (array (items_of (d ∷ ds)))
@@ -81,7 +81,7 @@ status_json pods grant users =
     object (member (codes "allocation") (allocation_json grant)
     (member_if (codes "reservedFor") (items_if (written_users pods users)) no_members))
 
--- there is a status where a grant is published
+-- there is a status if a grant is published
 abbrev pub status_if : List (Key × PodState) → Option Granted → List (Key × Use) → Option Data
 status_if pods None users = None
 status_if pods (Some grant) users = if grant.published then Some (status_json pods grant users) else None

@@ -9,14 +9,14 @@ use std::alloc::{AllocError, Global};
 /// The members of an object. They are put in from the last to the first.
 pub type Members = Map<String, Value>;
 
-/// No members. Takes no memory.
+/// No members. Allocates nothing.
 pub fn none(alloc: Global) -> Members
     ensures { members_view result.entries ≡ no_members }
 {
     Map::new(alloc)
 }
 
-/// The members with one in front of them, whose key is below all of theirs in the order of bytes.
+/// The members with one before them, whose key is below all of theirs in the order of bytes.
 /// `AllocError` only if memory runs out.
 #[tactic(auto, using(crate::proofs::Order::put_first))]
 pub fn before(

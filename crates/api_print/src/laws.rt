@@ -21,7 +21,7 @@ ghost use Rattle.api_print.specs.ReadBack.{claim_read, class_read, node_read, po
 
 use api_cluster::{DeviceClass, Node, Pod};
 
-/// The JSON of a node reads as the node, with the version that it has in the state. Takes no memory.
+/// The JSON of a node reads as the node, with the version that it has in the state. Allocates nothing.
 pub fn node_reads_back(node: &Node, version: u64, uid: u64)
     ensures { node_of (node_json (record { object = node.now; uid = uid; version = version })) ≡ Ok (node_read (record { object = node.now; uid = uid; version = version })) }
 {
@@ -29,14 +29,14 @@ pub fn node_reads_back(node: &Node, version: u64, uid: u64)
     node.labels.in_order();
 }
 
-/// The JSON of a class reads as the class, with the version that it has in the state. Takes no memory.
+/// The JSON of a class reads as the class, with the version that it has in the state. Allocates nothing.
 pub fn class_reads_back(class: &DeviceClass, version: u64, uid: u64)
     ensures { class_of (class_json (record { object = class.now; uid = uid; version = version })) ≡ Ok (class_read (record { object = class.now; uid = uid; version = version })) }
 {
     class.keeps_limits();
 }
 
-/// The JSON of a pod reads as the pod, with the version that it has in the state. Takes no memory.
+/// The JSON of a pod reads as the pod, with the version that it has in the state. Allocates nothing.
 pub fn pod_reads_back(pod: &Pod, version: u64, uid: u64)
     ensures { pod_of (pod_json (record { object = pod.now; uid = uid; version = version })) ≡ Ok (pod_read (record { object = pod.now; uid = uid; version = version })) }
 {

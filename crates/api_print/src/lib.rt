@@ -6,10 +6,10 @@
 //!
 //! - optional lists and tables without entries and flags that are false are left out
 //! - `allocationMode` is always printed, and with ExactCount also a `count` of 1
-//! - names of attributes and capacities are printed in full, `domain/id`, also where the domain is the
+//! - names of attributes and capacities are printed in full, `domain/id`, even if the domain is the
 //!   driver
 //! - a quantity is a string, as it prints, and so are the numbers of Gt and Lt, in decimal digits
-//! - `reservedFor` has the pods whose use is written, in the order of their keys, and is left out where
+//! - `reservedFor` has the pods whose use is written, in the order of their keys, and is left out if
 //!   there are none
 //! - a pod that is bound has no `nodeName`, which isn't kept of any pod
 //!

@@ -8,7 +8,7 @@ use object_fields::Key;
 use serde_json::Value;
 use std::alloc::{AllocError, Global};
 
-/// The uid of what the entry at this place created: `00000000-0000-4000-8000-` and the place in
+/// The uid of what the entry at this index created: `00000000-0000-4000-8000-` and the index in
 /// twelve lower-case hexadecimal digits, or as many as it has if it has more. `AllocError` only if
 /// memory runs out. The form is this project's own.
 #[tactic(auto, using(crate::proofs::Padded::padded_twelve), unfolding(crate::specs::Metadata::uid_text))]

@@ -14,7 +14,7 @@ use object_fields::Key;
 use serde_json::Value;
 use std::alloc::{AllocError, Global};
 
-/// The JSON of the state's object of a kind and name, or `None` if it isn't there. `AllocError` only
+/// The JSON of the state's object of a kind and name, or `None` if it doesn't exist. `AllocError` only
 /// if memory runs out.
 pub fn value_of(alloc: Global, target: &Target, state: &State) -> Result<Option<Value>, AllocError>
     ensures { IfOk result (λ o. option_map view o ≡ json_of state.now target.now) }
@@ -59,7 +59,7 @@ fn pod_at(alloc: Global, key: &Key, state: &State) -> Result<Option<Value>, Allo
 }
 
 /// The text of the state's object of a kind and name: JSON without blanks and its members in the
-/// order of bytes, or `None` if the object isn't there. The text reads as the object's JSON.
+/// order of bytes, or `None` if the object doesn't exist. The text reads as the object's JSON.
 /// `AllocError` only if memory runs out.
 pub fn print(alloc: Global, target: &Target, state: &State) -> Result<Option<Vec<u8>>, AllocError>
     ensures text { IfOk result (λ o. option_map (λ t. t.items) o ≡ option_map compact_text (json_of state.now target.now)) }

@@ -32,7 +32,7 @@ fn count(mode: AllocationMode) -> Option<Value>
     }
 }
 
-/// `selectors`, where there are any.
+/// `selectors`, if there are any.
 fn with_selectors(alloc: Global, ask: &DeviceAsk) -> Result<Members, AllocError>
     ensures { IfOk result (λ m. members_view m.entries ≡ member_if (codes "selectors") (selectors_if ask.now.selectors) no_members) }
 {
@@ -73,7 +73,7 @@ impl Printed for DeviceSubRequest {
     }
 }
 
-/// The member of the request's kind in front of its name.
+/// The member of the request's kind before its name.
 fn with_kind(alloc: Global, kind: &RequestKind, name: Value) -> Result<Members, AllocError>
     ensures { IfOk result (λ m. members_view m.entries ≡ kind_before kind.now (member (codes "name") (view name) no_members)) }
 {

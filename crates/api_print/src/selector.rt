@@ -106,7 +106,7 @@ pub fn node_selector(alloc: Global, selector: &Selector) -> Result<Value, AllocE
     only(alloc, "nodeSelectorTerms", terms)
 }
 
-/// `allNodes`, where it is set. Takes no memory.
+/// `allNodes`, if it is set. Allocates nothing.
 pub fn all_nodes(nodes: &Nodes) -> Option<Value>
     ensures { option_map view result ≡ all_nodes_if nodes.now }
 {
@@ -117,7 +117,7 @@ pub fn all_nodes(nodes: &Nodes) -> Option<Value>
     }
 }
 
-/// `nodeName`, where it is set. `AllocError` only if memory runs out.
+/// `nodeName`, if it is set. `AllocError` only if memory runs out.
 pub fn node_name(alloc: Global, nodes: &Nodes) -> Result<Option<Value>, AllocError>
     ensures { IfOk result (λ o. option_map view o ≡ node_name_if nodes.now) }
 {
@@ -128,7 +128,7 @@ pub fn node_name(alloc: Global, nodes: &Nodes) -> Result<Option<Value>, AllocErr
     }
 }
 
-/// `nodeSelector`, where it is set. `AllocError` only if memory runs out.
+/// `nodeSelector`, if it is set. `AllocError` only if memory runs out.
 pub fn selector_of_nodes(alloc: Global, nodes: &Nodes) -> Result<Option<Value>, AllocError>
     ensures { IfOk result (λ o. option_map view o ≡ node_selector_if nodes.now) }
 {

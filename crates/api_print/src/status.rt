@@ -92,7 +92,7 @@ fn user(alloc: Global, key: &Key, place: u64) -> Result<Value, AllocError>
     Ok(Value::Object(members))
 }
 
-/// Puts the pod at the end of a list, if it is there.
+/// Puts the pod at the end of a list, if it exists.
 fn push_pod(
     list: &mut Vec<Value>,
     alloc: Global,
@@ -107,7 +107,7 @@ fn push_pod(
     Ok(())
 }
 
-/// Puts the pod at the end of a list, if it is there and its use is written.
+/// Puts the pod at the end of a list, if it exists and its use is written.
 fn push_user(
     list: &mut Vec<Value>,
     alloc: Global,

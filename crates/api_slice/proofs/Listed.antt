@@ -33,7 +33,7 @@ use Rattle.api_slice.specs.declared.types.ResourceSlice.{ResourceSlice}
 use Rattle.api_slice.proofs.Limits.{Column, column}
 use Rattle.api_slice.proofs.Readings.{along, gave, kept, the_same, was_some}
 
--- ---- what the labels of items say, a law of the readers of fields
+-- ---- the labels of items, a law of the readers of fields
 
 pub record Labels : Type 0 where
   pub name : (path : List Step) (d : Data) (name : List ℕ) → dns_label_at path (codes "name") d ≡ Ok name → named d ≡ Some name

@@ -153,7 +153,7 @@ length-insert cmp (e ∷ es) k v =
       | Greater ↦ omega (arith, length-insert cmp es k v)
     ]
 
--- keys and values that pass, and no more entries than so many
+-- keys and values that pass, and at most `most` entries
 pub record IsTable {K A : Type 0} (Q : K → Type 0) (P : A → Type 0) (most : ℕ) (table : List (K × A)) : Type 0 where
   pub keys : All Q (keys_of table)
   pub values : All P (values_of table)

@@ -62,12 +62,12 @@ abbrev pub value_of : {A : Type 0} → (A → Attribute) → Option A → List A
 value_of kind None = []
 value_of kind (Some x) = kind x ∷ []
 
--- the one of the four kinds that is there
+-- the one of the four kinds that is set, if exactly one is
 abbrev pub one_value : Option ℤ → Option Bool → Option (List ℕ) → Option (List ℕ) → Option Attribute
 one_value n b text version =
     only (value_of attribute.Int n ++ value_of attribute.Bool b ++ value_of attribute.Text text ++ value_of attribute.Version version)
 
--- the four kinds are read, and exactly one of them is there
+-- the four kinds are read, and exactly one of them must be set
 abbrev pub attribute_of : List Step → Data → Result Attribute FieldError
 attribute_of path value =
     object_value path value >>= λ d.
@@ -77,7 +77,7 @@ attribute_of path value =
     optional_at version_at path (codes "version") d >>= λ version.
     some_or (error_at path NotOne) (one_value n b text version)
 
--- Behind those before, the attributes of the members, by their full names.
+-- After those before, the attributes of the members, by their full names.
 abbrev pub attributes_with : List ℕ → List Step → List (QualName × Attribute) → Members → Result (List (QualName × Attribute)) FieldError
 attributes_with driver path before no_members = Ok before
 attributes_with driver path before (member key d ms) =

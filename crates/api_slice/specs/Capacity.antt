@@ -24,7 +24,7 @@ amount_of path value =
     unset_at path (codes "requestPolicy") d >>= λ nothing.
     Ok amount
 
--- Behind those before, the capacities of the members, by their full names.
+-- After those before, the capacities of the members, by their full names.
 abbrev pub capacity_with : List ℕ → List Step → List (QualName × ℤ) → Members → Result (List (QualName × ℤ)) FieldError
 capacity_with driver path before no_members = Ok before
 capacity_with driver path before (member key d ms) =

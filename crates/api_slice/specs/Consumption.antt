@@ -28,7 +28,7 @@ has_counter name counters = is_some (lookup (is_at (slice_cmp nat_cmp name)) cou
 abbrev pub known_counter : List Step → List (List ℕ × ℤ) → List ℕ → Result (List ℕ) FieldError
 known_counter path counters name = unless (error_at path Unknown) (not (has_counter name counters)) name
 
--- Behind those before, the amounts of the members: each of a counter of the set.
+-- After those before, the amounts of the members: each of a counter of the set.
 abbrev pub amounts_with : List (List ℕ × ℤ) → List Step → List (List ℕ × ℤ) → Members → Result (List (List ℕ × ℤ)) FieldError
 amounts_with counters path amounts no_members = Ok amounts
 amounts_with counters path amounts (member key d ms) =

@@ -24,7 +24,7 @@ counters_most = 32
 unfoldable pub counter_name : List Step → List ℕ → Result (List ℕ) FieldError
 counter_name path key = name_in path label_most is_dns_label key
 
--- Behind those before, the counters of the members, each with an amount.
+-- After those before, the counters of the members, each with an amount.
 abbrev pub counters_with : List Step → List (List ℕ × ℤ) → Members → Result (List (List ℕ × ℤ)) FieldError
 counters_with path counters no_members = Ok counters
 counters_with path counters (member key d ms) =

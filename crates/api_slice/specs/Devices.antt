@@ -32,7 +32,7 @@ new_device_name path before value =
     object_value path value >>= dns_label_at path (codes "name") >>= λ name.
     unless (field_error path (codes "name") Doubled) (has_device name before) name
 
--- the names from an index on, behind those before
+-- the names from an index on, after those before
 abbrev pub names_from : List Step → ℕ → List (List ℕ) → Items → Result (List (List ℕ)) FieldError
 names_from path place before no_items = Ok before
 names_from path place before (item d ds) =

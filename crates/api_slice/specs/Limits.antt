@@ -27,7 +27,7 @@ use Rattle.api_slice.specs.declared.types.Pool.{Pool}
 use Rattle.api_slice.specs.declared.types.SliceNodes.{SliceNodes}
 use Rattle.api_slice.specs.declared.types.SliceNodes.TheVariants as slice
 
--- no name comes twice
+-- no name appears twice
 abbrev pub AreDifferent : List (List ℕ) → Type 0
 AreDifferent [] = Unit {0}
 AreDifferent (name ∷ names) = All (λ other. other ≢ name) names × AreDifferent names

@@ -81,7 +81,7 @@ fn read_attribute(alloc: Global, value: &Value, path: &Path) -> Result<Attribute
     }
 }
 
-/// The one that is there, if there is just one.
+/// The one that is set, if exactly one is.
 fn one_value(
     number: Option<i64>,
     truth: Option<bool>,

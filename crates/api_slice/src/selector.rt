@@ -26,7 +26,7 @@ use std::alloc::Global;
 ///   that isn't such an integer is WrongType there, and another operator is NotSupported
 /// - of `matchFields` the key is `metadata.name` and the operator In or NotIn, else NotSupported
 ///
-/// What must be there is Missing where it isn't there or is null, then WrongType where it is of
+/// A required field is Missing if it isn't there or is null, then WrongType if it is of
 /// another JSON type. Memory may be returned at any time, with the top's path.
 #[tactic(auto, unfolding(crate::specs::Selectors::selector_of))]
 pub fn read_selector(alloc: Global, value: &Value, path: &Path) -> Result<Selector, FieldError>

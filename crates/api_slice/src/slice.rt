@@ -53,7 +53,7 @@ impl ResourceSlice {
     /// - `taints`, `allowMultipleAllocations`, `bindingConditions`, `bindingFailureConditions` and
     ///   `bindsToNode` of a device: NotSupported unless missing, null, false or empty
     ///
-    /// What must be there is Missing where it isn't there or is null; then it is WrongType where it
+    /// A required field is Missing if it isn't there or is null; then it is WrongType if it
     /// is of another JSON type, TooLong, and BadName, BadQuantity or BadVersion, and a number or an
     /// amount out of its range is OutOfRange. Fields that this project doesn't know are ignored.
     /// Memory may be returned at any time, with the top's path.

@@ -119,7 +119,7 @@ impl Model for ResourceSlice {
 
 impl ResourceSlice {
     /// Each slice keeps the limits and name rules of the API reference of `resource.k8s.io/v1`, as
-    /// `slices_keep_limits` says them. Allocates nothing.
+    /// `slices_keep_limits` states them. Allocates nothing.
     pub fn keeps_limits(&self)
         ensures { IsWithinLimits self.now }
     {

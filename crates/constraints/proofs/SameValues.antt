@@ -1,4 +1,4 @@
--- Values are the same where the test says so, and each is the same as itself.
+-- Values are the same if the test is true, and each is the same as itself.
 use Rattle.std.proofs.Common.{◌≡◌, ℕ, ℤ, List, Bool, true, false, Option, None, Some, refl, sym, ap, ◌∙◌}
 use Rattle.std.specs.Bool.{beq}
 use Rattle.std.specs.Ordering.{int_eq}

@@ -52,7 +52,7 @@ fits_of c first taken p h =
 agreement_is : (c : DeviceConstraint) (n : ℕ) (a : AgreementFields) → a.constraint ≡ c → a.count ≡ n → record { constraint = c; count = n; first = a.first } ≡ a
 agreement_is c n a e f = ap₂ (λ (k : DeviceConstraint) (m : ℕ). record { constraint = k; count = m; first = a.first }) (sym e) (sym f)
 
--- what an agreement says of a result is whether it agrees with those taken
+-- an agreement evaluates to whether a result agrees with those taken
 pub fits_taken : (c : DeviceConstraint) (taken : List Pick) (a : AgreementFields) (p : Pick) → IsOf c taken a → fits_by a p ≡ agrees c taken p
 fits_taken c taken a p of =
     subst (λ (w : AgreementFields). fits_by w p ≡ agrees c taken p) (agreement_is c (named_count c taken) a of.constraint of.count)
@@ -82,7 +82,7 @@ none_step : (b : Bool) (n : ℕ) {X R : Type 0} → (if b then 1 + n else n) ≡
 none_step true n e f = absurd (omega (arith, e))
 none_step false n e f = (λ g. absurd (cc), f e)
 
--- where none is named, they have whatever is asked
+-- if none is named, they have any attribute
 none_named : (c : DeviceConstraint) (o : Option Attribute) (taken : List Pick) → named_count c taken ≡ 0 → AllHave c o taken
 none_named c o [] e = tt
 none_named c o (q ∷ qs) e = none_step (is_named c q) (named_count c qs) e (none_named c o qs)

@@ -1,4 +1,4 @@
--- Which results agree, as far as a constraint of a claim asks (`matchAttribute` of the API reference of
+-- Which results agree, under a constraint of a claim (`matchAttribute` of the API reference of
 -- resource.k8s.io/v1).
 use Rattle.std.specs.Prelude.{ℕ, ◌==◌, length, ℤ, List, [], ◌∷◌, ◌++◌, Bool, true, false, not, ◌&&◌, ◌||◌, Option, None, Some}
 use Rattle.std.specs.BTreeMap.{is_at}
@@ -28,7 +28,7 @@ abbrev pub main_by : List ℕ → Option (List ℕ × List ℕ) → List ℕ
 main_by name None = name
 main_by name (Some p) = p.0
 
--- the request of a result's name: what stands before the slash, where there is one
+-- the request of a result's name: the part before the slash, or all of it
 abbrev pub main_of : List ℕ → List ℕ
 main_of name = main_by name (cut_at 47 name)
 
@@ -39,7 +39,7 @@ names_one name result = text_eq name result || text_eq name (main_of result)
 abbrev pub names_any : List (List ℕ) → List ℕ → Bool
 names_any requests result = list_any (λ name. names_one name result) requests
 
--- one of the names is the result's or its request's; no names at all are all
+-- one of the names is the result's or its request's; an empty list names all results
 abbrev pub names : List (List ℕ) → List ℕ → Bool
 names requests result = (length requests == 0) || names_any requests result
 
@@ -98,7 +98,7 @@ abbrev pub agrees_by : DeviceConstraint → List Pick → Option Attribute → B
 agrees_by c before None = false
 agrees_by c before (Some value) = all_same c value before
 
--- Behind these results: where the constraint names the result, its device has the attribute, with the
+-- After these results: if the constraint names the result, its device has the attribute, with the
 -- type and the value of those before it.
 unfoldable pub agrees : DeviceConstraint → List Pick → Pick → Bool
 agrees c before p = not (is_named c p) || agrees_by c before (attribute_of p.device c.attribute)

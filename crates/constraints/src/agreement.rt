@@ -13,7 +13,7 @@ use std::marker::Model;
 /// One constraint of a claim over the results that were taken: how many it names, and the value of the
 /// first of them, which all of them have.
 ///
-/// The constraint and the value are borrowed; no call takes memory. The clauses speak of the list of
+/// The constraint and the value are borrowed; no call allocates. The clauses are about the list of
 /// the results taken: `IsOf constraint taken agreement`.
 #[derive(Drop)]
 pub struct Agreement<'a> {
@@ -52,7 +52,7 @@ impl<'a> Agreement<'a> {
         self.admits(picked)
     }
 
-    /// Takes a result that fits. The count of the results taken has to stay below 2^64.
+    /// Takes a result that fits. The count of the results taken must stay below 2^64.
     pub fn take(&mut self, picked: &Picked<'a>)
         requires room { self.old.count + 1 < 2 ^ 64 }
         ensures { (c : DeviceConstraint) (taken : List Pick) → IsOf c taken self.old → agrees c taken picked.now ≡ true → IsOf c (taken ++ picked.now ∷ []) self.new }
@@ -60,7 +60,7 @@ impl<'a> Agreement<'a> {
         self.add(picked);
     }
 
-    /// Gives back the result that was taken last.
+    /// Removes the result that was taken last.
     pub fn leave(&mut self, picked: &Picked<'_>)
         ensures { (c : DeviceConstraint) (taken : List Pick) → IsOf c (taken ++ picked.now ∷ []) self.old → IsOf c taken self.new }
     {
@@ -74,7 +74,7 @@ impl<'a> Agreement<'a> {
         names(self.constraint.requests.as_slice(), picked.request())
     }
 
-    /// Whether a value is that of the results taken, where there are any.
+    /// Whether a value is that of the results taken, if there are any.
     fn has(&self, value: &Attribute) -> bool
         ensures { result ≡ has_by self.now.count self.now.first value.now }
     {

@@ -5,7 +5,7 @@ ghost use Rattle.constraints.specs.Agreeing as spec;
 
 use dra_values::Text;
 
-/// What stands before the slash of a result's name, or all of it.
+/// The part of a result's name before the slash, or all of it.
 fn main_of(name: &str) -> &str
     ensures { result.now ≡ spec.main_of name.now }
 {
@@ -32,7 +32,7 @@ fn names_any(requests: &[Text], result_name: &Text) -> bool
     false
 }
 
-/// Whether one of the names is that of the result or of its request; no names at all are all.
+/// Whether one of the names is that of the result or of its request; an empty list names all results.
 pub fn names(requests: &[Text], result_name: &Text) -> bool
     ensures { result ≡ spec.names requests.now result_name.now }
 {

@@ -7,9 +7,9 @@ use std::marker::Model;
 pub struct Picked<'a> {
     /// The name of the result as it is printed: the request, or `request/subrequest`.
     pub request: &'a Text,
-    /// The device that is given.
+    /// The allocated device.
     pub device: DeviceRef<'a>,
-    /// Whether the request has admin access. No constraint looks at it.
+    /// Whether the request has admin access. Constraints ignore it.
     pub admin: bool,
 }
 

@@ -1,4 +1,4 @@
--- What stands at a counter after the counters of a slice were added.
+-- The value at a counter after the counters of a slice were added.
 use Rattle.std.proofs.Common.{◌≡◌, ℕ, ℤ, List, [], ◌∷◌, Bool, true, false, Option, None, Some, refl, sym, ap, ◌∙◌, if◌then◌else◌, cond}
 use Rattle.std.specs.BTreeMap.{insert_entry, is_at}
 use Rattle.std.specs.Cmp.Lexicographic.{same_text, texts_ties}
@@ -59,7 +59,7 @@ insert_by Greater n k v e es is h =
     ∙ other_found (text_eq e.0 k) (text_eq n k) v e.1 (at_name es k) (not_both n e.0 k is)
     ∙ sym (ap (found (text_eq n k) v) (at_head e es k))
 
--- what stands at a name after an insertion
+-- the value at a name after an insertion
 pub insert_at : {V : Type 0} (n k : List ℕ) (v : V) (es : List (List ℕ × V)) → at_name (insert_entry text_cmp es n v) k ≡ found (text_eq n k) v (at_name es k)
 insert_at n k v [] = at_head (n, v) [] k
 insert_at n k v (e ∷ es) = insert_by (text_cmp n e.0) n k v e es refl (insert_at n k v es)

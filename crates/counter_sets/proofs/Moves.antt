@@ -1,4 +1,4 @@
--- What a device's draws make of what is drawn from each counter.
+-- How a device's draws change what is drawn from each counter.
 use Rattle.std.proofs.Common.{◌≡◌, ℕ, ◌+◌, ◌-◌, ◌==◌, ◌≤◌, ◌<◌, ℤ, pos, negsuc, List, [], ◌∷◌, Bool, true, false, Option, None, Some, refl, sym, ap, ap₂, ◌∙◌, arith, if◌then◌else◌, ◌&&◌, min, map}
 use Rattle.std.specs.List.{find, flat_map, list_all, sum_by}
 use Rattle.std.specs.Option.{is_some, option_and_then, option_map}
@@ -20,7 +20,7 @@ use Rattle.counter_sets.specs.declared.change.Change.{Change}
 use Rattle.counter_sets.specs.declared.change.Change.TheVariants as change
 use Rattle.counter_sets.proofs.Names.{moved_if, moved_name, option_map_twice, within}
 
--- ---- what stands at a counter after a change
+-- ---- the value at a counter after a change
 
 abbrev all_moved : Change → List ℕ → List (List ℕ × ℤ) → ℕ → ℕ
 all_moved change k [] n = n

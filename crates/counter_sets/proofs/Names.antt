@@ -21,7 +21,7 @@ pub set_at : {V : Type 0} (name k : List ℕ) (table : List (List ℕ × V)) (v 
 set_at name k table v w there =
     lookup-set_value (eq_by_cmp_equiv nat_list_cmp_total) (is_at (text_cmp name)) (same_test name) k w table (ap is_some there)
 
--- a value that is changed where a test says so
+-- a value that is changed if a test is true
 abbrev pub moved_if : {V : Type 0} → Bool → (V → V) → V → V
 moved_if b f v = if b then f v else v
 
@@ -54,7 +54,7 @@ pub option_map_twice : {A : Type 0} (f g : A → A) (o : Option A) → option_ma
 option_map_twice f g None = refl
 option_map_twice f g (Some x) = refl
 
--- what is seen of the table that stands at a name
+-- what is seen of the table at a name
 pub within : {V W : Type 0} (b : Bool) (f : List (List ℕ × V) → List (List ℕ × V)) (g : W → W) (look : List (List ℕ × V) → Option W) (o : Option (List (List ℕ × V)))
     → look [] ≡ None → ((t : List (List ℕ × V)) → look (f t) ≡ option_map g (look t))
     → look (or_empty (option_map (moved_if b f) o)) ≡ option_map (moved_if b g) (look (or_empty o))

@@ -1,4 +1,4 @@
--- The first counter that hasn't enough, set by set.
+-- The first counter that doesn't have enough, set by set.
 use Rattle.std.proofs.Common.{◌≡◌, ℕ, ℤ, ◌+◌, List, [], ◌∷◌, Bool, true, false, not, Option, None, Some, refl, sym, ap, ap₂, ◌∙◌, if◌then◌else◌, cond, map, min, arith}
 use Rattle.std.specs.List.{find, flat_map}
 use Rattle.std.specs.Option.{option_map, option_or}

@@ -83,7 +83,7 @@ has_enough before o c = is_within (counter_value o.slice c) (before c + drawn_fr
 unfoldable pub is_covered : (CounterId → ℕ) → Offered → Bool
 is_covered before o = list_all (λ d. has_enough before o d.counter) (draws_of o)
 
--- the first of the device's draws whose counter hasn't enough for it
+-- the first of the device's draws whose counter doesn't have enough for it
 unfoldable pub first_short : (CounterId → ℕ) → Offered → Option Draw
 first_short before o = find (λ d. not (has_enough before o d.counter)) (draws_of o)
 

@@ -23,7 +23,7 @@ holder_in h id = at_name (or_empty (at_name (or_empty (at_name h id.driver)) id.
 pub record AreHeld (h : Holders) (pairs : List (DeviceId × Key)) : Type 0 where
   pub holder : (id : DeviceId) → holder_in h id ≡ lookup (λ d. device_eq d id) pairs
 
--- with what f makes of the table at a name, which is empty where there is none
+-- with what f makes of the table at a name, or of an empty table if there is none
 abbrev pub put_in : {V : Type 0} → List ℕ → (List (List ℕ × V) → List (List ℕ × V)) → Tabled (List (List ℕ × V)) → Tabled (List (List ℕ × V))
 put_in name f table = if is_some (at_name table name) then changed_at name f table else insert_entry text_cmp table name (f [])
 

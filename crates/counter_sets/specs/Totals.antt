@@ -1,4 +1,4 @@
--- What is kept of the counters of slices, and what a device's draws make of it.
+-- What is kept of the counters of slices, and how a device's draws change it.
 use Rattle.std.specs.Prelude.{ℕ, ◌+◌, ◌-◌, ◌==◌, ℤ, List, [], ◌∷◌, Bool, Option, None, Some, is_some, min, if◌then◌else◌}
 use Rattle.std.specs.BTreeMap.{insert_entry, is_at}
 use Rattle.std.specs.List.{list_all}
@@ -41,7 +41,7 @@ drawn_in kept c = or_zero (counter_at kept c)
 
 -- ---- a device's draws
 
--- the greatest number of 128 bits
+-- the maximum of an unsigned 128-bit integer
 abbrev pub sum_most : ℕ
 sum_most = 340282366920938463463374607431768211455
 
@@ -49,7 +49,7 @@ abbrev pub moved : Change → ℕ → ℕ → ℕ
 moved Draw drawn amount = if amount == 0 then drawn else min (drawn + amount) sum_most
 moved Return drawn amount = drawn - amount
 
--- the table with another value at a name, made of the one that is there
+-- the table with another value at a name, computed from the one at it
 abbrev pub changed_at : {V : Type 0} → List ℕ → (V → V) → List (List ℕ × V) → List (List ℕ × V)
 changed_at name f table = option_map_or (λ v. set_value (is_at (text_cmp name)) table (f v)) (at_name table name) table
 
@@ -89,7 +89,7 @@ covers_all sets o set amounts = list_all (λ (e : List ℕ × ℤ). covers_count
 unfoldable pub covers_sets : Tabled (Tabled ℕ) → Offered → Bool
 covers_sets sets o = list_all (λ c. covers_all sets o c.set c.amounts) o.device.consumes
 
--- ---- the first counter that hasn't enough
+-- ---- the first counter that doesn't have enough
 
 -- of a set
 abbrev pub short_name : Tabled (Tabled ℕ) → Offered → List ℕ → List (List ℕ × ℤ) → Option (List ℕ)
@@ -111,7 +111,7 @@ abbrev pub zeros : List (List ℕ × ℤ) → Tabled ℕ → Tabled ℕ
 zeros [] counters = counters
 zeros (e ∷ es) counters = zeros es (insert_entry text_cmp counters e.0 0)
 
--- with a set, where none of its name is there
+-- with a set, if no set of its name exists
 abbrev pub with_set : CounterSet → Tabled (Tabled ℕ) → Tabled (Tabled ℕ)
 with_set s sets = if is_some (at_name sets s.name) then sets else insert_entry text_cmp sets s.name (zeros s.counters [])
 

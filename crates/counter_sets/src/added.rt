@@ -1,4 +1,4 @@
-//! Counters of a slice, from which nothing is drawn yet.
+//! Counters of a slice, with nothing drawn yet.
 
 ghost use Rattle.std.specs.Prelude.{◌≡◌, [], IfOk, OnOk, OnErr};
 ghost use Rattle.counter_sets.specs.Totals as spec;

@@ -16,7 +16,7 @@ pub fn amount_of(quantity: &Quantity) -> u128
     if nanos < 0 { 0 } else { nanos as u128 }
 }
 
-/// The sum, or 2^128 - 1 where that is less.
+/// The sum, capped at 2^128 - 1.
 fn capped_sum(total: u128, amount: u128) -> u128
     ensures { result ≡ min (total + amount) sum_most }
 {

@@ -13,7 +13,7 @@ use api_slice::{CounterConsumption, CounterSet, ResourceSlice};
 use dra_values::{Table, Text};
 use pool_view::DeviceRef;
 
-/// What is drawn from the counters of a slice, where it was added.
+/// What is drawn from the counters of a slice, if it was added.
 pub fn sets_of<'a>(
     slices: &'a Table<Text, SetTotals>,
     slice: &ResourceSlice,
@@ -23,7 +23,7 @@ pub fn sets_of<'a>(
     slices.get(&slice.name)
 }
 
-/// What is drawn from the counters of the set, where it is there.
+/// What is drawn from the counters of the set, if it exists.
 pub fn find_counters<'a>(totals: Option<&'a SetTotals>, set: &Text) -> Option<&'a Table<Text, u128>>
     ensures { option_copied result ≡ at_name (spec.or_empty (option_copied totals.entry)) set.now }
 {
@@ -33,7 +33,7 @@ pub fn find_counters<'a>(totals: Option<&'a SetTotals>, set: &Text) -> Option<&'
     }
 }
 
-/// What is drawn from the counter; 0 where it isn't there.
+/// What is drawn from the counter; 0 if it is missing.
 pub fn drawn_from(counters: Option<&Table<Text, u128>>, name: &Text) -> u128
     ensures { result ≡ spec.or_zero (at_name (spec.or_empty (option_copied counters.entry)) name.now) }
 {
@@ -58,7 +58,7 @@ pub fn find_set<'a>(sets: &'a [CounterSet], set: &Text) -> Option<&'a CounterSet
     None
 }
 
-/// The value of a counter of the set, where it is there.
+/// The value of a counter of the set, if it exists.
 pub fn value_of(set: Option<&CounterSet>, name: &Text) -> Option<u128>
     ensures { result ≡ option_map natural (option_and_then (λ s. at_name s.counters name.now) (option_copied set.entry)) }
 {
@@ -71,7 +71,7 @@ pub fn value_of(set: Option<&CounterSet>, name: &Text) -> Option<u128>
     }
 }
 
-/// Whether so much more is within the value, where there is one.
+/// Whether there is a value and drawing this much more stays within it.
 fn is_within(value: Option<u128>, drawn: u128, amount: u128) -> bool
     ensures { result ≡ is_within value (min (drawn + amount) spec.sum_most) }
 {

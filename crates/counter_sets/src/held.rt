@@ -35,7 +35,7 @@ impl Model for Held {
 }
 
 impl Held {
-    /// No device is held. Takes no memory.
+    /// No device is held. Allocates nothing.
     #[tactic(auto, unfolding(crate::specs::Holding::holder_in))]
     pub fn new(alloc: Global) -> Held
         ensures none { (id : DeviceId) → holder_in result id ≡ None }
@@ -47,7 +47,7 @@ impl Held {
     }
 
     /// Adds a device and the claim that holds it, in place of another that held it. `AllocError`
-    /// comes only where memory runs out, and then nothing changes.
+    /// is returned only if memory runs out, and then nothing changes.
     pub fn insert(
         &mut self,
         device: &DeviceId,
@@ -68,7 +68,7 @@ impl Held {
         put_driver(&mut self.drivers, device, holder, alloc)
     }
 
-    /// Takes a device away, whichever claim holds it; changes nothing where none does. Takes no memory.
+    /// Takes a device away, whichever claim holds it; changes nothing if none does. Allocates nothing.
     pub fn remove(&mut self, device: &DeviceId)
         ensures { (id : DeviceId) → holder_in self.new id ≡ (if device_eq device.now id then None else holder_in self.old id) }
     {
@@ -98,7 +98,7 @@ impl Held {
         find(find_pool(&self.drivers, driver, pool), device)
     }
 
-    /// The same devices, each held by the same claim. `AllocError` comes only where memory runs out.
+    /// The same devices, each held by the same claim. `AllocError` is returned only if memory runs out.
     pub fn copy(&self, alloc: Global) -> Result<Held, AllocError>
         ensures { IfOk result (λ copy. copy ≡ self.now) }
     {
@@ -108,7 +108,7 @@ impl Held {
     }
 }
 
-/// A copy is equal. `AllocError` comes only where memory runs out.
+/// A copy is equal. `AllocError` is returned only if memory runs out.
 impl Duplicate for Held {
     fn duplicate(&self, alloc: Global) -> Result<Held, AllocError> {
         self.copy(alloc)

@@ -1,4 +1,4 @@
-//! The first counter that hasn't enough for what a device draws.
+//! The first counter that doesn't have enough for what a device draws.
 
 ghost use Rattle.std.specs.Prelude.{◌≡◌, ◌+◌, Option, min, option_map, option_copied};
 ghost use Rattle.counter_sets.specs.Draws.{value_in, sets_for};
@@ -11,20 +11,20 @@ use api_slice::CounterConsumption;
 use dra_values::Text;
 use pool_view::DeviceRef;
 
-/// A counter that hasn't enough for what a device draws from it.
+/// A counter that doesn't have enough for what a device draws from it.
 #[derive(Drop)]
 pub struct Shortage<'a> {
     /// The counter set.
     pub set: &'a Text,
     /// The counter of that set.
     pub counter: &'a Text,
-    /// What would be drawn from it with the device, in 10^-9; 2^128 - 1 where it would be more.
+    /// What would be drawn from it with the device, in 10^-9; capped at 2^128 - 1.
     pub drawn: u128,
-    /// What the counter has, in 10^-9; `None` where the slice has no such counter.
+    /// What the counter has, in 10^-9; `None` if the slice has no such counter.
     pub value: Option<u128>,
 }
 
-/// The first counter of a set that hasn't enough.
+/// The first counter of a set that doesn't have enough.
 fn short_name<'a>(
     totals: Option<&SetTotals>,
     device: &DeviceRef<'_>,
@@ -40,7 +40,7 @@ fn short_name<'a>(
     None
 }
 
-/// The first counter that hasn't enough, and its set before it.
+/// The first counter that doesn't have enough, and its set before it.
 pub fn first_short<'a>(
     totals: Option<&SetTotals>,
     device: &DeviceRef<'a>,

@@ -24,7 +24,7 @@ use std::marker::Model;
 /// What is drawn from each counter of the slices added, in 10^-9.
 ///
 /// Clauses see which counters are kept (`keeps`) and how much is drawn from each (`drawn_in`). Only
-/// `add_slice` takes memory.
+/// `add_slice` allocates.
 #[derive(Drop)]
 pub struct Totals {
     slices: Table<Text, SetTotals>,
@@ -40,7 +40,7 @@ impl Model for Totals {
 }
 
 impl Totals {
-    /// The totals of no counters. Takes no memory.
+    /// The totals of no counters. Allocates nothing.
     #[tactic(auto, unfolding(crate::specs::Totals::keeps, crate::specs::Totals::drawn_in))]
     pub fn new(alloc: Global) -> Totals
         ensures none { (c : CounterId) → keeps result c ≡ false }
@@ -51,8 +51,8 @@ impl Totals {
         }
     }
 
-    /// Adds the counters of a slice, with nothing drawn, and makes the room for all later draws.
-    /// `AllocError` comes only where memory runs out, and then nothing changes.
+    /// Adds the counters of a slice, with nothing drawn, and allocates all that later draws need.
+    /// `AllocError` is returned only if memory runs out, and then nothing changes.
     pub fn add_slice(&mut self, slice: &ResourceSlice, alloc: Global) -> Result<(), AllocError>
         ensures kept { OnOk result ((c : CounterId) → keeps self.new c ≡ (if text_eq slice.now.name c.slice then is_some (counter_value slice.now c) else keeps self.old c)) }
         ensures drawn { OnOk result ((c : CounterId) → drawn_in self.new c ≡ (if text_eq slice.now.name c.slice then 0 else drawn_in self.old c)) }
@@ -68,8 +68,8 @@ impl Totals {
         add_slice(&mut self.slices, slice, alloc)
     }
 
-    /// Adds what the held devices of a slice draw, whose counters were added. What is drawn has to
-    /// stay below 2^128: the devices of a slice can't draw more. Takes no memory.
+    /// Adds what the held devices of a slice draw, whose counters were added. What is drawn must
+    /// stay below 2^128: the devices of a slice can't draw more. Allocates nothing.
     pub fn add_held(&mut self, slice: &ResourceSlice, held: &Held)
         requires kept { (c : CounterId) → keeps self.old c ≡ false → drawn_by c (offered_held held.now slice.now) ≡ 0 }
         requires fits { (c : CounterId) → 0 < drawn_by c (offered_held held.now slice.now) → drawn_in self.old c + drawn_by c (offered_held held.now slice.now) ≤ spec.sum_most }
@@ -86,8 +86,8 @@ impl Totals {
         draw_devices(&mut self.slices, slice, held);
     }
 
-    /// Whether each counter on which the device draws has at least so much left as the device draws
-    /// from it. A counter that its slice doesn't have has nothing. Takes no memory.
+    /// Whether each counter on which the device draws has at least as much left as the device draws
+    /// from it. A counter that its slice doesn't have has nothing. Allocates nothing.
     pub fn covers(&self, device: &DeviceRef<'_>) -> bool
         ensures { result ≡ is_covered (drawn_in self.now) device.now }
     {
@@ -95,8 +95,8 @@ impl Totals {
     }
 
     /// The first counter, in the order of the device's list and then of the names' bytes, that
-    /// hasn't enough for what the device draws from it; `None` if and only if the device is covered.
-    /// Takes no memory.
+    /// doesn't have enough for what the device draws from it; `None` if and only if the device is covered.
+    /// Allocates nothing.
     pub fn first_short<'a>(&self, device: &DeviceRef<'a>) -> Option<Shortage<'a>>
         ensures counter { option_map (λ s. counter_for device.now.slice s.set.now s.counter.now) result ≡ option_map (λ d. d.counter) (first_short (drawn_in self.now) device.now) }
         ensures drawn { IfSome result (λ s. s.drawn ≡ min (drawn_in self.now (counter_for device.now.slice s.set.now s.counter.now) + drawn_from (counter_for device.now.slice s.set.now s.counter.now) device.now) spec.sum_most) }
@@ -109,8 +109,8 @@ impl Totals {
         }
     }
 
-    /// Draws what a covered device draws, all of whose counters are of slices that were added. Takes
-    /// no memory.
+    /// Draws what a covered device draws, all of whose counters are of slices that were added.
+    /// Allocates nothing.
     #[tactic(auto, using(crate::proofs::Moves::drawn_more))]
     pub fn draw(&mut self, device: &DeviceRef<'_>)
         requires covered { is_covered (drawn_in self.old) device.now ≡ true }
@@ -121,7 +121,7 @@ impl Totals {
         self.change(Change::Draw, device);
     }
 
-    /// Gives back what a device draws that was drawn. Takes no memory.
+    /// Returns what a device drew. Allocates nothing.
     #[tactic(auto, using(crate::proofs::Moves::given_back))]
     pub fn give_back(&mut self, device: &DeviceRef<'_>)
         ensures drawn { (c : CounterId) → drawn_in self.new c ≡ drawn_in self.old c - drawn_from c device.now }

@@ -22,7 +22,7 @@ lines_end xs out all place le told =
     let over : drop place xs ≡ [] = nil_from_length (drop place xs) (omega (arith, length-drop place xs)) in
     sym (append-nil out) ∙ ap (λ (r : List Entry). out ++ lines_from place r) (sym over) ∙ told
 
--- the lines of a front, and then those of the rest
+-- the lines of a prefix, and then those of the rest
 pub lines_more : (n : ℕ) (xs ys : List Entry) → lines_from n (xs ++ ys) ≡ lines_from n xs ++ lines_from (n + length xs) ys
 unfolding lines_from
 lines_more n [] ys =

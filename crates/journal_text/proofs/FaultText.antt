@@ -1,4 +1,4 @@
--- The text of a fault, part by part.
+-- The text of a selector's evaluation error, part by part.
 use Rattle.std.proofs.Common.{ℕ, List, ◌++◌, ◌≡◌, ◌∙◌, Result, Ok, Err, ap, append_assoc}
 use Rattle.std.specs.Prelude.{OnOk, codes, decimal}
 use Rattle.object_fields.specs.Keys.{device_text, key_text}

@@ -1,4 +1,4 @@
--- A fraction prints as a whole part of 0 and its places, which are what is left without the first byte.
+-- A fraction prints as a whole part of 0 and its decimal places, which are the rest without the first byte.
 use Rattle.std.specs.Fmt.{digits}
 use Rattle.std.proofs.Common.{ℕ, List, [], refl, ◌∷◌, ◌++◌, ◌≡◌, ◌≢◌, ◌∙◌, ◌<◌, ◌+◌, Bor, Option, None, Some, drop, length, ap, sym, arith}
 use Rattle.std.specs.Prelude.{MatchOption, ◌/◌, ◌%◌, ◌^◌, decimal}

@@ -59,12 +59,12 @@ target_text (target.Class name) = codes "DeviceClass " ++ name
 target_text (target.Claim key) = codes "ResourceClaim " ++ key_text key
 target_text (target.Pod key) = codes "Pod " ++ key_text key
 
--- a list: what its items say, joined by `,`, and `-` where there are none
+-- a list: the texts of its items, joined by `,`, and `-` if there are none
 abbrev pub listed : {T : Type 0} → (T → List ℕ) → List T → List ℕ
 listed words [] = codes "-"
 listed words (x ∷ xs) = join_by words (codes ",") (x ∷ xs)
 
--- why an expression has no value; want of memory stands in no entry
+-- why an expression has no value; an out-of-memory error appears in no entry
 abbrev pub error_word : EvalError → List ℕ
 error_word NoKey = codes "NoKey"
 error_word NoOverload = codes "NoOverload"
@@ -79,7 +79,7 @@ abbrev pub why_word : matched.Cause → List ℕ
 why_word (why.Error e) = error_word e
 why_word why.NotBool = codes "NotBool"
 
--- a selector's fault: the claim, the request, the selector's place among the class's and then the
+-- a selector's evaluation error: the claim, the request, the selector's index among the class's and then the
 -- request's, the device, and why
 abbrev pub fault_text : SelectorFault → List ℕ
 fault_text f =
@@ -120,16 +120,16 @@ plan_text pod plan =
     ++ codes " grants=" ++ listed grant_text plan.grants
     ++ codes " joins=" ++ listed key_text plan.joins
 
--- what a counter has; nothing, where the device's slice has no such counter
+-- what a counter has; nothing, if the device's slice has no such counter
 abbrev pub value_text : Option ℕ → List ℕ
 value_text None = codes "0"
 value_text (Some n) = magnitude_text n
 
--- the counter set and the counter, what would be drawn, and what there is, which print like quantities
+-- the counter set and the counter, what would be drawn, and what the counter has, which print like quantities
 abbrev pub shortfall_text : Shortfall → List ℕ
 shortfall_text x = codes "Counter:" ++ x.set ++ codes "/" ++ x.counter ++ codes ":" ++ magnitude_text x.drawn ++ codes ":" ++ value_text x.value
 
--- why a plan or a status write doesn't hold: its word, and what it names
+-- why a plan or a status write doesn't hold: its printed word, and what it names
 abbrev pub failure_text : Failure → List ℕ
 failure_text (failure.ClaimGone claim) = codes "ClaimGone:" ++ key_text claim
 failure_text (failure.ClaimChanged key) = codes "ClaimChanged:" ++ key_text key
@@ -152,7 +152,7 @@ adopted_line claim node results =
 abbrev pub adopted_text : Key → ClaimStatus → List ℕ
 adopted_text claim status = adopted_line claim status.node (join_by status_result_text (codes "+") status.results)
 
--- `fault` where one node has a fault, else `budget` where the search of one ended with its budget
+-- `fault` if one node has an evaluation error, else `budget` if the search of one ended with its budget
 abbrev pub nodes_word : List Passed → List ℕ
 nodes_word nodes = if has_fault nodes then codes "fault" else if has_budget nodes then codes "budget" else codes "unsatisfiable"
 
@@ -185,8 +185,9 @@ is_unbound (refusal.Bound node) = false
 is_unbound refusal.NotBound = true
 is_unbound (refusal.Failure why) = false
 
--- a refusal of a command on the object of this kind and name: its word and the object, of a conflict both versions,
--- of too many devices how many all slices may have, and of a pod that isn't Idle the job that has taken it or its node
+-- a refusal of a command on the object of this kind and name: its printed word and the object, of a conflict
+-- both versions, of too many devices how many all slices may have, and of a pod that isn't Idle the job that
+-- has taken it or its node
 abbrev pub refusal_text : List ℕ → Refusal → List ℕ
 refusal_text name refusal.Invalid = codes "denied Invalid " ++ name
 refusal_text name refusal.NotFound = codes "denied NotFound " ++ name
@@ -204,7 +205,7 @@ refusal_text name (refusal.Failure why) = codes "denied Failure " ++ failure_tex
 abbrev pub release_text : Key → Refusal → List ℕ
 release_text pod refused = if is_unbound refused then refusal_text (key_text pod) refused else refusal_text (target_text (target.Pod pod)) refused
 
--- a refusal; of a document with an error the word of the error and its path
+-- a refusal; of a document with an error the printed word of the error and its path
 abbrev pub denial_text : Command → Refusal → List ℕ
 denial_text (Invalid error) refused = codes "denied Invalid " ++ kind_word error.kind ++ codes " " ++ path_text error.path
 denial_text (Apply object mode) refused = refusal_text (object_text object) refused
@@ -213,7 +214,7 @@ denial_text (Schedule pod) refused = refusal_text (target_text (target.Pod pod))
 denial_text (Release pod) refused = release_text pod refused
 denial_text (Adopt claim status) refused = refusal_text (target_text (target.Claim claim)) refused
 
--- what a line says after its place and job
+-- the text of a line after its place and job
 abbrev pub event_text : Event → List ℕ
 event_text (Applied object mode) = codes "applied " ++ object_text object
 event_text (Deleted target) = codes "deleted " ++ target_text target
@@ -255,13 +256,13 @@ is_bound (phase.Bound node) = true
 abbrev pub bound_count : State → ℕ
 bound_count s = count_by (λ e. is_bound e.1.phase) s.pods
 
--- the last line, after so many entries that left a state and that so many commands made
+-- the last line, after a number of entries that left a state and that a number of commands made
 unfoldable pub summary_by : ℕ → State → ℕ → List ℕ
 summary_by entries s commands =
     codes "summary entries=" ++ decimal entries ++ codes " commands=" ++ decimal commands
     ++ codes " granted=" ++ decimal (granted_count s) ++ codes " bound=" ++ decimal (bound_count s) ++ codes "\n"
 
--- the last line, after a history that so many commands made
+-- the last line, after a history that a number of commands made
 abbrev pub summary_of : List Entry → ℕ → List ℕ
 summary_of history commands = summary_by (length history) (state_of history) commands
 

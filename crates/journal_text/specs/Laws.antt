@@ -6,7 +6,7 @@ use Rattle.std.specs.List.{list_all}
 abbrev pub is_printed : ℕ → Bool
 is_printed b = not (nat_lt b 32) && not (b == 127)
 
--- a text that ends with LF, before which no control character stands
+-- a text that ends with LF, with no control character before it
 pub record IsOneLine (text : List ℕ) : Type 0 where
   pub front : List ℕ
   pub ends : text ≡ front ++ codes "\n"

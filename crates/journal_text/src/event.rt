@@ -89,7 +89,7 @@ fn verdict_text(alloc: Global, pod: &Key, verdict: &Verdict) -> Result<String, A
     format!(in alloc; "verdict {pod} {word} at={} {rest}", verdict.at)
 }
 
-/// What a verdict says behind its place: its claim, or its nodes with their causes.
+/// The text of a verdict after its place: its claim, or its nodes with their causes.
 fn reason_text(alloc: Global, reason: &Reason) -> Result<String, AllocError>
     ensures { IfOk result (λ s. string_bytes s ≡ reason_text reason.now) }
 {
@@ -113,7 +113,7 @@ fn verdict_word(reason: &Reason) -> &'static str
     }
 }
 
-/// `fault` where one node has a selector's fault, else `budget` where the search of one ended with its
+/// `fault` if a selector has an evaluation error on one node, else `budget` if the search of one ended with its
 /// budget, else `unsatisfiable`.
 fn nodes_word(nodes: &[Passed]) -> &'static str
     ensures { result.now ≡ nodes_word nodes.now }

@@ -18,7 +18,7 @@ fn magnitude_text(alloc: Global, nanos: u128) -> Result<String, AllocError>
     format!(in alloc; "{whole}{fraction}")
 }
 
-/// What stands behind the whole part: nothing, or a point and the places.
+/// The text after the whole part: empty, or a point and the decimal places.
 fn fraction_text(alloc: Global, nanos: u128) -> Result<String, AllocError>
     requires { nanos < 10 ^ 9 }
     ensures { IfOk result (λ s. string_bytes s ≡ fraction_text nanos) }
@@ -47,7 +47,7 @@ fn shortfall_text(alloc: Global, short: &Shortfall) -> Result<String, AllocError
     format!(in alloc; "Counter:{}/{}:{drawn}:{value}", short.set, short.counter)
 }
 
-/// The word of a failure, and what it names.
+/// The printed word of a failure, and what it names.
 pub fn failure_text(alloc: Global, failure: &Failure) -> Result<String, AllocError>
     ensures { IfOk result (λ s. string_bytes s ≡ failure_text failure.now) }
 {

@@ -7,8 +7,8 @@ use cluster::Entry;
 use std::alloc::{AllocError, Global};
 
 /// The line of an entry at a place, from 1: the place, the job, the kind of the event and the
-/// rest, with one space between, ended by LF. Each byte below 0x20 and 0x7f before the LF stands as
-/// `?`. `AllocError` comes only where memory runs out. The format is this project's own.
+/// rest, with one space between, ended by LF. Each byte below 0x20 and 0x7f before the LF is printed as
+/// `?`. `AllocError` is returned only if memory runs out. The format is this project's own.
 pub fn line(alloc: Global, place: u64, entry: &Entry) -> Result<Vec<u8>, AllocError>
     ensures { IfOk result (λ v. v.items ≡ line_of place entry.now) }
 {
@@ -19,8 +19,8 @@ pub fn line(alloc: Global, place: u64, entry: &Entry) -> Result<Vec<u8>, AllocEr
     Ok(line)
 }
 
-/// The lines of all entries of a history after the first `from`, in order; none where there are no
-/// more. `AllocError` comes only where memory runs out.
+/// The lines of all entries of a history after the first `from`, in order; empty if there are no
+/// more. `AllocError` is returned only if memory runs out.
 pub fn lines(alloc: Global, entries: &[Entry], from: u64) -> Result<Vec<u8>, AllocError>
     ensures { IfOk result (λ v. v.items ≡ lines_from from (drop from entries.now)) }
 {

@@ -8,7 +8,7 @@ pub fn line_is_one_line()
     ensures { (place : ℕ) (entry : Entry) → IsOneLine (line_of place entry) }
 {}
 
-/// States that the lines of a history are those of its front and then those of the rest.
+/// States that the lines of a history are those of a prefix and then those of the rest.
 pub fn lines_of_more()
     ensures { (n : ℕ) (xs ys : List Entry) → lines_from n (xs ++ ys) ≡ lines_from n xs ++ lines_from (n + length xs) ys }
 {}

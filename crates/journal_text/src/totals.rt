@@ -37,8 +37,8 @@ fn bound_count(state: &State) -> usize
 }
 
 /// The last line of a history's text, ended by LF: how many entries it has, how many commands made
-/// it, and how many claims have a grant and how many pods are bound after it. `AllocError` comes
-/// only where memory runs out. The format is this project's own.
+/// it, and how many claims have a grant and how many pods are bound after it. `AllocError` is
+/// returned only if memory runs out. The format is this project's own.
 pub fn summary(
     alloc: Global,
     entries: u64,

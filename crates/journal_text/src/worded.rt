@@ -10,11 +10,11 @@ use object_fields::Key;
 use std::alloc::{AllocError, Global};
 use std::fmt::Write;
 
-/// What stands in a list of a line.
+/// An item of a list in a line.
 pub trait Worded {
     ghost words: { Self → List ℕ };
 
-    /// Writes it at the end of a text. `AllocError` comes only where memory runs out.
+    /// Writes it at the end of a text. `AllocError` is returned only if memory runs out.
     fn push_to(&self, out: &mut String) -> Result<(), AllocError>
         ensures { OnOk result (string_bytes out.new ≡ string_bytes out.old ++ words self.now) };
 }
@@ -67,7 +67,7 @@ impl Worded for SelectorFault {
     }
 }
 
-/// As `unsat`, `budget`, `other:claim`, or as the fault.
+/// As `unsat`, `budget`, `other:claim`, or as the selector's evaluation error.
 impl Worded for Cause {
     ghost words = { cause_text };
 
@@ -170,7 +170,7 @@ fn push_joined<T: Worded>(out: &mut String, separator: &str, items: &[T]) -> Res
     }
 }
 
-/// The items joined by `,`, and `-` where there are none.
+/// The items joined by `,`, and `-` if there are none.
 pub fn listed<T: Worded>(alloc: Global, items: &[T]) -> Result<String, AllocError>
     ensures { IfOk result (λ s. string_bytes s ≡ listed T.words items.now) }
 {

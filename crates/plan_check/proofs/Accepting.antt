@@ -61,7 +61,7 @@ none_at_node agree ids s claims node choice grants kept a =
     (ap (λ (b : Bool). cond b (Some (failure.NodeGone node)) None) (isnt_none (at_name s.inventory.nodes node) a.node_known))
     (nothing_stands agree w (ids_of ids s claims node) limits choice a.results grants a.meant a.cut)
 
--- ---- the claims that a pod wants keep their limits
+-- ---- the claims that a pod needs keep their limits
 
 ungranted_kept : (k : Key) (c : ClaimState) (g : Option Granted) (claims : List ResourceClaim) → RequestsKept c.claim.object.requests → EachOf (λ c. RequestsKept c.requests) claims → EachOf (λ c. RequestsKept c.requests) (add_ungranted k c g claims)
 ungranted_kept k c None claims h r = (h, r)

@@ -11,7 +11,7 @@ use Rattle.plan_check.proofs.Lists.{drop_next, length_end, take_next}
 abbrev pub all_seen : SearchInput → List DueFields → List Pick
 all_seen w ds = flat_map (seen_as w) ds
 
--- with those done, what is left decides as the whole does
+-- with those done, the rest decides as the whole does
 pub record AgreedSoFar (w : SearchInput) (k : DeviceConstraint) (a : AgreementFields) (ds done left : List DueFields) : Type 0 where
   pub whole : each_agrees k (all_seen w done) (all_seen w left) ≡ each_agrees k [] (all_seen w ds)
   pub taken : IsOf k (all_seen w done) a

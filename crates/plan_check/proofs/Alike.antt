@@ -1,4 +1,5 @@
--- What held devices and counters have no part in: the shape of results, what names pick, selectors and constraints.
+-- What doesn't depend on held devices and counters: the shape of results, what names pick, selectors and
+-- constraints.
 use Rattle.std.proofs.Common.{ℕ, ◌+◌, ◌≡◌, ◌∙◌, List, [], ◌∷◌, ◌++◌, Bool, not, ◌&&◌, cond, Option, None, Some, drop, find, length, map, take, refl, sym, ap}
 use Rattle.std.specs.Prelude.{nat_eq, nat_le}
 use Rattle.std.specs.Cmp.Lexicographic.{pointwise}

@@ -1,4 +1,4 @@
--- Grants against which nothing stands are an allocation.
+-- Grants without a failure are an allocation.
 use Rattle.std.proofs.Common.{ℕ, suc, ◌<◌, ◌≤◌, ◌≡◌, ◌≢◌, List, [], ◌∷◌, true, false, eqb, None, find, length, map, refl, sym, ap, ◌∙◌, subst}
 use Rattle.std.specs.List.{count_by, flat_map, list_all, Contains}
 use Rattle.std.proofs.lemmas.List.{length-map}
@@ -39,7 +39,7 @@ use Rattle.plan_check.proofs.Tests.{both_none, left_of, no_image, right_of}
 abbrev pub KeepLaw : Type 0
 KeepLaw = (c : DeviceConstraint) (xs : List agreeing.Pick) → agreeing.each_agrees c [] xs ≡ true → KeepsConstraint c xs
 
--- ---- nothing stands against the grants
+-- ---- the grants have no failure
 
 pub record Nothing (w : SearchInput) (grants : List Grant) (c : List ℕ) (ds : List Due) : Type 0 where
   pub gone : device_gone w.devices grants ≡ None
@@ -67,7 +67,7 @@ nothing_of w grants e =
     let two = both_none (misshapen w grants) (failing_shaped w (choice_of w grants) ds) one.1 in
     nothing_by w grants (choice_of w grants) ds one.0 two.0 two.1
 
--- ---- what an allocation says, over what is asked for and the picks as variables
+-- ---- what an allocation means, over what is asked for and the picks as variables
 
 pub record Meant (w : SearchInput) (rs : List Result) (asks : List Asked) (parts : List (List ℕ)) (ps : List Pick) : Type 0 where
   pub parts_are : length parts ≡ length asks
@@ -202,7 +202,7 @@ allocation_by law w grants c ds us choice asks cut parts all apart unheld few n 
       few = λ i h. few i;
     })
 
--- grants against which nothing stands are an allocation, and those that its results make
+-- grants without a failure are an allocation, and those that its results make
 pub allocation_of : (law : KeepLaw) (w : SearchInput) (grants : List Grant) → failing_in w grants ≡ None → (rs : List Result) × IsAllocation w (choice_of w grants) rs × (grants ≡ grants_by w rs)
 allocation_of law w grants e =
     let n = nothing_of w grants e in

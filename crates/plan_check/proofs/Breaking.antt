@@ -69,7 +69,7 @@ here_by w i least c d ds false e h lead s own rest =
     ap (λ (l : List agreeing.Pick). l ++ seen_all w (rule_at i c) (picks_of w ds)) (seen_other w i c (pick_of w (due_seen w d)) (λ f. other (sym f)))
     ∙ seen_none w i (asked_at w d.row).label.claim c ds (above i (asked_at w d.row).label.claim least h lead other) s
 
--- those of the first claim stand in front
+-- those of the first claim are at the front
 pub seen_here : (w : SearchInput) (i least : ℕ) (c : DeviceConstraint) (ds : List DueFields) → i ≤ least → AreByClaim least (map (due_seen w) ds) → Each (IsDue w) ds
     → seen_all w (rule_at i c) (picks_of w ds) ≡ flat_map (seen_as w) (take (prefix_len (is_at_place w i) ds) ds)
 seen_here w i least c [] h s each = refl
@@ -85,7 +85,7 @@ sorted_by w i least d ds false e h lead s rest =
     let more : i < (asked_at w d.row).label.claim = above i (asked_at w d.row).label.claim least h lead other in
     (omega (arith, more), s)
 
--- behind them stand those of later claims
+-- after them are those of later claims
 pub sorted_behind : (w : SearchInput) (i least : ℕ) (ds : List DueFields) → i ≤ least → AreByClaim least (map (due_seen w) ds) → AreByClaim (i + 1) (map (due_seen w) (drop (prefix_len (is_at_place w i) ds) ds))
 sorted_behind w i least [] h s = tt
 sorted_behind w i least (d ∷ ds) h s = sorted_by w i least d ds (is_at_place w i d) refl h s.0 s.1 (λ g. sorted_behind w i (asked_at w d.row).label.claim ds g s.1)
@@ -100,7 +100,7 @@ behind_by w i j c d ds true e h rest =
     ∙ ap (λ (n : ℕ). seen_all w (rule_at j c) (picks_of w (drop n (d ∷ ds)))) (sym (one_more (prefix_len (is_at_place w i) ds)))
 behind_by w i j c d ds false e h rest = refl
 
--- a later claim has its results behind them
+-- a later claim has its results after them
 pub seen_behind : (w : SearchInput) (i j : ℕ) (c : DeviceConstraint) (ds : List DueFields) → i < j → seen_all w (rule_at j c) (picks_of w ds) ≡ seen_all w (rule_at j c) (picks_of w (drop (prefix_len (is_at_place w i) ds) ds))
 seen_behind w i j c [] h = refl
 seen_behind w i j c (d ∷ ds) h = behind_by w i j c d ds (is_at_place w i d) refl h (seen_behind w i j c ds h)
@@ -115,7 +115,8 @@ broken_same f g key n (c ∷ cs) h =
 
 -- ---- claim by claim
 
--- the results of the claims before a place keep their constraints, and those from an index on are of the claims left
+-- the results of the claims before index `place` keep their constraints, and those from `first` on are of the
+-- claims left
 pub record KeptSoFar (w : SearchInput) (ds : List DueFields) (place first : ℕ) (claims : List ResourceClaim) : Type 0 where
   pub within : first ≤ length ds
   pub sorted : AreByClaim place (map (due_seen w) (drop first ds))
@@ -130,7 +131,7 @@ each_left P zero xs h = h
 each_left P (suc n) [] h = h
 each_left P (suc n) (x ∷ xs) h = each_left P n xs (λ i y e. h (suc i) y e)
 
--- what the results of the claim at the place are
+-- what the results of the claim at the index are
 pub own_results : (w : SearchInput) (ds part : List DueFields) (place first : ℕ) (claims : List ResourceClaim) → Each (IsDue w) ds → part ≡ take (prefix_len (is_at_place w place) (drop first ds)) (drop first ds) → KeptSoFar w ds place first claims
     → (c : DeviceConstraint) → agreeing.each_agrees c [] (flat_map (seen_as w) part) ≡ agree w (picks_of w ds) place c
 own_results w ds part place first claims each is s c =

@@ -1,4 +1,4 @@
--- The order in which the check looks: what each step finds is the first failure.
+-- The order of the check: what each step finds is the first failure.
 use Rattle.std.proofs.Common.{ℕ, ◌≡◌, ◌∙◌, List, [], Bool, true, false, cond, Option, None, Some, find, map, refl, sym, ap, subst}
 use Rattle.std.specs.Option.{is_none, option_map}
 use Rattle.object_fields.specs.declared.key.Key.{Key}

@@ -20,7 +20,7 @@ use Rattle.plan_check.specs.Shaped.{picks_each}
 use Rattle.plan_check.proofs.Cuts.{AllShaped, Cut, asked_for_are, cuts_for, cuts_from}
 use Rattle.plan_check.proofs.Tests.{left_of, right_of}
 
--- these are the grants from this place on
+-- these are the grants from this index on
 abbrev pub Follows : List Grant → ℕ → List Grant → Type 0
 Follows grants i gs = (j : ℕ) → slice_get grants (i + j) ≡ slice_get gs j
 

@@ -79,7 +79,7 @@ picks_of i cs ks ls = taken (asked_from (wishes_from i cs) ks) ls
 abbrev pub Differs : SearchInput → Pick → Pick → Type 0
 Differs w p q = p.label.claim ≡ q.label.claim → id_of w p ≢ id_of w q
 
--- what is known of the claims from a place on
+-- what is known of the claims from an index on
 pub record Given (w : SearchInput) (i : ℕ) (cs : List ResourceClaim) (ks : List ℕ) (ls : List (List ℕ)) : Type 0 where
   pub choice : IsChoice (map (λ q. ways_of q.request.kind) (wishes_from i cs)) ks
   pub parts : Parts w (asked_from (wishes_from i cs) ks) ls

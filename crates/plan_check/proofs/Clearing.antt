@@ -1,4 +1,4 @@
--- Results of which all is so that an allocation asks for have no failure, kind by kind.
+-- Results that are as an allocation requires have no failure, kind by kind.
 use Rattle.std.proofs.Common.{ℕ, zero, suc, ◌+◌, ◌<◌, ◌≡◌, ◌≢◌, List, [], ◌∷◌, ◌++◌, Bool, true, false, not, ◌&&◌, cond, eqb, leb, ltb, Option, None, Some, find, length, map, refl, sym, ap, ◌∙◌, subst, arith}
 use Rattle.std.specs.List.{slice_get, Contains}
 use Rattle.std.specs.Option.{is_none, option_map, IsSome}
@@ -67,7 +67,7 @@ on_by w (Some x) h = refl
 pub is_on : (w : SearchInput) (r : DeviceResult) → place_of w r < length w.devices → is_off w.devices r ≡ false
 is_on w r h = on_by w (position_of r.device w.devices) h
 
--- ---- faults
+-- ---- evaluation errors
 
 no_fault_by : (a : Asked) (o : Offered) (m : Match) → ((n : ℕ) (why : Cause) → m ≢ Fault n why) → fault_by a o m ≡ None
 no_fault_by a o Yes h = refl
@@ -215,7 +215,7 @@ none_disagreed w ps i (c ∷ cs) h =
     none_from (broken_by (agree w ps i) c.key 0 c.constraints) (disagreed_from w ps (i + 1) cs)
     (none_broken_by w ps i 0 c.key c.constraints (each_left P mine (rules_from (i + 1) cs) h)) (none_disagreed w ps (i + 1) cs (each_right P mine (rules_from (i + 1) cs) h))
 
--- each constraint agrees, where those that are kept agree
+-- each constraint agrees, if those that are kept agree
 pub none_broken : (w : SearchInput) (ps : List Pick) → ((c : DeviceConstraint) (xs : List agreeing.Pick) → KeepsConstraint c xs → agreeing.each_agrees c [] xs ≡ true)
     → ((r : Rule) → Contains (rules_of w) r → IsKept w ps r) → constraint_broken w ps ≡ None
 unfolding rules_of

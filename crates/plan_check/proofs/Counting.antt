@@ -1,4 +1,4 @@
--- The first counter of each result that hasn't enough, by totals that have what all draw.
+-- The first counter of each result that doesn't have enough, by totals that have what all draw.
 use Rattle.std.proofs.Common.{ℕ, zero, suc, ◌+◌, ◌-◌, ◌<◌, ◌≤◌, ◌≡◌, ◌∙◌, List, [], ◌∷◌, Bool, true, false, not, ◌&&◌, cond, Option, None, Some, drop, drop_of_length-le, find, get_or, length, map, refl, sym, ap, subst, arith}
 use Rattle.std.specs.Prelude.{IfSome, min}
 use Rattle.std.specs.List.{Contains, list_all, position_or_len, slice_get, sum_by}
@@ -110,7 +110,7 @@ pub short_some : (v w : SearchInput) (t u : Tabled (Tabled (Tabled ℕ))) (ps : 
 short_some v w t u ps i p o None set counter drawn value h e f at less first is drawn_is value_is = absurd (cc)
 short_some v w t u ps i p o (Some d) set counter drawn value h e f at less first is drawn_is value_is = some_by v w t u ps i p o d set counter drawn value h e f at less first (cc) drawn_is value_is
 
--- what was given back is drawn again
+-- what was returned is drawn again
 pub drawn_again : (v w : SearchInput) (t u new : Tabled (Tabled (Tabled ℕ))) (ps : List Pick) (i : ℕ) (p : Pick) (o : Offered) → HasDrawn v w t ps → slice_get ps i ≡ Some p → p.label.admin ≡ false → slice_get w.devices p.position ≡ Some o
     → ((k : CounterId) → drawn_in u k ≡ drawn_in t k - drawn_from k o)
     → ((k : CounterId) → drawn_in new k ≡ drawn_in u k + drawn_from k o) → HasDrawn v w new ps

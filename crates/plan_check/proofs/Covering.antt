@@ -102,7 +102,7 @@ kept_of w r ps below k =
       same = λ i j p q lt g h e f. has i p g e ∙ sym (has j q h f);
     }
 
--- each constraint is kept, where those that agree are kept
+-- each constraint is kept, if those that agree are kept
 pub constraints_kept : (w : SearchInput) (ps : List Pick) → ((c : DeviceConstraint) (xs : List agreeing.Pick) → agreeing.each_agrees c [] xs ≡ true → KeepsConstraint c xs)
     → Each (λ p. p.position < length w.devices) ps → constraint_broken w ps ≡ None → (r : Rule) → Contains (rules_of w) r → IsKept w ps r
 unfolding rules_of

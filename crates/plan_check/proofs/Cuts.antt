@@ -190,7 +190,7 @@ labels_for w k i (a ∷ asks) rs h j d e =
     (each_to_map (due_for k a) (λ (d : Due). d.asked.label.claim ≡ i) (take (due w a) rs) (λ n r f. h 0 a refl))
     (labels_for w k i asks (drop (due w a) rs) (λ n b f. h (suc n) b f)) j d e
 
--- the results of a claim have its place
+-- the results of a claim have its index
 pub labels_in : (w : SearchInput) (i : ℕ) (c : ResourceClaim) (rs : List DeviceResult) → Each (λ d. d.asked.label.claim ≡ i) (dues_for w c.key (asked_in i c rs) rs)
 labels_in w i c rs = labels_for w c.key i (asked_in i c rs) rs (claim_each i c.key c.requests rs)
 

@@ -130,7 +130,7 @@ counts_kept i key requests ks h n b e =
 
 -- ---- positions of devices
 
--- a device's id tells its position
+-- a device's id determines its position
 abbrev pub Ids : SearchInput → Type 0
 Ids w = (n m : ℕ) (o p : Offered) → slice_get w.devices n ≡ Some o → slice_get w.devices m ≡ Some p → id_in o ≡ id_in p → n ≡ m
 

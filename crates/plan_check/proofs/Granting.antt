@@ -24,7 +24,7 @@ use Rattle.plan_check.specs.Standing.{all_results, is_off}
 use Rattle.plan_check.proofs.Lists.{back_is, drop_got, drop_next, drop_none, front_is}
 use Rattle.plan_check.proofs.Shaping.{dues_joined, dues_none}
 
--- ---- the rows of some requests, and of those behind them
+-- ---- the rows of some requests, and of those after them
 
 pub front_there : (w : SearchInput) (n : ℕ) (qs ps : List Wish) → HasWays w n (qs ++ ps) → HasWays w n qs
 front_there w n qs ps h =
@@ -53,7 +53,7 @@ later_ways w n m qs ps g h =
 abbrev pub ways_named : List Grant → List Wish → List ℕ
 ways_named grants qs = map (λ q. named_way (results_at grants q.claim) q q.request.kind) qs
 
--- the claims before a place have their grants
+-- the claims before an index have their grants
 pub record GrantedSoFar (w : SearchInput) (devices : List Offered) (grants : List Grant) (named : Named) (now : List DueFields) (place : ℕ) (claims : List ResourceClaim) (left : List Grant) : Type 0 where
   pub shape : shape_from w place claims left ≡ misshapen w grants
   pub choice : named.choice.items ++ ways_named grants (wishes_from place claims) ≡ choice_of w grants
@@ -95,7 +95,7 @@ first_on_node devices g gs h = or_first (find (is_off devices) g.results) (find 
 later_on_node : (devices : List Offered) (g : Grant) (gs : List Grant) → find (is_off devices) (all_results (g ∷ gs)) ≡ None → find (is_off devices) (all_results gs) ≡ None
 later_on_node devices g gs h = or_later (find (is_off devices) g.results) (find (is_off devices) (all_results gs)) (none_of_all devices g gs h)
 
--- what the names pick of the requests of the claim at a place
+-- what the names pick of the requests of the claim at an index
 named_here : (grants : List Grant) (place : ℕ) (g : Grant) (key : Key) (rs : List DeviceRequest) → slice_get grants place ≡ Some g
     → map (λ q. named_way g.results q q.request.kind) (wishes_in place key rs) ≡ ways_named grants (wishes_in place key rs)
 named_here grants place g key [] e = refl

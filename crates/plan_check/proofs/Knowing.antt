@@ -69,7 +69,7 @@ filter_names p (k ∷ ks) =
     ap (λ (l : List Key). cond (p k.claim) (k.claim ∷ l) l) (filter_names p ks)
     ∙ sym (cond_names (p k.claim) k (filter (λ k. p k.claim) ks))
 
--- ---- what the plan knew is what there is
+-- ---- what the plan knew is what the state has
 
 known_here : (s : State) (pod : Key) (k : KnownClaim) (rest : List KnownClaim) → IsAsKnown s pod k → add_known k.claim (at_key s.claims k.claim) rest ≡ k ∷ rest
 known_here s pod k rest f =
@@ -131,7 +131,7 @@ there_of : (s : State) (k : Key) (o : Option ClaimState) → at_key s.claims k �
 there_of s k None e f = absurd (cc)
 there_of s k (Some c) e f = (c, e)
 
--- what there is of a key
+-- what the state has at a key
 record Read (s : State) (pod : Key) (k : KnownClaim) : Type 0 where
   state : ClaimState
   there : at_key s.claims k.claim ≡ Some state

@@ -1,4 +1,4 @@
--- Elements of lists by their indexes, and the first that there is.
+-- Elements of lists by their indexes, and the first that exists.
 use Rattle.std.proofs.Common.{ℕ, zero, suc, ◌+◌, ◌-◌, ◌<◌, ◌≤◌, ◌≡◌, List, [], ◌∷◌, ◌++◌, Bool, Option, None, Some, drop, find, get_or, length, map, take, refl, sym, ap, subst, ◌∙◌, arith}
 use Rattle.std.proofs.Math.Seq.{drop-cons, drop-nil, take-append_seam, take-take, take_all}
 use Rattle.std.proofs.lemmas.List.{length-append, length-drop}

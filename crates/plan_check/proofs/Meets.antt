@@ -1,4 +1,4 @@
--- The devices of results, and what their requests say of them.
+-- The devices of results, and what their requests evaluate to for them.
 use Rattle.std.proofs.Common.{ℕ, zero, suc, ◌+◌, ◌<◌, ◌≤◌, ◌≡◌, ◌≢◌, List, [], ◌∷◌, Bool, true, false, not, ◌&&◌, cond, eqb, leb, Option, None, Some, length, refl, sym, ap, ◌∙◌, arith}
 use Rattle.std.specs.List.{slice_get}
 use Rattle.std.specs.Option.{is_none}
@@ -62,7 +62,7 @@ placed_by w r (Some x) e f =
 pub placed : (w : SearchInput) (r : DeviceResult) → is_off w.devices r ≡ false → Placed w r
 placed w r e = placed_by w r (position_of r.device w.devices) refl e
 
--- ---- faults
+-- ---- evaluation errors
 
 no_fault : (a : Asked) (o : Offered) (m : Match) (n : ℕ) (why : Cause) → fault_by a o m ≡ None → m ≡ Fault n why → ⊥
 no_fault a o Yes n why e f = absurd (cc)

@@ -36,7 +36,7 @@ AreSome [] (l ∷ ls) = ⊥
 AreSome (a ∷ asks) [] = ⊥
 AreSome (a ∷ asks) (l ∷ ls) = (1 ≤ length l) × AreSome asks ls
 
--- ---- the requests that a choice picks, by their places
+-- ---- the requests that a choice picks, by their indexes
 
 pub record From (qs : List Wish) (ks : List ℕ) (b : Asked) : Type 0 where
   pub place : ℕ

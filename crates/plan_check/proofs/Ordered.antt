@@ -1,4 +1,4 @@
--- Results stand in the order of their claims.
+-- Results are in the order of their claims.
 use Rattle.std.proofs.Common.{ℕ, ◌+◌, ◌≤◌, ◌≡◌, List, [], ◌∷◌, ◌++◌, Option, None, Some, drop, map, take, refl, sym, subst, arith, append_assoc}
 use Rattle.std.specs.List.{AllByRecursion, slice_get}
 use Rattle.std.specs.Option.{option_map}
@@ -17,7 +17,7 @@ use Rattle.request_rows.specs.Ways.{wishes_in}
 use Rattle.plan_check.specs.Chosen.{Due, asked_each, asked_for, asked_in, due, due_for, dues, dues_for, dues_from, named_way}
 use Rattle.plan_check.specs.Rows.{AreByClaim}
 
--- the requests of the claim at a place
+-- the requests of the claim at an index
 abbrev IsOfClaim : ℕ → Asked → Type 0
 IsOfClaim i a = a.label.claim ≡ i
 

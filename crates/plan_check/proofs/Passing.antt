@@ -1,4 +1,4 @@
--- Nothing stands against the grants of an allocation.
+-- The grants of an allocation have no failure.
 use Rattle.std.proofs.Common.{ℕ, ◌≤◌, ◌≡◌, ◌≢◌, List, [], true, false, eqb, None, map, sym, ap, ◌∙◌, subst, arith}
 use Rattle.std.specs.List.{count_by, flat_map, Contains}
 use Rattle.std.specs.Option.{option_map}
@@ -39,7 +39,7 @@ use Rattle.plan_check.proofs.Tests.{none_from}
 abbrev pub AgreeLaw : Type 0
 AgreeLaw = (c : DeviceConstraint) (xs : List agreeing.Pick) → KeepsConstraint c xs → agreeing.each_agrees c [] xs ≡ true
 
--- ---- what an allocation says, over variables
+-- ---- what an allocation means, over variables
 
 meant_of : (w : SearchInput) (c : List ℕ) (rs : List Result) → (a : IsAllocation w c rs) → Meant w rs (asked w c) a.parts (taken (asked w c) a.parts)
 meant_of w c rs a = record {
@@ -161,7 +161,7 @@ passes law w ids kept c rs a =
     let m = meant_by w rs (asked w c) (map (λ u. u.asked) us) a.parts (map (part_of w) us) (taken (asked w c) a.parts) (map (pick_of w) ds) asks (sym parts) picks (meant_of w c rs a) in
     failing_from w gs c choice (nothing_from law w gs rs c ds us s asks cut fits (results_all w 0 w.claims gs s) m)
 
--- nothing stands against the grants that an allocation's results make
+-- the grants that an allocation's results make have no failure
 pub nothing_stands : (law : AgreeLaw) (w : SearchInput) → Ids w → EachOf (λ c. RequestsKept c.requests) w.claims → (c : List ℕ) (rs : List Result) (grants : List Grant) → IsAllocation w c rs → grants ≡ grants_by w rs → failing_in w grants ≡ None
 nothing_stands law w ids kept c rs grants a e =
     let same : grants ≡ grants_for w 0 w.claims c a.parts = e ∙ ap (grants_by w) a.in_order ∙ grants_back w c a.parts in

@@ -210,7 +210,7 @@ picks_next w rs old now new all done q qs e n m s = record {
 pub picks_all : (w : SearchInput) (rs : List DeviceResult) (old now : Named) (all : List Wish) → PickedSoFar w rs old now all all [] → IsPickedAll w all rs old now
 picks_all w rs old now all s = record { choice = s.choice; choice_is = s.choice_is; next = s.next; picked = s.picked }
 
--- ---- answers by the request
+-- ---- what is returned, by the request
 
 pub named_by : (rs : List DeviceResult) (asks : List Asked) (first n : ℕ) (ss : List DeviceSubRequest) (q : Wish) (request : DeviceRequest) → q.request ≡ request → request.kind ≡ FirstAvailable ss → n ≡ length ss
     → take (ways_of request.kind) (drop first asks) ≡ ways_in q → unnamed rs (take n (drop first asks)) ≡ named_way rs q request.kind

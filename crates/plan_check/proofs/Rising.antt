@@ -7,7 +7,7 @@ use Rattle.plan_check.specs.Rows.{DueFields, positions_of}
 use Rattle.plan_check.specs.Shaped.{rises_from}
 use Rattle.plan_check.proofs.Lists.{drop_next, take_next}
 
--- what is left rises behind those done as the whole does; one at least is done
+-- the rest rises after those done as the whole does; one at least is done
 pub record RisesSoFar (ds : List DueFields) (i : ℕ) : Type 0 where
   pub some : 1 ≤ i
   pub whole : rises_from (least_after 0 (positions_of (take i ds))) (positions_of (drop i ds)) ≡ rises_from 0 (positions_of ds)

@@ -1,4 +1,4 @@
--- What failures of plans and status writes say.
+-- What failures of plans and status writes mean.
 use Rattle.std.proofs.Common.{ℕ, ◌≡◌, List, [], ◌∷◌, Bool, true, false, cond, eqb, Option, None, Some, map, inl, inr, refl, sym, ap, ◌∙◌, subst}
 use Rattle.std.specs.List.{slice_get, Contains}
 use Rattle.std.specs.Option.{is_none}

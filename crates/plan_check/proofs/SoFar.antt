@@ -13,12 +13,12 @@ use Rattle.plan_check.specs.Standing.{held, held_behind, held_by, held_from, hol
 use Rattle.cluster.specs.declared.failure.Failure.{Failure}
 use Rattle.plan_check.proofs.Lists.{drop_next, take_next}
 
--- with those done, what is left decides as the whole did, by the holders and what those done have
+-- with those done, the rest decides as the whole did, by the holders and what those done have
 pub record HeldSoFar (holders own : Holders) (ds done left : List DueFields) : Type 0 where
   pub found : (w : SearchInput) (pairs : List (DeviceId × Key)) → AreHeld holders pairs → held_from pairs (map (due_seen w) done) (map (due_seen w) left) ≡ held pairs (map (due_seen w) ds)
   pub kept : (w : SearchInput) → AreHeld own (pairs_of (map (due_seen w) done))
 
--- with the devices of those done, which were held by nobody, as those of what is left are
+-- with the devices of those done, which were held by nobody, as those of the rest are
 pub record PutSoFar (old now : Holders) (ds done left : List DueFields) : Type 0 where
   pub free : (w : SearchInput) (pairs : List (DeviceId × Key)) → held pairs (map (due_seen w) ds) ≡ None → held_from pairs (map (due_seen w) done) (map (due_seen w) left) ≡ None
   pub kept : (w : SearchInput) (pairs : List (DeviceId × Key)) → AreHeld old pairs → held pairs (map (due_seen w) ds) ≡ None → AreHeld now (pairs ++ pairs_of (map (due_seen w) done))
@@ -75,7 +75,7 @@ pairs_end (e ∷ ds) d = ap (λ (l : List (DeviceId × Key)). pair_of e ++ l) (p
 seen_next : (w : SearchInput) (ds : List DueFields) (i : ℕ) (d : DueFields) → i < length ds → d ≡ get_or ds i d → map (due_seen w) (take (i + 1) ds) ≡ map (due_seen w) (take i ds) ++ due_seen w d ∷ []
 seen_next w ds i d h e = ap (map (due_seen w)) (take_next ds i d h e) ∙ map_end w (take i ds) d
 
--- what is left, with the next of them in front
+-- the rest, with the next of them at the front
 parts : (w : SearchInput) (pairs : List (DeviceId × Key)) (ds : List DueFields) (i : ℕ) (d : DueFields) → i < length ds → d ≡ get_or ds i d
     → held_from pairs (map (due_seen w) (take i ds)) (map (due_seen w) (drop i ds))
     ≡ or_else (held_behind pairs (map (due_seen w) (take i ds)) (due_seen w d)) (held_from pairs (map (due_seen w) (take (i + 1) ds)) (map (due_seen w) (drop (i + 1) ds)))

@@ -1,4 +1,4 @@
--- Names of requests have no slash, so that the name of a result tells its request and its subrequest.
+-- Names of requests have no slash, so that the name of a result determines its request and its subrequest.
 use Rattle.std.proofs.Common.{ℕ, zero, suc, ◌≡◌, ◌≢◌, List, [], ◌∷◌, ◌++◌, true, false, None, Some, map, refl, sym, ap, ◌∙◌, subst, append_assoc}
 use Rattle.std.specs.List.{slice_get, list_all}
 use Rattle.object_fields.specs.Names.{is_dns_byte, is_dns_label}
@@ -56,7 +56,7 @@ slashed name sub = append_assoc name (47 ∷ []) sub
 pub sub_isnt_main : (name sub other : List ℕ) → Plain other → name_by name (Some sub) ≡ name_by other None → ⊥
 sub_isnt_main name sub other p e = unslashed other name sub p (sym e ∙ slashed name sub)
 
--- it tells the request and the subrequest
+-- it determines the request and the subrequest
 pub sub_tells : (name sub other last : List ℕ) → Plain name → Plain other → name_by name (Some sub) ≡ name_by other (Some last) → (name ≡ other) × (sub ≡ last)
 sub_tells name sub other last p q e = split_plain name other sub last p q (sym (slashed name sub) ∙ e ∙ slashed other last)
 

@@ -92,7 +92,7 @@ held_all : (slices : List ResourceSlice) (pairs : List (DeviceId × Key)) → fl
 held_all [] pairs = refl
 held_all (x ∷ xs) pairs = ap (λ (l : List Offered). held_in pairs x ++ l) (held_all xs pairs) ∙ sym (filter-append (λ o. is_held pairs (id_in o)) (offers x) (flat_map offers xs))
 
--- what a device draws, where it is held
+-- what a device draws, if it is held
 abbrev drawn_held : List (DeviceId × Key) → CounterId → Offered → ℕ
 drawn_held pairs c o = cond (is_held pairs (id_in o)) (drawn_from c o) 0
 
@@ -149,7 +149,7 @@ drawn_more i pairs c id k o h is free =
 
 -- ---- the results, one after another
 
--- the device of a result, where it draws
+-- the device of a result, if it draws
 pub record DrawsOn (i : Inventory) (d : Due) (o : Offered) : Type 0 where
   pub alone : IsAlone i o
   pub is : device_eq (id_in o) d.result.device ≡ true

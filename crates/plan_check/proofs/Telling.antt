@@ -1,4 +1,4 @@
--- What failures of grants say.
+-- What failures of grants mean.
 use Rattle.std.proofs.Common.{ℕ, zero, suc, ◌+◌, ◌≡◌, ◌⊎◌, List, [], ◌∷◌, ◌++◌, Bool, true, false, not, ◌&&◌, cond, Option, None, Some, find, length, map, take, drop, append_assoc, inl, inr, refl, sym, ap, ◌∙◌, subst, ⊎_elim, arith}
 use Rattle.std.specs.List.{slice_get, Contains}
 use Rattle.std.specs.Option.{is_none, option_map}
@@ -43,7 +43,7 @@ FaultLaw = (w : SearchInput) (c : List ℕ) (f : FaultPlace) → fault_of w c �
 abbrev pub AgreedLaw : Type 0
 AgreedLaw = (c : DeviceConstraint) (xs : List agreeing.Pick) → KeepsConstraint c xs → agreeing.each_agrees c [] xs ≡ true
 
--- what a failure of grants says, where their node is there
+-- what a failure of grants means, if their node exists
 abbrev pub Tells : SearchInput → List Grant → Failure → Type 0
 Tells w grants (failure.ClaimGone k) = ⊥
 Tells w grants (failure.ClaimChanged k) = ⊥
@@ -57,7 +57,7 @@ Tells w grants (failure.Held d k) = IsHeld w grants d k
 Tells w grants (failure.Counter c) = IsShort w grants c
 Tells w grants (failure.Constraint k n) = IsBroken w grants k n
 
--- ---- the first that there is
+-- ---- the first that exists
 
 pub either_by : (o p : Option Failure) (f : Failure) (P : Type 0) → or_else o p ≡ Some f → (o ≡ Some f → P) → (o ≡ None → p ≡ Some f → P) → P
 either_by (Some x) p f P e first later = first e
@@ -340,7 +340,7 @@ short_tells w grants f e =
 
 -- ---- constraints
 
--- a constraint of a claim, at their places, that isn't kept
+-- a constraint of a claim, at their indexes, that isn't kept
 record BrokenAt (w : SearchInput) (ps : List Pick) (i : ℕ) (cs : List ResourceClaim) (f : Failure) : Type 0 where
   at : ℕ
   claim : ResourceClaim

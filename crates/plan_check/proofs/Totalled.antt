@@ -1,4 +1,4 @@
--- Totals of what claims hold and of results have what each counter's check wants.
+-- Totals of what claims hold and of results have what each counter's check needs.
 use Rattle.std.proofs.Common.{ℕ, ℤ, zero, suc, ◌+◌, ◌<◌, ◌≤◌, ◌≡◌, ◌∙◌, ◌⊎◌, inl, inr, ⊎_elim, List, [], ◌∷◌, ◌++◌, Bool, true, false, not, ◌&&◌, ◌||◌, cond, Option, None, Some, find, length, map, refl, sym, ap, subst, arith, append_assoc, append-nil}
 use Rattle.std.specs.List.{AllByRecursion, Contains, flat_map, list_any, slice_get, sum_by}
 use Rattle.std.specs.Cmp.Lexicographic.{same_text}

@@ -1,4 +1,4 @@
--- What is so at a state where a plan, or a status write, has no failure.
+-- What holds in a state in which a plan, or a status write, has no failure.
 use Rattle.std.proofs.Common.{ℕ, ◌≡◌, List, [], ◌∷◌, Bool, true, false, not, cond, eqb, Option, None, Some, find, refl, sym, ap, ◌∙◌, subst}
 use Rattle.std.specs.Option.{is_none, option_map, IsSome}
 use Rattle.object_fields.specs.declared.key.Key.{Key}

@@ -28,7 +28,7 @@ is_called a r = text_eq (result_name a.label) r.name
 abbrev pub is_named : List DeviceResult → Asked → Bool
 is_named rs a = list_any (is_called a) rs
 
--- the number of the first subrequest whose name a result has; where no result has one, how many there are
+-- the number of the first subrequest whose name a result has; if no result has one, how many there are
 abbrev pub named_sub : List DeviceResult → Wish → List DeviceSubRequest → ℕ
 named_sub rs q ss = position_or_len (λ s. is_named rs (asked_sub q s)) ss
 
@@ -40,7 +40,7 @@ abbrev pub results_by : Option Grant → List DeviceResult
 results_by None = []
 results_by (Some g) = g.results
 
--- the results of the claim at a place
+-- the results of the claim at an index
 abbrev pub results_at : List Grant → ℕ → List DeviceResult
 results_at grants i = results_by (slice_get grants i)
 
@@ -56,7 +56,7 @@ abbrev pub asked_each : List DeviceResult → List Wish → List Asked
 asked_each rs [] = []
 asked_each rs (q ∷ qs) = add_some (asked_for rs q) (asked_each rs qs)
 
--- the requests and subrequests of the claim at a place that its results pick, in order
+-- the requests and subrequests of the claim at an index that its results pick, in order
 abbrev pub asked_in : ℕ → ResourceClaim → List DeviceResult → List Asked
 asked_in i c rs = asked_each rs (wishes_in i c.key c.requests)
 
@@ -66,7 +66,7 @@ abbrev pub due_by : SearchInput → Asked → AllocationMode → ℕ
 due_by w a (ExactCount n) = n
 due_by w a All = length (matching w a.ask)
 
--- how many results are due to a request: its count, or as many as there are devices that meet it
+-- how many results are expected for a request: its count, or as many as there are devices that meet it
 abbrev pub due : SearchInput → Asked → ℕ
 due w a = due_by w a a.ask.mode
 
@@ -74,7 +74,7 @@ abbrev pub place_by : SearchInput → Option ℕ → ℕ
 place_by w None = length w.devices
 place_by w (Some x) = x
 
--- the position of a result's device; that behind the last where the node has no such device
+-- the position of a result's device; the one after the last if the node has no such device
 abbrev pub place_of : SearchInput → DeviceResult → ℕ
 place_of w r = place_by w (position_of r.device w.devices)
 
@@ -87,7 +87,7 @@ pub record Due : Type 0 where
 abbrev pub due_for : Key → Asked → DeviceResult → Due
 due_for claim a r = record { claim = claim; asked = a; result = r }
 
--- each request takes the next of the results, as many as are due to it
+-- each request has the next of the results, as many as are expected for it
 abbrev pub dues_for : SearchInput → Key → List Asked → List DeviceResult → List Due
 dues_for w claim [] rs = []
 dues_for w claim (a ∷ asks) rs = map (due_for claim a) (take (due w a) rs) ++ dues_for w claim asks (drop (due w a) rs)

@@ -22,39 +22,39 @@ use Rattle.plan_check.specs.Standing.{constraint_broken, counter_short, device_g
 use Rattle.cluster.specs.declared.failure.Failure.{Failure}
 use Rattle.cluster.specs.declared.failure.Failure.TheVariants.{ClaimChanged, NodeGone}
 
--- what stands against results that meet their requests
+-- the first failure of results that meet their requests
 abbrev pub failing_standing : SearchInput → List Due → Option Failure
 failing_standing w ds =
     or_else (held w.held ds)
     (or_else (counter_short w (map (pick_of w) ds)) (constraint_broken w (map (pick_of w) ds)))
 
--- what stands against results of the right shape, whose devices are the node's
+-- the first failure of results of the right shape, whose devices are the node's
 abbrev pub failing_shaped : SearchInput → List ℕ → List Due → Option Failure
 failing_shaped w choice ds = or_else (selector_no w ds) (or_else (selector_fault w choice) (failing_standing w ds))
 
--- what stands against the grants on a node that is there
+-- the first failure of the grants on a node that exists
 unfoldable pub failing_in : SearchInput → List Grant → Option Failure
 failing_in w grants =
     or_else (device_gone w.devices grants)
     (or_else (misshapen w grants)
     (failing_shaped w (choice_of w grants) (dues w grants)))
 
--- the node isn't there
+-- the node doesn't exist
 abbrev pub node_gone : State → List ℕ → Option Failure
 node_gone s node = if is_none (at_name s.inventory.nodes node) then Some (NodeGone node) else None
 
--- what stands against grants of these claims on a node
+-- the first failure of grants of these claims on a node
 unfoldable pub failing_at : State → List ResourceClaim → List ℕ → List Grant → Option Failure
 failing_at s claims node grants = or_else (node_gone s node) (failing_in (input_of s claims node) grants)
 
--- the first failure of the plan for a pod that is there, whose claims are all there
+-- the first failure of the plan for a pod that exists, whose claims all exist
 abbrev pub failing_pod : State → Key → PodState → Plan → Option Failure
 failing_pod s pod p plan =
     or_else (changed s pod p plan)
     (or_else (claim_full s pod plan.known.claims)
     (failing_at s (wanted s p.pod.object) plan.node plan.grants))
 
--- A pod that isn't there hasn't the uid that the plan knew.
+-- A pod that doesn't exist doesn't have the uid that the plan knew.
 abbrev pub failing_for : State → Key → Option PodState → Plan → Option Failure
 failing_for s pod None plan = Some (ClaimChanged pod)
 failing_for s pod (Some p) plan = failing_pod s pod p plan
@@ -80,6 +80,6 @@ abbrev pub failing_write : State → Key → ClaimStatus → Option ClaimState �
 failing_write s claim status None = None
 failing_write s claim status (Some c) = failing_results s claim c.claim.object status
 
--- the first failure of a status write to a claim that is there, or none
+-- the first failure of a status write to a claim that exists, or none
 unfoldable pub failing_status : State → Key → ClaimStatus → Option Failure
 failing_status s claim status = failing_write s claim status (at_key s.claims claim)

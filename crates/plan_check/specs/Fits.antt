@@ -1,4 +1,4 @@
--- What is so of the pod and the claims that a plan without a failure knew.
+-- What holds of the pod and the claims that a plan without a failure knew.
 use Rattle.std.specs.Prelude.{◌≡◌, true, None, Some, All, Contains, option_map}
 use Rattle.object_fields.specs.declared.key.Key.{Key}
 use Rattle.pool_view.specs.Names.{at_key}
@@ -12,8 +12,8 @@ use Rattle.cluster.specs.Claims.{known_of}
 use Rattle.cluster.specs.State.{claims_of, may_use}
 use Rattle.allocations.specs.Claims.{joined, missing_claim, other_claim}
 
--- The claim is there as the plan knew it, with a grant if and only if it had one, on the node that was known, and has
--- room for the pod.
+-- The claim exists as the plan knew it, with a grant if and only if it had one, on the node that was known, and
+-- has room for the pod.
 pub record IsAsKnown (s : State) (pod : Key) (k : KnownClaim) : Type 0 where
   pub state : ClaimState
   pub there : at_key s.claims k.claim ≡ Some state
@@ -21,14 +21,14 @@ pub record IsAsKnown (s : State) (pod : Key) (k : KnownClaim) : Type 0 where
   pub node : option_map (λ (g : Granted). g.node) state.grant ≡ k.node
   pub room : may_use pod (Some state) ≡ true
 
--- the pod is there with the uid that the plan knew, and each of the claims that it knew is there as it knew it
+-- the pod exists with the uid that the plan knew, and each of the claims that it knew exists as it knew it
 pub record FitsPod (s : State) (pod : Key) (p : PodState) (plan : Plan) : Type 0 where
   pub there : at_key s.pods pod ≡ Some p
   pub uid : p.pod.uid ≡ plan.known.pod
   pub claims : (k : KnownClaim) → Contains plan.known.claims k → IsAsKnown s pod k
 
--- The plan is of the pod and its claims as they are now: it knew them so, each claim is there and has room for the pod,
--- and those with a grant have it on the plan's node and are joined.
+-- The plan is of the pod and its claims as they are now: it knew them so, each claim exists and has room for the
+-- pod, and those with a grant have it on the plan's node and are joined.
 pub record IsOfPod (s : State) (pod : Key) (p : PodState) (plan : Plan) : Type 0 where
   pub there : at_key s.pods pod ≡ Some p
   pub known : plan.known ≡ known_of s p

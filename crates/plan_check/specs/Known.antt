@@ -13,12 +13,12 @@ use Rattle.request_rules.specs.Lists.{or_else}
 use Rattle.cluster.specs.declared.failure.Failure.{Failure}
 use Rattle.cluster.specs.declared.failure.Failure.TheVariants.{ClaimChanged, ClaimGone, Users}
 
--- ---- claims that aren't there
+-- ---- claims that don't exist
 
 abbrev pub is_gone : State → KnownClaim → Bool
 is_gone s k = is_none (at_key s.claims k.claim)
 
--- the first of the claims that isn't there
+-- the first of the claims that doesn't exist
 abbrev pub claim_gone : State → List KnownClaim → Option Failure
 claim_gone s ks = option_map (λ k. ClaimGone k.claim) (find (is_gone s) ks)
 
@@ -28,7 +28,7 @@ abbrev pub is_node : List ℕ → Option (List ℕ) → Bool
 is_node node None = false
 is_node node (Some other) = text_eq node other
 
--- the claim has no grant where none was known, and else has one on the node that was known
+-- the claim has no grant if none was known, and otherwise has one on the node that was known
 abbrev pub same_node : Option Granted → Option (List ℕ) → Bool
 same_node None node = is_none node
 same_node (Some g) node = is_node g.node node
@@ -36,7 +36,7 @@ same_node (Some g) node = is_node g.node node
 abbrev pub is_known : KnownClaim → ClaimState → Bool
 is_known k c = (c.claim.uid == k.uid) && same_node c.grant k.node
 
--- a claim that isn't there is gone, and not changed
+-- a claim that doesn't exist is gone, and not changed
 abbrev pub is_other : KnownClaim → Option ClaimState → Bool
 is_other k None = false
 is_other k (Some c) = not (is_known k c)

@@ -10,7 +10,7 @@ use Rattle.cluster.specs.declared.state.PodState.{PodState}
 use Rattle.cluster.specs.declared.state.State.{State}
 use Rattle.cluster.specs.State.{claims_of}
 
--- where a node was known, it is this one
+-- if a node was known, it is this one
 abbrev pub IsNode : List ℕ → Option (List ℕ) → Type 0
 IsNode node None = Unit {0}
 IsNode node (Some other) = other ≡ node

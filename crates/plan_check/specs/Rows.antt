@@ -63,7 +63,7 @@ abbrev pub due_by : Row → AllocationMode → ℕ
 due_by row (ExactCount n) = n
 due_by row All = length row.matching
 
--- how many results are due to a row
+-- how many results are expected for a row
 abbrev pub due_of : Row → ℕ
 due_of row = due_by row row.mode
 
@@ -76,7 +76,7 @@ sits_row row broken xs All = not broken && (not (is_none xs) && pointwise nat_eq
 abbrev pub asked_rows : SearchInput → List ℕ → List Asked
 asked_rows w rows = map (asked_at w) rows
 
--- so many rows from this one on as there are ways to meet the requests
+-- as many rows from this one on as there are ways to meet the requests
 abbrev pub HasWays : SearchInput → ℕ → List Wish → Type 0
 HasWays w first qs = first + length (ways_from qs) ≤ length (all_asked w)
 
@@ -99,14 +99,14 @@ pub record IsPickedMore (w : SearchInput) (qs : List Wish) (rs : List DeviceResu
   pub next : new.next ≡ old.next + length (ways_from qs)
   pub picked : Picked w qs rs choice rows
 
--- with what they pick of a claim's requests, whose rows alone are there
+-- with what they pick of a claim's requests, whose rows are the only ones
 pub record IsPickedAll (w : SearchInput) (qs : List Wish) (rs : List DeviceResult) (old new : Named) : Type 0 where
   pub choice : List ℕ
   pub choice_is : new.choice.items ≡ old.choice.items ++ choice
   pub next : new.next ≡ old.next + length (ways_from qs)
   pub picked : Picked w qs rs choice new.rows.items
 
--- how many stand before the first that the results name
+-- how many are before the first that the results name
 abbrev pub unnamed : List DeviceResult → List Asked → ℕ
 unnamed rs asks = position_or_len (is_named rs) asks
 
@@ -115,7 +115,7 @@ unnamed rs asks = position_or_len (is_named rs) asks
 abbrev pub pair_of : Due → List (DeviceId × Key)
 pair_of d = if d.result.admin then [] else (d.result.device, d.claim) ∷ []
 
--- the devices that results without admin access take, each with its claim
+-- the devices of results without admin access, each with its claim
 abbrev pub pairs_of : List Due → List (DeviceId × Key)
 pairs_of [] = []
 pairs_of (d ∷ ds) = pair_of d ++ pairs_of ds
@@ -150,7 +150,7 @@ draws_by (Some o) = not (is_nil o.device.consumes)
 abbrev pub draws_one : SearchInput → DueFields → Bool
 draws_one w d = not d.result.admin && draws_by (slice_get w.devices d.position)
 
--- one of the results is so
+-- one of the results, without admin access, has a device that draws on a counter
 abbrev pub draws_any : SearchInput → List DueFields → Bool
 draws_any w ds = list_any (draws_one w) ds
 
@@ -160,12 +160,12 @@ draws_any w ds = list_any (draws_one w) ds
 abbrev pub seen_as : SearchInput → DueFields → List agreeing.Pick
 seen_as w d = seen_some (asked_at w d.row).label (slice_get w.devices d.position)
 
--- the results stand in the order of their claims, none of which has a lower place than this
+-- the results are in the order of their claims, none of which has a lower index than this
 abbrev pub AreByClaim : ℕ → List Due → Type 0
 AreByClaim least [] = Unit {0}
 AreByClaim least (d ∷ ds) = (least ≤ d.asked.label.claim) × AreByClaim d.asked.label.claim ds
 
--- the result is of the claim at a place
+-- the result is of the claim at an index
 abbrev pub is_at_place : SearchInput → ℕ → DueFields → Bool
 is_at_place w place d = (asked_at w d.row).label.claim == place
 
@@ -176,7 +176,7 @@ pub record IsViewOf (s : State) (node : List ℕ) (view : ViewFields) : Type 0 w
   pub devices : view.devices ≡ node_devices s.inventory node
   pub broken : view.has_broken ≡ has_broken s.inventory node
 
--- the rows are of the node's devices and the classes that are there
+-- the rows are of the node's devices and the classes that exist
 pub record AreRowsOf (s : State) (node : List ℕ) (rows : RowsFields) : Type 0 where
   pub devices : rows.devices ≡ node_devices s.inventory node
   pub broken : rows.broken ≡ has_broken s.inventory node

@@ -1,4 +1,4 @@
--- What each failure says.
+-- What each failure means.
 use Rattle.std.specs.Prelude.{ℕ, ◌<◌, ◌≡◌, ◌≢◌, ◌⊎◌, ◌&&◌, List, false, Option, None, Some, Contains, map, slice_get}
 use Rattle.object_fields.specs.declared.key.DeviceId.{DeviceId}
 use Rattle.object_fields.specs.declared.key.Key.{Key}
@@ -33,17 +33,17 @@ use Rattle.plan_check.specs.Shaped.{is_shaped}
 
 -- ---- the pod and its claims
 
--- the plan knew the claim, which isn't there
+-- the plan knew the claim, which doesn't exist
 pub record IsGone (s : State) (plan : Plan) (claim : Key) : Type 0 where
   pub known : Contains (map (λ k. k.claim) plan.known.claims) claim
   pub gone : at_key s.claims claim ≡ None
 
--- the pod isn't there, or has another uid
+-- the pod doesn't exist, or has another uid
 abbrev pub PodIsChanged : Plan → Option PodState → Type 0
 PodIsChanged plan None = Unit {0}
 PodIsChanged plan (Some p) = p.pod.uid ≢ plan.known.pod
 
--- the claim is there, but isn't as the plan knew it
+-- the claim exists, but isn't as the plan knew it
 pub record ClaimIsChanged (s : State) (plan : Plan) (claim : Key) : Type 0 where
   pub knew : KnownClaim
   pub known : Contains plan.known.claims knew
@@ -63,7 +63,7 @@ pub record IsFull (s : State) (pod : Key) (plan : Plan) (claim : Key) : Type 0 w
 
 -- ---- the node
 
--- it is the node of the grants, and isn't there
+-- it is the node of the grants, and doesn't exist
 pub record NodeIsGone (s : State) (node gone : List ℕ) : Type 0 where
   pub is : gone ≡ node
   pub none : at_name s.inventory.nodes node ≡ None
@@ -83,8 +83,8 @@ pub record DeviceIsGone (w : SearchInput) (grants : List Grant) (device : Device
   pub granted : IsGranted grants device
   pub gone : (o : Offered) → Contains w.devices o → id_in o ≢ device
 
--- At a place a claim has no grant, or another's, or one whose results aren't of the shape that it asks for; or a grant
--- has no claim.
+-- At an index a claim has no grant, or another's, or one whose results aren't of the shape that it asks for;
+-- or a grant has no claim.
 abbrev pub IsMisgranted : SearchInput → ℕ → Option ResourceClaim → Option Grant → Key → Type 0
 IsMisgranted w i None None claim = ⊥
 IsMisgranted w i None (Some g) claim = g.claim ≡ claim
@@ -102,7 +102,7 @@ pub record IsUnmet (w : SearchInput) (grants : List Grant) (device : DeviceId) :
   pub device_is : due.result.device ≡ device
   pub unmet : match_at w due.asked.ask (place_of w due.result) ≡ No
 
--- a chosen request is the first with a fault, on this device first
+-- a chosen request is the first with an evaluation error, on this device first
 pub record IsFaulted (w : SearchInput) (grants : List Grant) (device : DeviceId) : Type 0 where
   pub fault : FaultPlace
   pub first : IsFirstFault w (choice_of w grants) fault
@@ -141,7 +141,7 @@ pub record IsShort (w : SearchInput) (grants : List Grant) (c : Shortfall) : Typ
   pub value_is : c.value ≡ w.value draw.counter
   pub short : IsBelow c.value c.drawn
 
--- the claim, at a place, has a constraint at the index, which its results don't keep
+-- the claim, at its index `place`, has a constraint at `index`, which its results don't keep
 pub record IsBroken (w : SearchInput) (grants : List Grant) (claim : Key) (index : ℕ) : Type 0 where
   pub place : ℕ
   pub wanted : ResourceClaim
@@ -153,7 +153,7 @@ pub record IsBroken (w : SearchInput) (grants : List Grant) (claim : Key) (index
 
 -- ---- failures
 
--- what a failure says of grants of these claims on a node
+-- what a failure means for grants of these claims on a node
 abbrev pub GrantsSay : State → List ResourceClaim → List ℕ → List Grant → Failure → Type 0
 GrantsSay s claims node grants (failure.ClaimGone k) = ⊥
 GrantsSay s claims node grants (failure.ClaimChanged k) = ⊥
@@ -167,13 +167,13 @@ GrantsSay s claims node grants (failure.Held d k) = IsHeld (input_of s claims no
 GrantsSay s claims node grants (failure.Counter c) = IsShort (input_of s claims node) grants c
 GrantsSay s claims node grants (failure.Constraint k n) = IsBroken (input_of s claims node) grants k n
 
--- the pod is there, and the failure says so of the grants of the claims that it wants
+-- the pod exists, and the failure holds of the grants of the claims that it needs
 pub record PodSays (s : State) (pod : Key) (plan : Plan) (f : Failure) : Type 0 where
   pub state : PodState
   pub there : at_key s.pods pod ≡ Some state
   pub says : GrantsSay s (wanted s state.pod.object) plan.node plan.grants f
 
--- what a failure says of a plan
+-- what a failure means for a plan
 abbrev pub PlanSays : State → Key → Plan → Failure → Type 0
 PlanSays s pod plan (failure.ClaimGone k) = IsGone s plan k
 PlanSays s pod plan (failure.ClaimChanged k) = IsChanged s pod plan k

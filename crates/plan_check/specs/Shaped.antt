@@ -26,8 +26,8 @@ abbrev pub rises_from : ℕ → List ℕ → Bool
 rises_from least [] = true
 rises_from least (x ∷ xs) = nat_le least x && rises_from (x + 1) xs
 
--- so many positions, which increase; or those of all devices that meet the request, at least one, where no incomplete
--- or invalid pool is visible to the node
+-- this many positions, which increase; or those of all devices that meet the request, at least one, if no
+-- incomplete or invalid pool is visible to the node
 abbrev pub sits : SearchInput → Asked → AllocationMode → List ℕ → Bool
 sits w a (ExactCount n) xs = (length xs == n) && rises_from 0 xs
 sits w a All xs = not w.broken && (not (is_none xs) && pointwise nat_eq xs (matching w a.ask))
@@ -58,14 +58,14 @@ differ (r ∷ rs) = not (is_among r rs) && differ rs
 abbrev pub picks_each : List DeviceResult → List Wish → Bool
 picks_each rs qs = list_all (λ q. is_some (asked_for rs q)) qs
 
--- the results are of the shape that the requests of the claim at a place ask for
+-- the results are of the shape that the requests of the claim at an index ask for
 unfoldable pub is_shaped : SearchInput → ℕ → ResourceClaim → List DeviceResult → Bool
 is_shaped w i c rs =
     picks_each rs (wishes_in i c.key c.requests)
     && (are_parts w (asked_in i c rs) rs
     && (differ rs && nat_le (length rs) most_results))
 
--- each claim has its grant, in order; the first at which it isn't so
+-- each claim has its grant, in order; else the failure at the first index at which this isn't so
 abbrev pub shape_from : SearchInput → ℕ → List ResourceClaim → List Grant → Option Failure
 shape_from w i [] [] = None
 shape_from w i [] (g ∷ gs) = Some (Shape g.claim)

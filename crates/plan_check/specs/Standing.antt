@@ -1,4 +1,4 @@
--- What stands against results that are of the right shape.
+-- Failures of results that are of the right shape.
 use Rattle.std.specs.Prelude.{ℕ, ◌+◌, List, [], ◌∷◌, ◌++◌, Bool, true, false, not, ◌&&◌, Option, None, Some, is_none, option_map, find, if◌then◌else◌}
 use Rattle.std.specs.List.{flat_map}
 use Rattle.std.specs.Map.{lookup}
@@ -52,7 +52,7 @@ is_unmet w d = is_no (match_at w d.asked.ask (place_of w d.result))
 abbrev pub selector_no : SearchInput → List Due → Option Failure
 selector_no w ds = option_map (λ d. failure.SelectorNo d.result.device) (find (is_unmet w) ds)
 
--- the device of the first request of the choice that gives a fault, on which it gives it first
+-- the device of the first request of the choice that has an evaluation error, on which it has it first
 abbrev pub selector_fault : SearchInput → List ℕ → Option Failure
 selector_fault w choice = option_map (λ f. failure.SelectorFault f.device) (fault_of w choice)
 
@@ -69,7 +69,7 @@ holder_of pairs id = lookup (λ d. device_eq d id) pairs
 abbrev pub takes : DeviceId → Due → Bool
 takes id d = not d.result.admin && device_eq d.result.device id
 
--- the claim of the first of the results that takes the device
+-- the claim of the first of the results without admin access of the device
 abbrev pub taker_of : List Due → DeviceId → Option Key
 taker_of before id = option_map (λ d. d.claim) (find (takes id) before)
 
@@ -90,14 +90,15 @@ held pairs ds = held_from pairs [] ds
 
 -- ---- counters
 
--- the counter hasn't what is drawn from it, with all results
+-- the counter doesn't cover what is drawn from it, with all results
 abbrev pub is_short : SearchInput → List Pick → Draw → Bool
 is_short w ps d = not (within w d.counter (total w d.counter ps))
 
 abbrev pub shortfall : SearchInput → List Pick → CounterId → Shortfall
 shortfall w ps c = record { set = c.set; counter = c.counter; drawn = total w c ps; value = w.value c }
 
--- the first counter of a device that hasn't enough, in the order of the device's list, and then of the names' bytes
+-- the first counter of a device that doesn't have enough, in the order of the device's list, and then of the
+-- names' bytes
 abbrev pub short_on : SearchInput → List Pick → Pick → Option Shortfall
 short_on w ps p = option_map (λ d. shortfall w ps d.counter) (find (is_short w ps) (device_draws w p))
 
@@ -110,7 +111,7 @@ counter_short w ps = first_some (short_for w ps) ps
 
 -- ---- constraints
 
--- the results of the claim at a place that the constraint names have its attribute, with one value
+-- the results of the claim at an index that the constraint names have its attribute, with one value
 abbrev pub agree : SearchInput → List Pick → ℕ → DeviceConstraint → Bool
 agree w ps i c = each_agrees c [] (seen_all w (record { claim = i; constraint = c }) ps)
 

@@ -18,7 +18,7 @@ use pool_view::DeviceRef;
 use request_rows::{Row, Rows, WantedClaim};
 use std::alloc::{AllocError, Global};
 
-/// A result as constraints look at it.
+/// A result as constraints see it.
 fn picked_of<'a>(rows: &'a Rows<'a>, due: &Due) -> Picked<'a>
     requires { IsDue (input_of rows.now) due.now }
     ensures { seen_as (input_of rows.now) due.now ≡ result ∷ [] }
@@ -70,7 +70,7 @@ fn broken<'a>(
     Ok(None)
 }
 
-/// Whether the result is of the claim at a place.
+/// Whether the result is of the claim at an index.
 fn is_of(rows: &Rows, due: &Due, place: usize) -> bool
     requires { IsDue (input_of rows.now) due.now }
     ensures { result ≡ is_at_place (input_of rows.now) place due.now }
@@ -78,7 +78,7 @@ fn is_of(rows: &Rows, due: &Due, place: usize) -> bool
     rows.row(due.row).claim == place
 }
 
-/// The index behind the results of the claim at a place, of which the first has this index, if there
+/// The index after the results of the claim at an index, of which the first has index `first`, if there
 /// are any.
 fn end_of(rows: &Rows, dues: &[Due], place: usize, first: usize) -> usize
     requires dues { Each (IsDue (input_of rows.now)) dues.now }
@@ -94,8 +94,8 @@ fn end_of(rows: &Rows, dues: &[Due], place: usize, first: usize) -> usize
     dues.len()
 }
 
-/// The failure of the first claim of whose constraints its results don't keep one, and of the first such
-/// constraint. The results stand in the order of the claims.
+/// The failure of the first claim whose results don't keep one of its constraints, and of the first such
+/// constraint. The results are in the order of the claims.
 pub fn constraint_broken<'a>(
     alloc: Global,
     rows: &'a Rows<'a>,

@@ -49,7 +49,7 @@ fn totals_with(alloc: Global, state: &State, dues: &[Due]) -> Result<Totals, All
     totals_of(alloc, &state.inventory, &holders)
 }
 
-/// The first counter that hasn't enough for the results, whose devices nobody holds. If one of them
+/// The first counter that doesn't have enough for the results, whose devices nobody holds. If one of them
 /// draws on a counter, it takes a pass over all devices that claims hold.
 fn failing_counters<'a>(
     alloc: Global,
@@ -74,7 +74,7 @@ fn failing_counters<'a>(
     counter_short(alloc, rows, &mut totals, dues)
 }
 
-/// The first that stands against results which meet their requests: a holder, a counter, or a
+/// The first failure of results which meet their requests: a holder, a counter, or a
 /// constraint.
 fn failing_held<'a>(
     alloc: Global,
@@ -101,7 +101,7 @@ fn failing_held<'a>(
     constraint_broken(alloc, rows, claims, dues)
 }
 
-/// The first that stands against results of the right shape.
+/// The first failure of results of the right shape.
 fn failing_shaped<'a>(
     alloc: Global,
     state: &State,
@@ -128,7 +128,7 @@ fn failing_shaped<'a>(
     failing_held(alloc, state, holders, rows, node, claims, dues)
 }
 
-/// The first that stands against grants whose devices are the node's.
+/// The first failure of grants whose devices are the node's.
 fn failing_rows<'a>(
     alloc: Global,
     state: &State,
@@ -156,7 +156,7 @@ fn failing_rows<'a>(
     failing_shaped(alloc, state, holders, rows, node, claims, choice, &dues)
 }
 
-/// The first that stands against grants on a node, which the view is of.
+/// The first failure of grants on a node, which the view is of.
 fn failing_on(
     alloc: Global,
     state: &State,
@@ -187,7 +187,7 @@ fn failing_on(
     )
 }
 
-/// The first that stands against grants of these claims on a node.
+/// The first failure of grants of these claims on a node.
 fn failing_at(
     alloc: Global,
     state: &State,
@@ -210,7 +210,7 @@ fn failing_at(
     failing_on(alloc, state, holders, &view, node, &wants, grants)
 }
 
-/// The first failure of a plan for a pod that is there, whose claims are all there.
+/// The first failure of a plan for a pod that exists, whose claims all exist.
 fn failing_for(
     alloc: Global,
     state: &State,
@@ -238,9 +238,9 @@ fn failing_for(
 ///
 /// It is one of a claim that is gone, changed, or full, of the claims that the plan knew; the node that
 /// is gone; a device that isn't the node's; results that aren't of the shape that their claim asks for;
-/// a device that doesn't meet its request, or on which a selector gives a fault; a device that is held;
+/// a device that doesn't meet its request, or on which a selector has an evaluation error; a device that is held;
 /// a counter without enough; or a constraint that the results don't keep, in this order. A pod that
-/// isn't there is changed. It takes one pass over the devices of the node and the results, and one over
+/// doesn't exist is changed. It takes one pass over the devices of the node and the results, and one over
 /// the devices that claims hold only if a result draws on a counter. `AllocError` only if memory runs
 /// out.
 pub fn check(
@@ -298,7 +298,7 @@ fn failing_write(
     failing_at(alloc, state, holders, claims, &status.node, &[grant])
 }
 
-/// Checks a status write to a claim that is there, as a plan of the claim's results on its node, against
+/// Checks a status write to a claim that exists, as a plan of the claim's results on its node, against
 /// a state, of which `holders` has the devices that claims hold: the first failure from the node on, or
 /// none. `AllocError` only if memory runs out.
 pub fn check_status(

@@ -39,7 +39,7 @@ pub fn draws_any(rows: &Rows, dues: &[Due]) -> bool
     false
 }
 
-/// The first counter of a device that hasn't what is drawn from it with all results, among which the
+/// The first counter of a device that doesn't cover what is drawn from it with all results, among which the
 /// device's is. The totals have what all results draw, and are the same after it if there is none.
 fn short_of<'a>(rows: &'a Rows<'a>, totals: &mut Totals, due: &Due) -> Option<Shortage<'a>>
     requires due { IsDue (input_of rows.now) due.now }
@@ -70,7 +70,7 @@ fn shortfall(alloc: Global, short: Shortage) -> Result<Shortfall, AllocError>
     })
 }
 
-/// The failure of a result without admin access of whose counters one hasn't what is drawn from it with
+/// The failure of a result without admin access if one of its counters doesn't cover what is drawn from it with
 /// all results. The totals have what all results draw, and are the same after it if there is none.
 fn short_for<'a>(
     alloc: Global,
@@ -95,7 +95,7 @@ fn short_for<'a>(
     }
 }
 
-/// The failure of the first result without admin access of whose counters one hasn't what is drawn from
+/// The failure of the first result without admin access one of whose counters doesn't cover what is drawn from
 /// it with all results, by totals that have what the held devices and all results draw.
 pub fn counter_short<'a>(
     alloc: Global,

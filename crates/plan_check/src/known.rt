@@ -22,7 +22,7 @@ fn first_gone<'a>(state: &State, known: &'a [KnownClaim]) -> Option<&'a KnownCla
     known.iter().find(|claim| is_gone(state, claim))
 }
 
-/// The failure of the first of the claims that isn't there.
+/// The failure of the first of the claims that doesn't exist.
 pub fn claim_gone(
     alloc: Global,
     state: &State,
@@ -47,7 +47,7 @@ fn same_node(grant: &Option<Shared<Granted>>, node: &Option<Text>) -> bool
     }
 }
 
-/// Whether a claim that is there isn't the one that was known.
+/// Whether a claim that exists isn't the one that was known.
 fn is_other(known: &KnownClaim, claim: Option<&ClaimState>) -> bool
     ensures { result ≡ spec.is_other known.now (option_copied claim.entry) }
 {

@@ -18,7 +18,7 @@ use constraints::results_keep_constraint;
 use pool_view::devices_of_a_view_differ;
 use request_rules::faults_are_first;
 
-/// The grants of a plan without a failure are an allocation of the claims that the pod wants, on the
+/// The grants of a plan without a failure are an allocation of the claims that the pod needs, on the
 /// plan's node; and so is what a status write without a failure grants to its claim.
 pub fn checked_is_allocation()
     ensures plan { (s : State) (pod : Key) (plan : Plan) (p : PodState) → at_key s.pods pod ≡ Some p → failing s pod plan ≡ None →
@@ -29,14 +29,14 @@ pub fn checked_is_allocation()
     results_keep_constraint();
 }
 
-/// The pod of a plan without a failure is there with the uid that the plan knew, and each claim that it
-/// knew is there as it knew it, and has room for the pod.
+/// The pod of a plan without a failure exists with the uid that the plan knew, and each claim that it
+/// knew exists as it knew it, and has room for the pod.
 pub fn checked_is_known()
     ensures { (s : State) (pod : Key) (plan : Plan) → failing s pod plan ≡ None → (p : PodState) × FitsPod s pod p plan }
 {}
 
 /// A plan for a pod that fits it has no failure if its grants are an allocation of the claims that the
-/// pod wants, on the plan's node; nor has a status write whose results are one of its claim. The claims
+/// pod needs, on the plan's node; nor has a status write whose results are one of its claim. The claims
 /// of the state keep the limits of their API.
 pub fn allocations_pass()
     ensures plan { (s : State) (pod : Key) (plan : Plan) (p : PodState) (choice : List ℕ) → KeepLimits s → FitsPod s pod p plan → IsAllocation s (wanted s p.pod.object) plan.node choice plan.grants →
@@ -48,7 +48,7 @@ pub fn allocations_pass()
     devices_of_a_view_differ();
 }
 
-/// What a failure of a plan says of the state and the plan, and what one of a status write says.
+/// What a failure of a plan means for the state and the plan, and what one of a status write means.
 pub fn failures_are_true()
     ensures plan { (s : State) (pod : Key) (plan : Plan) (f : Failure) → failing s pod plan ≡ Some f → PlanSays s pod plan f }
     ensures status { (s : State) (claim : Key) (status : ClaimStatus) (c : ClaimState) (f : Failure) → at_key s.claims claim ≡ Some c → failing_status s claim status ≡ Some f →

@@ -23,14 +23,14 @@ fn is_named(row: &Row, results: &[DeviceResult]) -> bool
     results.iter().any(|found| row.name == found.name)
 }
 
-/// States that there are no more rows than an index may count. Takes no memory.
+/// States that there are no more rows than an index may count. Allocates nothing.
 fn rows_fit(rows: &Rows)
     ensures { length (all_asked (input_of rows.now)) ≤ 18446744073709551615 }
 {
     rows.len();
 }
 
-/// How many of so many rows stand before the first that a result names.
+/// How many of `count` rows are before the first that a result names.
 fn unnamed(rows: &Rows, results: &[DeviceResult], first: usize, count: usize) -> usize
     requires { first + count ≤ length (all_asked (input_of rows.now)) }
     ensures { result ≡ unnamed results.now (take count (drop first (all_asked (input_of rows.now)))) }
@@ -54,7 +54,7 @@ pub fn ways_of(kind: &RequestKind) -> usize
     }
 }
 
-/// The way to meet a request that the names of results pick, whose rows stand from the first on; how
+/// The way to meet a request that the names of results pick, whose rows start at `first`; how
 /// many ways there are if they pick none.
 fn named_way(rows: &Rows, results: &[DeviceResult], request: &DeviceRequest, first: usize) -> usize
     requires { first + ways_of request.now.kind ≤ length (all_asked (input_of rows.now)) }
@@ -69,12 +69,12 @@ fn named_way(rows: &Rows, results: &[DeviceResult], request: &DeviceRequest, fir
     }
 }
 
-/// What the names of results pick of the claims that were looked at.
+/// What the names of results pick of the claims that were examined.
 #[derive(Drop)]
 pub struct Named {
     /// Of each request.
     pub choice: Vec<usize>,
-    /// The rows of the claim that was looked at last.
+    /// The rows of the claim that was examined last.
     pub rows: Vec<usize>,
     /// The first row of the next claim.
     pub next: usize,
@@ -83,7 +83,7 @@ pub struct Named {
 impl Named {
     ghost use Rattle.std.specs.Prelude.{◌≡◌, []};
 
-    /// Nothing is picked. Takes no memory.
+    /// Nothing is picked. Allocates nothing.
     pub fn new(alloc: Global) -> Named
         ensures choice { result.choice.items ≡ [] }
         ensures next { result.next ≡ 0 }

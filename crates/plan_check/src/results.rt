@@ -1,4 +1,4 @@
-//! The devices of results, and what the selectors of their requests say of them.
+//! The devices of results, and what the selectors of their requests evaluate to for them.
 
 ghost use Rattle.std.specs.Prelude.{◌≡◌, IfOk, find, option_copied, map};
 ghost use Rattle.request_rules.specs.Lists.{Each};
@@ -13,7 +13,7 @@ use pool_view::PoolView;
 use request_rows::Rows;
 use std::alloc::{AllocError, Global};
 
-/// The first of the results whose device the view hasn't.
+/// The first of the results whose device isn't in the view.
 fn first_gone<'a>(view: &PoolView, results: &'a [DeviceResult]) -> Option<&'a DeviceResult>
     ensures { option_copied result ≡ find (spec.is_off view.now.devices) results.now }
 {
@@ -22,7 +22,7 @@ fn first_gone<'a>(view: &PoolView, results: &'a [DeviceResult]) -> Option<&'a De
         .find(|found| view.position(&found.device).is_none())
 }
 
-/// The failure of the first result whose device the view hasn't.
+/// The failure of the first result whose device isn't in the view.
 pub fn device_gone(
     alloc: Global,
     view: &PoolView,
@@ -68,7 +68,7 @@ pub fn selector_no(alloc: Global, rows: &Rows, dues: &[Due]) -> Result<Option<Fa
     Ok(None)
 }
 
-/// The failure of a choice of which a selector is neither true nor false of a device.
+/// The failure of a choice with a selector that is neither true nor false of a device.
 pub fn selector_fault(
     alloc: Global,
     rows: &Rows,

@@ -33,7 +33,7 @@ fn is_for(row: &Row, found: &DeviceResult) -> bool
     row.name == found.name && found.admin == row.admin
 }
 
-/// How many results are due to a row.
+/// How many results are expected for a row.
 fn due_of(row: &Row) -> u64
     ensures { result ≡ due_of row.now }
 {
@@ -164,7 +164,7 @@ fn add_part<'a>(
     Ok(sits(asked, view.has_broken(), &dues[before..]))
 }
 
-/// Puts the results of the rows at the end, each of which takes the next of them; false if they aren't
+/// Puts the results of the rows at the end, each of which has the next of them; false if they aren't
 /// the rows' own, or one is left over.
 fn add_parts<'a>(
     view: &PoolView,
@@ -264,7 +264,7 @@ fn is_granted<'a>(
 }
 
 /// The failure of the first claim whose grant isn't of the shape that it asks for. What the names of
-/// results pick and the results with their rows are put at the end, where nothing stands before.
+/// results pick and the results with their rows are put at the end, with nothing before.
 pub fn misshapen<'a>(
     alloc: Global,
     view: &PoolView,

@@ -19,7 +19,7 @@ agree k all (n ∷ ns) h g =
     let parts = and_parts (eqb n k) (list_all (λ m. eqb m k) ns) g in
     ap (λ b. b || list_any (λ n. list_any (λ m. not (eqb n m)) all) ns) (agrees_with k n all h (eqb-true n k parts.0)) ∙ agree k all ns h parts.1
 
--- where there are as many as each says, no two say different numbers
+-- if their number equals the count in each, no two have different counts
 complete_agrees : (counts : List ℕ) → is_complete counts ≡ true → counts_differ counts ≡ false
 complete_agrees counts h = agree (length counts) counts counts h h
 
@@ -27,7 +27,7 @@ usable_if : (c d t : Bool) → (c ≡ true → d ≡ false) → (c && not t) ≡
 usable_if true d t h = ap (λ b. not (b || t)) (sym (h refl))
 usable_if false d t h = refl
 
--- a pool's slices by what they say and by their devices' names
+-- a pool's slices by their counts and by their devices' names
 pub is_usable_by : (xs : List ResourceSlice) (counts : List ℕ) (names : List (List ℕ)) (b : Bool) → counts ≡ counts_of xs → names ≡ flat_map device_names xs
     → b ≡ (is_complete counts && not (has_twice names)) → b ≡ is_usable xs
 unfolding is_usable

@@ -1,4 +1,4 @@
--- How many devices all slices have, with one more, another in the stead of one, or one less.
+-- How many devices all slices have, with one more, one replaced, or one less.
 use Rattle.std.proofs.Common.{ℕ, ◌+◌, ◌-◌, ◌≤◌, ◌≡◌, ◌∙◌, List, [], ◌∷◌, Bool, true, false, cond, Option, None, Some, length, refl, sym, ap, subst, arith}
 use Rattle.std.specs.Prelude.{nat_le}
 use Rattle.std.proofs.lemmas.Bool.{leb-true}

@@ -240,7 +240,7 @@ node_differ : (i : Inventory) (node : List ℕ) → Pairwise Differs (node_devic
 unfolding usable_devices node_devices
 node_differ i node = pairs_for Differs (at_name i.nodes node) (usable_slices i) (devices_differ i)
 
--- ---- ids tell devices apart
+-- ---- ids identify devices
 
 same_by_id : (os : List Offered) (n m : ℕ) (o p : Offered) → Pairwise Differs os → slice_get os n ≡ Some o → slice_get os m ≡ Some p → id_in o ≡ id_in p → n ≡ m
 same_by_id os n m o p h e f same = same_place Differs os n m o p h (λ differ. differ same) (λ differ. differ (sym same)) e f
@@ -269,7 +269,7 @@ view_slice i node n o e = all_at (λ o. Contains (usable_slices i) o.slice) (nod
 pub view_device : (i : Inventory) (node : List ℕ) (n : ℕ) (o : Offered) → slice_get (node_devices i node) n ≡ Some o → Contains o.slice.devices o.device
 view_device i node n o e = all_at (λ o. Contains o.slice.devices o.device) (node_devices i node) n o (all_on (λ o. Contains o.slice.devices o.device) i node (all_devices i)) e
 
--- ---- names tell slices apart
+-- ---- names identify slices
 
 abbrev Entry : Type 0
 Entry = List ℕ × Stored ResourceSlice
@@ -362,7 +362,7 @@ usable_rise i h =
 pub usable_order : (i : Inventory) → AtOwnNames i.slices → IsStrictlySortedBy text_cmp (keys_of i.slices) → IsStrictlySortedBy place_cmp (map place_of (usable_slices i))
 usable_order i own h = sorted_pairs place_cmp (map place_of (usable_slices i)) (pairs_map (λ a b. place_cmp a b ≡ Less) place_of (usable_slices i) (usable_rise i (objects_rise i.slices own h)))
 
--- ---- ids tell the devices of all usable slices apart
+-- ---- ids identify the devices of all usable slices
 
 in_map : {X Y : Type 0} (f : X → Y) (xs : List X) (x : X) → Contains xs x → Contains (map f xs) (f x)
 in_map f [] x h = absurd (none_in x h)

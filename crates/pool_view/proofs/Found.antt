@@ -1,4 +1,4 @@
--- What stands at a key in entries that are put in and taken out.
+-- The value at a key in entries that are inserted and removed.
 use Rattle.std.proofs.Common.{◌≡◌, ◌∙◌, List, [], ◌∷◌, Bool, true, false, cond, Option, Some, refl, sym, ap}
 use Rattle.std.specs.BTreeMap.{insert_entry, is_at}
 use Rattle.std.specs.Map.{lookup, remove_entry}
@@ -6,7 +6,7 @@ use Rattle.std.specs.Ordering.{is_eq, match_ordering}
 use Rattle.std.specs.declared.cmp.Ordering.{Ordering}
 use Rattle.std.specs.declared.cmp.Ordering.TheVariants.{Less, Equal, Greater}
 
--- a comparison that says Equal of equal keys alone
+-- a comparison that is Equal only for equal keys
 pub record IsExact {K : Type 0} (cmp : K → K → Ordering) : Type 0 where
   pub same : (a b : K) → cmp a b ≡ Equal → a ≡ b
   pub equal : (a : K) → cmp a a ≡ Equal

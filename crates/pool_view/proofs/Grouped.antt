@@ -1,4 +1,4 @@
--- What stands in the groups of a list.
+-- The contents of the groups of a list.
 use Rattle.std.proofs.Common.{◌≡◌, ◌∙◌, List, [], ◌∷◌, ◌++◌, Bool, true, false, cond, refl, sym, ap, append_assoc, append-nil, Option}
 use Rattle.std.specs.Prelude.{filter, unwrap_or, Some}
 use Rattle.std.specs.BTreeMap.{is_at}

@@ -1,4 +1,4 @@
--- The index of a device in the places of devices.
+-- The index of a device in the table of indexes.
 use Rattle.std.proofs.Common.{ℕ, ◌+◌, ◌≡◌, ◌∙◌, List, [], ◌∷◌, Bool, true, false, cond, Option, None, Some, is_some, refl, sym, ap}
 use Rattle.std.specs.Prelude.{◌&&◌}
 use Rattle.std.specs.BTreeMap.{insert_entry, is_at}
@@ -36,7 +36,7 @@ is_equal Less e = absurd (cc)
 is_equal Equal e = refl
 is_equal Greater e = absurd (cc)
 
--- an id is at another where they are equal
+-- an id is at another if they are equal
 is_id : (q k : DeviceId) → is_eq (device_cmp q k) ≡ device_eq k q
 is_id q k =
     then_is (text_cmp q.driver k.driver) (ordering_then (text_cmp q.pool k.pool) (text_cmp q.device k.device))
@@ -56,7 +56,7 @@ keep (Some n) = refl
 abbrev at : DeviceId → Places → Option ℕ
 at q ps = lookup (is_at (device_cmp q)) ps
 
--- with k at n where it has no index: q stands where it stood, or at n where it is k, or else there
+-- with k at n if it has no index: q keeps its index, or has n if it is k, or else has `else_`
 put_by : (r : Option ℕ) (b : Bool) (ps : Places) (k q : DeviceId) (n : ℕ) (else_ : Option ℕ) → at k ps ≡ r → is_eq (device_cmp q k) ≡ b
     → first (at q (cond (is_some r) ps (insert_entry device_cmp ps k n))) else_ ≡ first (at q ps) (cond b (Some n) else_)
 put_by (Some m) true ps k q n else_ e f =
@@ -76,6 +76,6 @@ place_in (o ∷ os) n ps q =
     ∙ put_by (at (id_in o) ps) (is_eq (device_cmp q (id_in o))) ps (id_in o) q n (position_from (n + 1) q os) refl refl
     ∙ ap (λ (b : Bool). first (at q ps) (cond b (Some n) (position_from (n + 1) q os))) (is_id q (id_in o))
 
--- what stands at an id is the index of its device
+-- the value at an id is the index of its device
 pub position_is : (os : List Offered) (places : Places) (q : DeviceId) → places ≡ places_from 0 os [] → lookup (is_at (device_cmp q)) places ≡ position_of q os
 position_is os places q e = ap (λ (ps : Places). at q ps) e ∙ place_in os 0 [] q

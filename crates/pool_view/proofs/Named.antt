@@ -1,4 +1,4 @@
--- Each slice stands at its own name, whatever is put or taken away.
+-- Each slice is at its own name, after each insertion and removal.
 use Rattle.std.proofs.Common.{ℕ, ◌≡◌, ◌∙◌, List, [], ◌∷◌, Bool, true, false, Option, None, Some, refl, sym}
 use Rattle.std.specs.Cmp.Lexicographic.{same_text, texts_ties}
 use Rattle.std.specs.List.{AllByRecursion}

@@ -144,7 +144,7 @@ module _ (q : List ℕ) (s : ResourceSlice → Bool) (silent : (x : ResourceSlic
   any_by false true p xs ps qs e g later = or_swap (s p.slice) (list_any s (slices_in ps)) (list_any s (slices_in qs)) (list_any s xs) later
   any_by false false p xs ps qs e g later = later ∙ ap (λ (b : Bool). b || list_any s xs) (sym (silent p.slice e g))
 
-  -- one of a node's own slices or of those that name no node passes where one of all does
+  -- one of a node's own slices or of those that name no node passes if one of all does
   any_of_all : (xs : List ResourceSlice) (n : ℕ) → (list_any s (slices_in (filter (is_own q) (placed_from n xs))) || list_any s (slices_in (filter is_other (placed_from n xs)))) ≡ list_any s xs
   any_of_all [] n = refl
   any_of_all (x ∷ xs) n =

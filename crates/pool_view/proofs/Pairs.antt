@@ -41,7 +41,7 @@ pub all_flat : {X Y : Type 0} (P : Y → Type 0) (f : X → List Y) (xs : List X
 all_flat P f [] h = tt
 all_flat P f (x ∷ xs) h = all_append P (f x) (flat_map f xs) (h x) (all_flat P f xs h)
 
--- where it holds of what is made of each item for which another fact holds
+-- if it holds of what is made of each item for which another fact holds
 pub all_flat_by : {X Y : Type 0} (P : X → Type 0) (Q : Y → Type 0) (f : X → List Y) (xs : List X) → ((x : X) → P x → AllByRecursion Q (f x)) → AllByRecursion P xs → AllByRecursion Q (flat_map f xs)
 all_flat_by P Q f [] h g = tt
 all_flat_by P Q f (x ∷ xs) h g = all_append Q (f x) (flat_map f xs) (h x g.0) (all_flat_by P Q f xs h g.1)
@@ -68,7 +68,7 @@ pub pairs_imply : {X : Type 0} (R S : X → X → Type 0) (xs : List X) → ((x 
 pairs_imply R S [] f h = tt
 pairs_imply R S (x ∷ xs) f h = (all_imply (λ y. R x y) (λ y. S x y) xs (f x) h.0, pairs_imply R S xs f h.1)
 
--- where another fact holds of each item
+-- if another fact holds of each item
 pub pairs_imply_by : {X : Type 0} (P : X → Type 0) (R S : X → X → Type 0) (xs : List X) → ((x y : X) → P x → P y → R x y → S x y) → AllByRecursion P xs → Pairwise R xs → Pairwise S xs
 pairs_imply_by P R S [] f g h = tt
 pairs_imply_by P R S (x ∷ xs) f g h = (all_both P (λ y. R x y) (λ y. S x y) xs (λ y p r. f x y g.0 p r) g.1 h.0, pairs_imply_by P R S xs f g.1 h.1)
@@ -118,7 +118,7 @@ pairs_flat S R f (x ∷ xs) g h k =
 pub all_pairs_by : {Y : Type 0} (P Q : Y → Type 0) (R : Y → Y → Type 0) (us vs : List Y) → ((a b : Y) → P a → Q b → R a b) → AllByRecursion P us → AllByRecursion Q vs → AllByRecursion (λ a. AllByRecursion (λ b. R a b) vs) us
 all_pairs_by P Q R us vs f g h = all_imply P (λ a. AllByRecursion (λ b. R a b) vs) us (λ a p. all_imply Q (λ b. R a b) vs (λ b q. f a b p q) h) g
 
--- ---- places of items that have nothing in common with each other
+-- ---- indexes of items that have nothing in common with each other
 
 pub same_place : {X : Type 0} (R : X → X → Type 0) (xs : List X) (n m : ℕ) (x y : X) → Pairwise R xs → (R x y → ⊥) → (R y x → ⊥) → slice_get xs n ≡ Some x → slice_get xs m ≡ Some y → n ≡ m
 same_place R [] n m x y h forth back e f = absurd (cc)

@@ -1,4 +1,4 @@
--- The places in use, as a set in order.
+-- The keys in use, as a set in order.
 use Rattle.std.proofs.Common.{ℕ, zero, suc, ◌<◌, ◌≡◌, ◌∙◌, ◌⊎◌, inl, inr, ⊎_elim, List, [], ◌∷◌, Bool, true, false, cond, length, get_or, refl, sym, ap, arith, subst}
 use Rattle.std.specs.List.{AllByRecursion, Contains}
 use Rattle.std.specs.List.Sorted.{IsStrictlySortedBy}
@@ -18,7 +18,7 @@ use Rattle.pool_view.specs.Names.{text_cmp}
 use Rattle.pool_view.specs.Pools.{is_used, place_cmp, place_of, placed, used_places}
 use Rattle.pool_view.specs.Used.{IsPlaceInUse}
 
--- ---- elements of a list with one in front
+-- ---- elements of a list with one more at the front
 
 pub in_head : {X : Type 0} (x : X) (xs : List X) → Contains (x ∷ xs) x
 in_head x xs = (0, omega arith, refl)
@@ -36,7 +36,7 @@ head_or x y xs h = head_by x y xs h.0 h.1 h.2
 pub none_in : {X : Type 0} (y : X) → Contains [] y → ⊥
 none_in y h = let lt = h.1 in absurd (omega (arith, lt))
 
--- ---- the order of places
+-- ---- the order of keys
 
 driver_of : SlicePlace → List ℕ
 driver_of p = p.driver
@@ -68,7 +68,7 @@ place_same a b e =
     let inner = then_equal (text_cmp a.pool b.pool) (text_cmp a.slice b.slice) outer.1 in
     same_parts a.driver b.driver a.pool b.pool a.slice b.slice (text_same a.driver b.driver outer.0) (text_same a.pool b.pool inner.0) (text_same a.slice b.slice inner.1)
 
--- ---- one place more
+-- ---- one key more
 
 abbrev Places : Type 0
 Places = List SlicePlace
@@ -82,7 +82,7 @@ new_by Less k x xs more e h = in_head k (x ∷ xs)
 new_by Equal k x xs more e h = subst (λ (p : SlicePlace). Contains (x ∷ xs) p) (sym (place_same k x e)) (in_head x xs)
 new_by Greater k x xs more e h = in_tail x k more h
 
--- it is there
+-- it is in the set
 new_in : (xs : Places) (k : SlicePlace) → Contains (insert_key place_cmp xs k) k
 unfolding by_order
 new_in [] k = in_head k []
@@ -144,7 +144,7 @@ unfolding IsStrictlySortedBy by_order
 order_insert [] k h = (tt, tt)
 order_insert (x ∷ xs) k h = order_by (place_cmp k x) k x xs refl h (order_insert xs k h.1)
 
--- ---- the places of the slices that are used
+-- ---- the keys of the slices that are used
 
 abbrev Entry : Type 0
 Entry = List ℕ × Stored ResourceSlice
@@ -174,7 +174,7 @@ every_in all (d ∷ es) ps e h used =
     (kept all es (next (is_used all d.1.object) ps d.1.object) (place_of d.1.object) (there_now (is_used all d.1.object) ps d.1.object d_used)))
     (λ (g : Contains es e). every_in all es (next (is_used all d.1.object) ps d.1.object) e g used) (head_or d e es h)
 
--- one of the slices has the place, and is used
+-- one of the slices has the key, and is used
 record IsOne (all es : Named ResourceSlice) (p : SlicePlace) : Type 0 where
   entry : Entry
   there : Contains es entry

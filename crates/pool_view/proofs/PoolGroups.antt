@@ -101,7 +101,7 @@ group_step g more name stored items rest pool x r is named same put whole =
     ∙ ap (λ (y : ResourceSlice). grouped pool_cmp pool_named (added pool_cmp g (pool_named stored.object) y) (objects rest)) same
     ∙ ap (λ (es : Named ResourceSlice). grouped pool_cmp pool_named g (objects es)) (sym is) ∙ whole
 
--- what is made of the groups is as one equal list says
+-- what is made of the groups is that of an equal list
 pub broken_ok : {E : Type 0} (i : Inventory) (groups : List (PoolName × List ResourceSlice)) (names : List PoolName) (r : Result Sorted E) → groups ≡ grouped pool_cmp pool_named [] (objects i.slices)
     → names ≡ pools i.slices → IfOk r (λ s. s.broken ≡ flat_map (λ p. if_broken (newest (group_at pool_cmp groups p))) names) → IfOk r (λ s. s.broken ≡ broken_slices i)
 broken_ok i groups names (Ok s) e f h = broken_by i groups names s.broken e f h

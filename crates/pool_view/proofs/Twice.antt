@@ -1,4 +1,4 @@
--- Whether a name comes twice, by the set of those before.
+-- Whether a name appears twice, by the set of those before.
 use Rattle.std.proofs.Common.{ℕ, ◌≡◌, ◌∙◌, List, [], ◌∷◌, Bool, true, false, ◌||◌, refl, sym, ap}
 use Rattle.std.specs.List.{list_any}
 use Rattle.std.specs.BTreeMap.{is_at}

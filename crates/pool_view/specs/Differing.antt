@@ -1,4 +1,4 @@
--- What the slices and the devices of usable pools are told apart by.
+-- What identifies the slices and the devices of usable pools.
 use Rattle.std.specs.Prelude.{◌≡◌, List, Some, map}
 use Rattle.std.specs.List.{flat_map}
 use Rattle.api_slice.specs.declared.types.ResourceSlice.{ResourceSlice}

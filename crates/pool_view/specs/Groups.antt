@@ -6,7 +6,7 @@ use Rattle.std.specs.Map.{lookup, remove_entry}
 use Rattle.pool_view.specs.declared.stored.Stored.{Stored}
 use Rattle.pool_view.specs.Inventory.{Named}
 
--- the group at a key, empty where there is none
+-- the group at a key, empty if there is none
 abbrev pub group_at : {K T : Type 0} → (K → K → Ordering) → List (K × List T) → K → List T
 group_at cmp groups key = unwrap_or (lookup (is_at (cmp key)) groups) []
 

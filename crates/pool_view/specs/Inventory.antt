@@ -12,11 +12,11 @@ use Rattle.pool_view.specs.Names.{at_name, text_cmp}
 abbrev pub Named : Type 0 → Type 0
 Named T = List (List ℕ × Stored T)
 
--- an object that a place created
+-- an object that the entry at an index created
 abbrev pub created : {T : Type 0} → ℕ → T → Stored T
 created place object = record { object = object; uid = place; version = place }
 
--- an object that a place put in the stead of another, whose uid it keeps
+-- an object that the entry at an index replaced another with, whose uid it keeps
 abbrev pub updated : {T : Type 0} → ℕ → T → Stored T → Stored T
 updated place object old = record { object = object; uid = old.uid; version = place }
 
@@ -24,7 +24,7 @@ abbrev pub put_by : {T : Type 0} → ℕ → List ℕ → T → Named T → Opti
 put_by place name object table None = insert_entry text_cmp table name (created place object)
 put_by place name object table (Some old) = set_value (is_at (text_cmp name)) table (updated place object old)
 
--- the objects with one at its name: it is updated where it is there, and else created
+-- the objects with one at its name: it is updated if it exists, and created otherwise
 abbrev pub with_named : {T : Type 0} → ℕ → List ℕ → T → Named T → Named T
 with_named place name object table = put_by place name object table (at_name table name)
 
@@ -41,11 +41,11 @@ pub record InventoryFields : Type 0 where
 abbrev pub empty_inventory : InventoryFields
 empty_inventory = record { nodes = []; slices = [] }
 
--- with a node that the place creates or updates
+-- with a node that the entry at the index creates or updates
 abbrev pub with_node : ℕ → Node → InventoryFields → InventoryFields
 with_node place x i = record i { nodes = with_named place x.name x i.nodes }
 
--- with a slice that the place creates or updates
+-- with a slice that the entry at the index creates or updates
 abbrev pub with_slice : ℕ → ResourceSlice → InventoryFields → InventoryFields
 with_slice place x i = record i { slices = with_named place x.name x i.slices }
 
@@ -70,15 +70,15 @@ devices_by (Some e) = length e.object.devices
 abbrev pub devices_most : ℕ
 devices_most = 65536
 
--- all slices have at most the devices that they may have, with the slice in the stead of the one of its name
+-- all slices have at most the devices that they may have, with the slice in place of the one of its name
 abbrev pub has_room_for : Named ResourceSlice → ResourceSlice → Bool
 has_room_for slices x = nat_le (device_count (without_named x.name slices) + length x.devices) devices_most
 
--- each slice stands at its own name
+-- each slice is at its own name
 abbrev pub AtOwnNames : Named ResourceSlice → Type 0
 AtOwnNames slices = AllByRecursion (λ e. e.0 ≡ e.1.object.name) slices
 
--- the number is that of the devices, they aren't too many, and each slice stands at its own name
+-- the number is that of the devices, they aren't too many, and each slice is at its own name
 pub record IsKept (slices : Named ResourceSlice) (devices : ℕ) : Type 0 where
   pub sum : devices ≡ device_count slices
   pub within : devices ≤ devices_most

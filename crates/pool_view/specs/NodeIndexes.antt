@@ -19,7 +19,7 @@ put_by (Some node) p i = record i { named = added text_cmp i.named node p }
 abbrev pub put_at : ℕ → ResourceSlice → NodeIndex → NodeIndex
 put_at n x i = put_by (named_node x.nodes) (placed_at n x) i
 
--- with slices more, of which the first has this place
+-- with slices more, of which the first has this position
 unfoldable pub with_slices : ℕ → List ResourceSlice → NodeIndex → NodeIndex
 with_slices n [] i = i
 with_slices n (x ∷ xs) i = with_slices (n + 1) xs (put_at n x i)
@@ -35,11 +35,11 @@ own_slices node i = group_at text_cmp i.named node
 abbrev pub slices_in : List PlacedSlice → List ResourceSlice
 slices_in ps = map (λ p. p.slice) ps
 
--- how many of the first ones stand before a place
+-- how many of the first ones are before a position
 abbrev pub count_before : ℕ → List PlacedSlice → ℕ
 count_before n ps = prefix_len (λ p. nat_lt p.place n) ps
 
--- the slices of two lists in the order of their places, where each list is in order
+-- the slices of two lists in the order of their positions, if each list is in order
 abbrev pub merged : List PlacedSlice → List PlacedSlice → List ResourceSlice
 merged [] qs = slices_in qs
 merged (p ∷ ps) qs = slices_in (take (count_before p.place qs) qs) ++ p.slice ∷ merged ps (drop (count_before p.place qs) qs)

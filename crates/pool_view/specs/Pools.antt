@@ -37,15 +37,15 @@ newest xs = of_generation (highest xs) xs
 unfoldable pub pool_of : Named ResourceSlice → List ℕ → List ℕ → List ResourceSlice
 pool_of all driver pool = newest (slices_of driver pool all)
 
--- how many slices each says that the pool has
+-- the slice count of the pool in each
 abbrev pub counts_of : List ResourceSlice → List ℕ
 counts_of xs = map (λ x. x.pool.slices) xs
 
--- there are as many as each says
+-- their number equals the count in each
 abbrev pub is_complete : List ℕ → Bool
 is_complete counts = list_all (λ n. n == length counts) counts
 
--- two say different numbers
+-- two have different counts
 abbrev pub counts_differ : List ℕ → Bool
 counts_differ counts = list_any (λ n. list_any (λ m. not (n == m)) counts) counts
 
@@ -56,7 +56,7 @@ abbrev pub has_twice : List (List ℕ) → Bool
 has_twice [] = false
 has_twice (n ∷ ns) = list_any (λ m. text_eq m n) ns || has_twice ns
 
--- two disagree on the number, or a device name comes twice
+-- two disagree on the count, or a device name appears twice
 abbrev pub is_invalid : List ResourceSlice → Bool
 is_invalid xs = counts_differ (counts_of xs) || has_twice (flat_map device_names xs)
 
@@ -75,13 +75,13 @@ place_cmp a b = ordering_then (text_cmp a.driver b.driver) (ordering_then (text_
 abbrev pub place_of : ResourceSlice → SlicePlace
 place_of x = record { driver = x.driver; pool = x.pool.name; slice = x.name }
 
--- the places of the used ones among the slices, each put where it stands in order
+-- the keys of the used ones among the slices, each inserted in order
 abbrev pub placed : Named ResourceSlice → Named ResourceSlice → List SlicePlace → List SlicePlace
 placed all [] places = places
 placed all (e ∷ es) places =
     placed all es (if is_used all e.1.object then insert_key place_cmp places (place_of e.1.object) else places)
 
--- the slices of the usable pools, in the order of driver, pool and slice
+-- the keys of the slices of the usable pools, in the order of driver, pool and slice
 unfoldable pub used_places : Inventory → List SlicePlace
 used_places i = placed i.slices i.slices []
 
@@ -108,7 +108,7 @@ abbrev pub offered_for : List ℕ → Option (Stored ResourceSlice) → List Off
 offered_for node None = []
 offered_for node (Some e) = if is_on (named_node e.object.nodes) node then map (offered_by e.object) e.object.devices else []
 
--- the devices of the slice at a place, where it is visible to the node
+-- the devices of the slice of a key, if it is visible to the node
 abbrev pub devices_at : Inventory → List ℕ → SlicePlace → List Offered
 devices_at i node p = offered_for node (at_name i.slices p.slice)
 

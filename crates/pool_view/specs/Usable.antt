@@ -21,7 +21,7 @@ pool_named x = record { driver = x.driver; pool = x.pool.name }
 abbrev pub pool_cmp : PoolName → PoolName → Ordering
 pool_cmp a b = ordering_then (text_cmp a.driver b.driver) (text_cmp a.pool b.pool)
 
--- these pools and those of the slices, each put where it stands in order
+-- these pools and those of the slices, each inserted in order
 abbrev pub pools_with : List PoolName → Named ResourceSlice → List PoolName
 pools_with pools [] = pools
 pools_with pools (e ∷ es) = pools_with (insert_key pool_cmp pools (pool_named e.1.object)) es
@@ -48,7 +48,7 @@ abbrev pub devices_for : Option (Stored Node) → List ResourceSlice → List Of
 devices_for None xs = []
 devices_for (Some node) xs = flat_map (offered_to node.object) xs
 
--- all devices of usable pools that the node sees, in the order of driver, pool, slice and place in
+-- all devices of usable pools that the node sees, in the order of driver, pool, slice and index in
 -- the slice
 unfoldable pub node_devices : Inventory → List ℕ → List Offered
 node_devices i name = devices_for (at_name i.nodes name) (usable_slices i)

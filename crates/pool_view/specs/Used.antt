@@ -1,4 +1,4 @@
--- What a place in use is.
+-- What a key in use is.
 use Rattle.std.specs.Prelude.{ℕ, ◌≡◌, true, List, Contains}
 use Rattle.api_slice.specs.declared.types.ResourceSlice.{ResourceSlice}
 use Rattle.pool_view.specs.declared.inventory.Inventory.{Inventory}
@@ -6,7 +6,7 @@ use Rattle.pool_view.specs.declared.order.SlicePlace.{SlicePlace}
 use Rattle.pool_view.specs.declared.stored.Stored.{Stored}
 use Rattle.pool_view.specs.Pools.{is_used, place_of}
 
--- it is the place of a slice that is there, which has the highest generation of its pool, and whose
+-- it is the key of a slice of the inventory, which has the highest generation of its pool, and whose
 -- pool is usable
 pub record IsPlaceInUse (i : Inventory) (p : SlicePlace) : Type 0 where
   pub name : List ℕ

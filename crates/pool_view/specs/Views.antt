@@ -1,4 +1,4 @@
--- A node's view of the pools, and where a device stands in it.
+-- A node's view of the pools, and the index of a device in it.
 use Rattle.std.specs.Prelude.{ℕ, ◌+◌, List, [], ◌∷◌, Bool, Option, None, Some, is_some, if◌then◌else◌}
 use Rattle.std.specs.BTreeMap.{insert_entry, is_at}
 use Rattle.std.specs.Map.{lookup}

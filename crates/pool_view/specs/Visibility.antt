@@ -27,13 +27,13 @@ abbrev pub field_is_on : SliceNodes → Node → Bool
 field_is_on (slice.Nodes nodes) node = are_on nodes node
 field_is_on slice.PerDevice node = false
 
--- a device is visible where the slice's field says so, or the device's own with
+-- a device is visible if the slice's field covers the node, or the device's own does with
 -- perDeviceNodeSelection
 abbrev pub sees_device : SliceNodes → Node → Device → Bool
 sees_device (slice.Nodes nodes) node d = are_on nodes node
 sees_device slice.PerDevice node d = own_are_on d.nodes node
 
--- a slice is visible where one of its devices is, or where its own field says so
+-- a slice is visible if one of its devices is, or if its own field covers the node
 abbrev pub sees_slice : Node → ResourceSlice → Bool
 sees_slice node x = field_is_on x.nodes node || list_any (sees_device x.nodes node) x.devices
 

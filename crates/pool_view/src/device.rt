@@ -43,7 +43,7 @@ impl<'a> DeviceRef<'a> {
         self.device
     }
 
-    /// Its id: the driver, the pool and the name of the device. `AllocError` comes only where memory
+    /// Its id: the driver, the pool and the name of the device. `AllocError` is returned only if memory
     /// runs out.
     pub fn id(&self, alloc: Global) -> Result<DeviceId, AllocError>
         ensures { IfOk result (λ id. id ≡ id_in self.now) }

@@ -29,7 +29,7 @@ pub struct Inventory {
     slices: Slices,
     /// How many devices all slices have.
     devices: usize,
-    /// None where the slices aren't sorted, or have changed since they were.
+    /// None if the slices aren't sorted, or have changed since they were.
     sorted: Option<SortedSlices>,
 }
 
@@ -72,14 +72,14 @@ impl Inventory {
         &self.slices
     }
 
-    /// States that all slices have at most 65,536 devices. Takes no memory.
+    /// States that all slices have at most 65,536 devices. Allocates nothing.
     pub fn keeps_limit(&self)
         ensures { device_count self.now.slices ≤ devices_most }
     {
         let _devices = self.devices;
     }
 
-    /// States that each slice stands at its own name. Takes no memory.
+    /// States that each slice is at its own name. Allocates nothing.
     pub fn keeps_names(&self)
         ensures { AtOwnNames self.now.slices }
     {
@@ -87,15 +87,15 @@ impl Inventory {
     }
 
     /// States that the names of the slices strictly increase from each to the next, so that no name
-    /// stands twice. Takes no memory.
+    /// appears twice. Allocates nothing.
     pub fn keeps_order(&self)
         ensures { IsStrictlySortedBy text_cmp (keys_of self.now.slices) }
     {
         self.slices.in_order();
     }
 
-    /// Whether all slices have at most 65,536 devices with this slice in the stead of the one of its
-    /// name. Takes no memory, and doesn't count.
+    /// Whether all slices have at most 65,536 devices with this slice in place of the one of its
+    /// name. Allocates nothing, and uses the kept count.
     #[tactic(auto, using(crate::proofs::Counts::count_without))]
     pub fn has_room_for(&self, slice: &ResourceSlice) -> bool
         ensures { result ≡ has_room_for self.now.slices slice.now }
@@ -104,8 +104,8 @@ impl Inventory {
         self.devices - replaced + slice.devices.as_slice().len() <= MAX_DEVICES_TOTAL
     }
 
-    /// Puts a node at its name, by the entry at this place: it is updated and keeps its uid where it is
-    /// there, and else it is created. `AllocError` comes only if memory runs out, and then nothing
+    /// Puts a node at its name, by the entry at this index: it is updated and keeps its uid if it
+    /// exists, and is created otherwise. `AllocError` is returned only if memory runs out, and then nothing
     /// changed.
     pub fn put_node(
         &mut self,
@@ -121,8 +121,8 @@ impl Inventory {
         Ok(())
     }
 
-    /// Puts a slice that there is room for at its name, by the entry at this place: it is updated and
-    /// keeps its uid where it is there, and else it is created. `AllocError` comes only if memory
+    /// Puts a slice that there is room for at its name, by the entry at this index: it is updated and
+    /// keeps its uid if it exists, and is created otherwise. `AllocError` is returned only if memory
     /// runs out, and then nothing changed.
     #[tactic(auto, using(crate::proofs::Named::named_with))]
     pub fn put_slice(
@@ -144,14 +144,14 @@ impl Inventory {
         Ok(())
     }
 
-    /// Takes the node of a name away, if there is one. Takes no memory.
+    /// Removes the node of a name, if there is one. Allocates nothing.
     pub fn remove_node(&mut self, name: &Text)
         ensures { self.new ≡ without_node name.now self.old }
     {
         self.nodes.remove(name);
     }
 
-    /// Takes the slice of a name away, if there is one. Takes no memory.
+    /// Removes the slice of a name, if there is one. Allocates nothing.
     #[tactic(auto, using(crate::proofs::Named::named_without))]
     pub fn remove_slice(&mut self, name: &Text)
         ensures { self.new ≡ without_slice name.now self.old }
@@ -161,7 +161,7 @@ impl Inventory {
         self.sorted = None;
     }
 
-    /// Whether the slices were sorted since they changed. Takes no memory.
+    /// Whether the slices were sorted since they changed. Allocates nothing.
     pub fn is_sorted(&self) -> bool {
         self.sorted.is_some()
     }
@@ -173,7 +173,7 @@ impl Inventory {
         self.sorted.as_ref()
     }
 
-    /// Sorts the slices, so that searches needn't, until they change. The inventory stays the same.
+    /// Sorts the slices, so that searches don't have to, until they change. The inventory stays the same.
     /// `AllocError` only if memory runs out.
     pub fn sort(&mut self, alloc: Global) -> Result<(), AllocError>
         ensures { self.new ≡ self.old }
@@ -197,7 +197,7 @@ impl Duplicate for Inventory {
     }
 }
 
-/// How many devices the slice of a name has, and 0 where there is none.
+/// How many devices the slice of a name has, or 0 if there is none.
 fn devices_of(slices: &Slices, name: &Text) -> usize
     ensures { result ≡ devices_by (at_name slices.now name.now) }
 {

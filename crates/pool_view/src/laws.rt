@@ -13,17 +13,17 @@ ghost use Rattle.pool_view.specs.Pools.{Offered, id_in, id_of, is_used, place_cm
 ghost use Rattle.pool_view.specs.Usable.{node_devices, usable_slices};
 ghost use Rattle.pool_view.specs.Used.{IsPlaceInUse};
 
-/// The places in use are exactly those of the slices that have the highest generation of their pool,
-/// where the pool is usable, in strictly increasing order: by driver, then by pool, then by slice.
+/// The keys in use are exactly those of the slices that have the highest generation of their pool,
+/// if that pool is usable, in strictly increasing order: by driver, then by pool, then by slice.
 pub fn places_are_used()
     ensures every { (i : Inventory) (name : List ℕ) (x : Stored ResourceSlice) → Contains i.slices (name, x) → is_used i.slices x.object ≡ true → Contains (used_places i) (place_of x.object) }
     ensures only { (i : Inventory) (p : SlicePlace) → Contains (used_places i) p → IsPlaceInUse i p }
     ensures in_order { (i : Inventory) → IsStrictlySortedBy place_cmp (used_places i) }
 {}
 
-/// No two devices that a node sees have one id, so a device's id tells its position. Each has its
-/// slice among the slices of usable pools, and stands among the devices of that slice. Slices of one
-/// name are one slice, where each slice of the inventory stands at its own name
+/// No two devices that a node sees have one id, so a device's id determines its position. Each has its
+/// slice among the slices of usable pools, and is among the devices of that slice. Slices of one
+/// name are one slice, if each slice of the inventory is at its own name
 /// (`Inventory::keeps_names`) and the names strictly increase (`Inventory::keeps_order`).
 pub fn devices_of_a_view_differ()
     ensures ids { (i : Inventory) (node : List ℕ) (n m : ℕ) (o p : Offered) → slice_get (node_devices i node) n ≡ Some o → slice_get (node_devices i node) m ≡ Some p → id_in o ≡ id_in p → n ≡ m }
@@ -33,8 +33,8 @@ pub fn devices_of_a_view_differ()
 {}
 
 /// The slices of usable pools strictly increase by driver, then by pool, then by their names, so none
-/// comes twice. Each is the one that the inventory has at its name, so two of one name are one
-/// slice. This holds where each slice of the inventory stands at its own name
+/// appears twice. Each is the one that the inventory has at its name, so two of one name are one
+/// slice. This holds if each slice of the inventory is at its own name
 /// (`Inventory::keeps_names`) and the names strictly increase (`Inventory::keeps_order`). Always, no
 /// two of their devices have one id, whatever nodes see them: by slices and devices, and by the
 /// positions in the list of all these devices.

@@ -1,4 +1,4 @@
-//! The nodes and slices of a cluster, and which slices may be used.
+//! The nodes and slices of a cluster, and which slices are usable.
 #![tactic(auto)]
 
 mod device;

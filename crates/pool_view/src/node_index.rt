@@ -14,7 +14,7 @@ use api_slice::ResourceSlice;
 use dra_values::{Seq, Table};
 use std::alloc::{AllocError, Global};
 
-/// A slice with its place among those of an index.
+/// A slice with its position among those of an index.
 #[derive(Drop)]
 pub struct PlacedSlice<'a> {
     pub place: usize,
@@ -22,7 +22,7 @@ pub struct PlacedSlice<'a> {
 }
 
 /// Slices by the node that they name (`nodeName`), and those that name none, each list in the order of
-/// the places.
+/// the positions.
 #[derive(Drop)]
 pub struct NodeIndex<'a> {
     pub named: Table<NameRef<'a>, Seq<PlacedSlice<'a>>>,
@@ -30,7 +30,7 @@ pub struct NodeIndex<'a> {
 }
 
 impl<'a> NodeIndex<'a> {
-    /// The index of slices, whose places are those in the list. `AllocError` comes only where memory
+    /// The index of slices, whose positions are those in the list. `AllocError` is returned only if memory
     /// runs out.
     #[tactic(auto, unfolding(crate::specs::NodeIndexes::with_slices))]
     pub fn of(alloc: Global, slices: &[SliceRef<'a>]) -> Result<NodeIndex<'a>, AllocError>
@@ -94,7 +94,7 @@ fn push_all<'a>(
     Ok(())
 }
 
-/// How many of the first slices stand before a place.
+/// How many of the first slices are before a position.
 fn count_before(slices: &[PlacedSlice<'_>], place: usize) -> usize
     ensures is { result ≡ count_before place slices.now }
     ensures within { result ≤ length slices.now }
@@ -106,7 +106,7 @@ fn count_before(slices: &[PlacedSlice<'_>], place: usize) -> usize
     count
 }
 
-/// Puts the devices of those slices at the end, from an index on, that stand before a place, and
+/// Puts the devices of those slices at the end, from an index on, that are before a position, and
 /// returns the index of the first that doesn't.
 fn push_before<'a>(
     out: &mut Seq<DeviceRef<'a>>,
@@ -126,7 +126,7 @@ fn push_before<'a>(
     Ok(from + count)
 }
 
-/// Puts the devices of the slices of two lists at the end, in the order of the slices' places.
+/// Puts the devices of the slices of two lists at the end, in the order of the slices' positions.
 fn push_merged<'a>(
     out: &mut Seq<DeviceRef<'a>>,
     node: &Node,
@@ -144,7 +144,7 @@ fn push_merged<'a>(
 }
 
 /// The devices that a node sees of the slices that name it and of those that name no node, in the
-/// order of the slices' places.
+/// order of the slices' positions.
 pub fn devices_of<'a>(
     alloc: Global,
     node: &'a Node,

@@ -4,7 +4,7 @@ ghost use Rattle.pool_view.specs.Nodes as spec;
 use api_slice::{Nodes, SliceNodes};
 use dra_values::Text;
 
-/// The one node on which all devices of a slice are, where the slice names one.
+/// The one node on which all devices of a slice are, if the slice names one.
 pub fn named_node(nodes: &SliceNodes) -> Option<&Text>
     ensures { option_copied result ≡ spec.named_node nodes.now }
 {

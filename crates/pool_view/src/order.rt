@@ -1,6 +1,6 @@
 use dra_values::Text;
 
-/// Where a slice stands among others: by driver, then by pool, then by its own name.
+/// The sort key of a slice among others: by driver, then by pool, then by its own name.
 #[derive(Debug, PartialEq, Eq, PartialOrd, Ord, Drop)]
 pub struct SlicePlace {
     pub driver: Text,

@@ -29,7 +29,7 @@ fn highest_generation(slices: &Slices, driver: &Text, pool: &Text) -> u64
     highest
 }
 
-/// How many slices each slice of a pool's generation says that there are.
+/// The slice count in each slice of a pool's generation.
 fn slice_counts(
     alloc: Global,
     slices: &Slices,
@@ -141,8 +141,8 @@ fn place(alloc: Global, slice: &ResourceSlice) -> Result<SlicePlace, AllocError>
     })
 }
 
-/// The places of the slices of usable pools, in order: by driver, then by pool, then by slice.
-/// `AllocError` comes only where memory runs out.
+/// The keys of the slices of usable pools, in order: by driver, then by pool, then by slice.
+/// `AllocError` is returned only if memory runs out.
 #[tactic(auto, unfolding(crate::specs::Pools::used_places))]
 pub fn places_in_use(
     alloc: Global,

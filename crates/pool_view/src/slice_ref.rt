@@ -34,7 +34,7 @@ impl<'a> SliceRef<'a> {
         self.slice.value()
     }
 
-    /// One more owner of the slice. Takes no memory; `AllocError` only if the count of owners is full.
+    /// One more owner of the slice. Allocates nothing; `AllocError` only if the count of owners is full.
     pub fn share(&self) -> Result<Shared<ResourceSlice>, AllocError>
         ensures { IfOk result (λ slice. slice ≡ self.now) }
     {

@@ -15,7 +15,7 @@ use dra_values::{Seq, Shared, Table};
 use std::alloc::{AllocError, Global};
 use std::collections::BTreeSet;
 
-/// The highest generation among slices, or 0 where there are none.
+/// The highest generation among slices, or 0 if there are none.
 fn highest(slices: &[SliceRef<'_>]) -> u64
     ensures { result ≡ highest slices.now }
 {
@@ -57,7 +57,7 @@ fn newest<'a>(
     }
 }
 
-/// Whether there are as many slices as each says.
+/// Whether the number of slices equals the count in each.
 fn are_complete(slices: &[SliceRef<'_>]) -> bool
     ensures { result ≡ is_complete (counts_of slices.now) }
 {
@@ -90,7 +90,7 @@ fn names_of<'a>(alloc: Global, slices: &[SliceRef<'a>]) -> Result<Vec<NameRef<'a
     Ok(names)
 }
 
-/// Whether a name comes twice.
+/// Whether a name appears twice.
 #[tactic(auto, using(crate::proofs::Twice::clashes_at_first))]
 fn has_twice(alloc: Global, names: Vec<NameRef<'_>>) -> Result<bool, AllocError>
     ensures { IfOk result (λ twice. twice ≡ has_twice names.entry.items) }
@@ -228,9 +228,9 @@ pub fn sorted_slices(alloc: Global, inventory: &Inventory) -> Result<SortedSlice
 }
 
 /// The slices of the usable pools, those of each pool's highest generation, over all nodes: in the
-/// order of driver, pool and slice. A pool is usable where it has as many slices of its highest
-/// generation as each of them says (`resourceSliceCount`), and no device name comes twice in them.
-/// `AllocError` comes only where memory runs out.
+/// order of driver, pool and slice. A pool is usable if it has as many slices of its highest
+/// generation as each of them says (`resourceSliceCount`), and no device name appears twice in them.
+/// `AllocError` is returned only if memory runs out.
 pub fn usable(alloc: Global, inventory: &Inventory) -> Result<Vec<&ResourceSlice>, AllocError>
     ensures { IfOk result (λ slices. map (λ s. s.now) slices.items ≡ usable_slices inventory.now) }
 {

@@ -12,14 +12,14 @@ use std::alloc::{AllocError, Global};
 #[derive(Drop)]
 pub struct Stored<T> {
     pub object: T,
-    /// The place of the entry that created it.
+    /// The index of the entry that created it.
     pub uid: u64,
-    /// The place of the entry that changed it last.
+    /// The index of the entry that changed it last, its revision.
     pub version: u64,
 }
 
 impl<T: Drop> Stored<T> {
-    /// An object that the entry at this place creates.
+    /// An object that the entry at this index creates.
     pub fn created(place: u64, object: T) -> Stored<T>
         ensures { result ≡ created place object }
     {
@@ -30,7 +30,7 @@ impl<T: Drop> Stored<T> {
         }
     }
 
-    /// Puts an object in the stead of this one, by the entry at this place. The uid stays.
+    /// Replaces this object, by the entry at this index. The uid is unchanged.
     pub fn update(&mut self, place: u64, object: T)
         ensures { self.new ≡ updated place object self.old }
     {
@@ -49,8 +49,8 @@ impl<T: Duplicate> Duplicate for Stored<T> {
     }
 }
 
-/// Puts an object at its name, by the entry at this place: it is updated and keeps its uid where it is
-/// there, and else it is created. `AllocError` comes only if memory runs out, and then nothing changed.
+/// Puts an object at its name, by the entry at this index: it is updated and keeps its uid if it exists,
+/// and is created otherwise. `AllocError` is returned only if memory runs out, and then nothing changed.
 pub fn put_named<T: Drop>(
     table: &mut Table<Text, Stored<T>>,
     place: u64,
@@ -68,7 +68,7 @@ pub fn put_named<T: Drop>(
     }
 }
 
-/// Updates the object of a name, where it is there.
+/// Updates the object of a name, if it exists.
 fn update_named<T: Drop>(table: &mut Table<Text, Stored<T>>, place: u64, name: &Text, object: T)
     ensures { table.new ≡ option_map_or (λ old. set_value (is_at (text_cmp name.now)) table.old (updated place object old)) (at_name table.old name.now) table.old }
 {

@@ -34,7 +34,7 @@ impl<'a> Model for Pools<'a> {
     ghost invariant = { λ p. (p.usable ≡ index_of (usable_slices p.inventory.now)) × (p.broken ≡ index_of (broken_slices p.inventory.now)) };
 }
 
-/// What a node sees of the pools of an inventory: the devices that may be given to a pod there, with
+/// What a node sees of the pools of an inventory: the devices that may be allocated to a pod there, with
 /// an index by their ids. The devices are borrowed from the inventory.
 #[derive(Drop)]
 pub struct PoolView<'a> {
@@ -57,7 +57,7 @@ impl<'a> Model for PoolView<'a> {
 
 impl<'a> Pools<'a> {
     /// Sorts the slices of an inventory by their pools and by the node that they name: one pass over
-    /// all of them. `AllocError` comes only where memory runs out.
+    /// all of them. `AllocError` is returned only if memory runs out.
     pub fn of(alloc: Global, inventory: &'a Inventory) -> Result<Pools<'a>, AllocError>
         ensures { IfOk result (λ pools. pools ≡ inventory.now) }
     {
@@ -72,8 +72,8 @@ impl<'a> Pools<'a> {
     }
 
     /// The devices of usable pools that a node of the inventory sees, in the order of driver, pool,
-    /// slice and place in the slice. Goes over the slices that name the node and those that name none.
-    /// `AllocError` comes only where memory runs out.
+    /// slice and index in the slice. Goes over the slices that name the node and those that name none.
+    /// `AllocError` is returned only if memory runs out.
     #[tactic(auto, using(crate::proofs::OfNode::devices_by_index), unfolding(crate::specs::Usable::node_devices))]
     pub fn devices(&self, alloc: Global, node: &Text) -> Result<Vec<DeviceRef<'a>>, AllocError>
         requires { IsSome (at_name self.now.nodes node.now) }
@@ -86,8 +86,8 @@ impl<'a> Pools<'a> {
     }
 
     /// Whether an incomplete or invalid pool has a slice of its highest generation that a node of the
-    /// inventory sees; false of a node that isn't there. Goes over the slices that name the node and
-    /// those that name none, and takes no memory.
+    /// inventory sees; false for a node that doesn't exist. Goes over the slices that name the node and
+    /// those that name none, and allocates nothing.
     #[tactic(auto, using(crate::proofs::OfNode::any_by_index), unfolding(crate::specs::Usable::has_broken))]
     pub fn has_broken(&self, node: &Text) -> bool
         ensures { result ≡ has_broken self.now node.now }
@@ -98,7 +98,7 @@ impl<'a> Pools<'a> {
         }
     }
 
-    /// What a node of the inventory sees. `AllocError` comes only where memory runs out.
+    /// What a node of the inventory sees. `AllocError` is returned only if memory runs out.
     pub fn view(&self, alloc: Global, node: &Text) -> Result<PoolView<'a>, AllocError>
         requires { IsSome (at_name self.now.nodes node.now) }
         ensures inventory { IfOk result (λ view. view.inventory ≡ self.now) }
@@ -117,7 +117,7 @@ impl<'a> Pools<'a> {
 }
 
 impl<'a> PoolView<'a> {
-    /// What a node of the inventory sees. `AllocError` comes only where memory runs out.
+    /// What a node of the inventory sees. `AllocError` is returned only if memory runs out.
     pub fn of(
         alloc: Global,
         inventory: &'a Inventory,
@@ -131,7 +131,7 @@ impl<'a> PoolView<'a> {
         Pools::of(alloc, inventory)?.view(alloc, node)
     }
 
-    /// The devices of usable pools that the node sees, in the order of driver, pool, slice and place
+    /// The devices of usable pools that the node sees, in the order of driver, pool, slice and index
     /// in the slice. A device's position is its index here.
     pub fn devices(&self) -> &[DeviceRef<'a>]
         ensures { result.now ≡ self.now.devices }
@@ -139,8 +139,8 @@ impl<'a> PoolView<'a> {
         self.devices.as_slice()
     }
 
-    /// The position of the device of that id, or `None` where the view has no such device. Takes no
-    /// memory.
+    /// The position of the device of that id, or `None` if the view has no such device. Allocates
+    /// nothing.
     #[tactic(auto, using(crate::proofs::Indexed::position_is))]
     pub fn position(&self, id: &DeviceId) -> Option<usize>
         ensures { result ≡ position_of id.now self.now.devices }

@@ -34,8 +34,8 @@ fn field_is_on(nodes: &SliceNodes, node: &Node) -> bool
 }
 
 /// Whether the node sees a device of a slice that has these nodes: by the slice's `nodeName`,
-/// `nodeSelector` or `allNodes`, or by the device's own where the slice has
-/// `perDeviceNodeSelection` (API reference of `resource.k8s.io/v1`). Takes no memory.
+/// `nodeSelector` or `allNodes`, or by the device's own if the slice has
+/// `perDeviceNodeSelection` (API reference of `resource.k8s.io/v1`). Allocates nothing.
 pub fn sees_device(nodes: &SliceNodes, node: &Node, device: &Device) -> bool
     ensures { result ≡ sees_device nodes.now node.now device.now }
 {
@@ -56,7 +56,7 @@ fn sees_one(slice: &ResourceSlice, node: &Node) -> bool
     false
 }
 
-/// Whether the node sees a slice: one of its devices, or by the slice's own field. Takes no memory.
+/// Whether the node sees a slice: one of its devices, or by the slice's own field. Allocates nothing.
 pub fn sees_slice(node: &Node, slice: &ResourceSlice) -> bool
     ensures { result ≡ sees_slice node.now slice.now }
 {

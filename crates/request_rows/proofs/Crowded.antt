@@ -67,7 +67,7 @@ due_more w a l i =
 abbrev extra : ℕ → ℕ → ℕ → ℕ
 extra claim total i = cond (eqb i claim) total 0
 
--- a claim has more than 32 slots, `total` slots of the first claim standing before
+-- a claim has more than 32 slots, after `total` slots of the first claim
 abbrev pub crowded_by : SearchInput → (claim total : ℕ) → List Asked → Bool
 crowded_by w claim total [] = false
 crowded_by w claim total (a ∷ l) =
@@ -180,7 +180,7 @@ few_other w claim total high a l i few h rest low e false f =
     let q = pick (eqb i claim) total 0 (eqb_above i claim o) in
     omega (arith, g, k, q)
 
--- where none is crowded, each claim has at most 32
+-- if none is crowded, each claim has at most 32
 few_each : (w : SearchInput) (claim total high : ℕ) (l : List Asked) → crowded_by w claim total l ≡ false → AreInOrder claim high l → total ≤ 32
     → (i : ℕ) → claim ≤ i → in_all w claim total l i ≤ 32
 few_each w claim total high [] e h few i low = let m = pick_most (eqb i claim) total in omega (arith, m, few)
@@ -224,7 +224,7 @@ over_more w claim total high a l h k =
     let r : IsOver w claim total high (a ∷ l) = record { at = k.at; low = n; high = k.high; over = m } in r)
     (same_or_not a.label.claim k.at)
 
--- where one is crowded, there is such a claim
+-- if one is crowded, there is such a claim
 over_one : (w : SearchInput) (claim total high : ℕ) (l : List Asked) → crowded_by w claim total l ≡ true → AreInOrder claim high l → IsOver w claim total high l
 over_one w claim total high [] e h = absurd (cc)
 over_one w claim total high (a ∷ l) e h =

@@ -39,7 +39,7 @@ plain_one d s e =
     let h = nor (has_any s.own) (has_any (class_selectors s.class)) e in
     plain_class d s.class s.own (none_any s.own h.0) (none_any (class_selectors s.class) h.1)
 
--- where there is no selector, nothing has to be looked at
+-- if there is no selector, nothing is evaluated
 pub plain : (d : Device) (ss : List SelectionFields) → false ≡ list_any has_selectors ss → map plain_match ss ≡ map (says d) ss
 plain d [] e = refl
 plain d (s ∷ ss) e =

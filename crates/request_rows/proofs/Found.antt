@@ -1,4 +1,4 @@
--- The place of a fault.
+-- The location of an evaluation error.
 use Rattle.std.proofs.Common.{ℕ, ◌+◌, ◌≡◌, List, [], ◌∷◌, ◌++◌, cond, Option, None, Some, map, length, refl, ap, ◌∙◌}
 use Rattle.std.specs.List.{slice_get}
 use Rattle.std.specs.Prelude.{option_map}
@@ -26,7 +26,7 @@ place_match w a o match.Yes = refl
 place_match w a o match.No = refl
 place_match w a o (match.Fault n why) = refl
 
--- a device of which the row says so decides, or those behind it
+-- a device for which the row evaluates to Fault decides, or those after it
 next_place : (w : SearchInput) (a : Asked) (columns : List (List Match)) (row i : ℕ) (o : Offered) (m : Match) (later : Option ℕ) (rest : Option faults.FaultPlace)
     → slice_get w.devices i ≡ Some o → cell columns row i ≡ m
     → option_map fault_seen (place_at w.devices columns row (row_for w a) later) ≡ rest

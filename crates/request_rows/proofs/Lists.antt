@@ -1,4 +1,4 @@
--- Lists, place by place.
+-- Lists, index by index.
 use Rattle.std.proofs.Common.{ℕ, zero, suc, ◌+◌, ◌≤◌, ◌≡◌, List, [], ◌∷◌, ◌++◌, Some, map, drop, length, refl, sym, ap, ◌∙◌, arith, append-nil, append_assoc, length-append}
 use Rattle.std.specs.List.{slice_get}
 
@@ -23,19 +23,19 @@ pub map_length : {X Y : Type 0} (f : X → Y) (xs : List X) → length (map f xs
 map_length f [] = refl
 map_length f (x ∷ xs) = let e = map_length f xs in omega (arith, e)
 
--- the element behind a front
+-- the element after a prefix
 pub get_seam : {X : Type 0} (before : List X) (x : X) (rest : List X) → slice_get (before ++ x ∷ rest) (length before) ≡ Some x
 get_seam [] x rest = refl
 get_seam (y ∷ before) x rest = get_seam before x rest
 
--- one element more in front
+-- a prefix longer by one element
 pub moved : {X : Type 0} (whole before : List X) (x : X) (rest : List X) → whole ≡ before ++ x ∷ rest → whole ≡ (before ++ x ∷ []) ++ rest
 moved whole before x rest e = e ∙ sym (append_assoc before (x ∷ []) rest)
 
 pub longer : {X : Type 0} (before : List X) (x : X) (i : ℕ) → i ≡ length before → i + 1 ≡ length (before ++ x ∷ [])
 longer before x i e = let f = length-append before (x ∷ []) in omega (arith, e, f)
 
--- the element at a place of the rest
+-- the element at an index of the rest
 pub get_past : {X : Type 0} (before rest : List X) (k : ℕ) (x : X) → slice_get rest k ≡ Some x → slice_get (before ++ rest) (length before + k) ≡ Some x
 get_past [] rest k x e = let f : 0 + k ≡ k = omega arith in ap (slice_get rest) f ∙ e
 get_past {X} (y ∷ before) rest k x e =

@@ -1,4 +1,4 @@
--- What rows say of the input that they were made of.
+-- How rows relate to the input that they were made of.
 use Rattle.std.proofs.Common.{ℕ, ◌<◌, ◌≡◌, List, [], Bool, cond, Option, map, length, refl, sym, ap, ◌∙◌, subst, arith}
 use Rattle.std.specs.List.{list_any}
 use Rattle.std.specs.Prelude.{option_map}

@@ -34,7 +34,7 @@ row_there w asks r a e = slice_get-map (row_for w) asks r ∙ ap (option_map (ro
 or_same : (a b c d : Bool) → a ≡ b → c ≡ d → (a || c) ≡ (b || d)
 or_same a b c d e f = ap (λ (t : Bool). t || c) e ∙ ap (λ (t : Bool). b || t) f
 
--- ---- faults
+-- ---- evaluation errors
 
 some_cond : (b : Bool) (i : ℕ) (o : Option ℕ) → is_some (cond b (Some i) o) ≡ (b || is_some o)
 some_cond true i o = refl

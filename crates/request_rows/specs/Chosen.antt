@@ -1,4 +1,4 @@
--- What rows ask for that a choice picks.
+-- What the rows that a choice picks ask for.
 use Rattle.std.specs.Prelude.{ℕ, zero, suc, ◌+◌, ◌==◌, List, [], ◌∷◌, Bool, false, ◌||◌, Option, None, Some, is_some, map, length, slice_get, nat_lt, if◌then◌else◌}
 use Rattle.std.specs.List.{flat_map, list_any}
 use Rattle.api_claim.specs.declared.types.AllocationMode.{AllocationMode}
@@ -55,11 +55,11 @@ due_of (Some r) = (r.claim, count_by r.matching r.mode)
 abbrev pub due_at : List Row → ℕ → ℕ × ℕ
 due_at rows r = due_of (slice_get rows r)
 
--- how many slots the claim has with these, where `total` of it stand before
+-- how many slots the claim has with these, after `total` of it
 abbrev pub due_with : ℕ → ℕ → ℕ × ℕ → ℕ
 due_with claim total due = (if due.0 == claim then total else 0) + due.1
 
--- A claim has more than 32 slots: of rows that stand together, claim by claim, `total` slots of the
+-- A claim has more than 32 slots: of rows grouped by claim, with `total` slots of the
 -- first claim before them.
 abbrev pub is_crowded : List Row → (claim total : ℕ) → List ℕ → Bool
 is_crowded rows claim total [] = false

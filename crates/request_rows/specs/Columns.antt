@@ -1,4 +1,4 @@
--- What all ways say of a device.
+-- What all ways evaluate to for a device.
 use Rattle.std.specs.Prelude.{ℕ, ◌+◌, List, [], ◌∷◌, Bool, true, false, ◌||◌, Option, None, Some, map, slice_get, if◌then◌else◌}
 use Rattle.api_cluster.specs.declared.types.DeviceClass.{DeviceClass}
 use Rattle.cel_value.specs.Device.{Device}
@@ -10,7 +10,7 @@ use Rattle.pool_view.specs.Pools.{Offered}
 use Rattle.request_rules.specs.Asked.{Asked, is_fault, is_yes}
 use Rattle.request_rows.specs.Match.{ClassTable, match_class, seen}
 
--- a class, where it is there, and selectors of a way's own
+-- a class, if it exists, and a way's own selectors
 pub record SelectionFields : Type 0 where
   pub class : Option (Stored DeviceClass)
   pub own : List (List ℕ)
@@ -21,7 +21,7 @@ parts_in classes a = record { class = at_name classes a.ask.class; own = a.ask.s
 abbrev pub says : Device → SelectionFields → Match
 says device s = match_class s.class s.own device
 
--- what each way says of each device
+-- what each way evaluates to for each device
 abbrev pub columns_for : ClassTable → List Asked → List Offered → List (List Match)
 columns_for classes asks devices = map (λ o. map (says (seen o)) (map (parts_in classes) asks)) devices
 
@@ -52,12 +52,12 @@ match_got (Some m) = m
 abbrev pub match_in : List Match → ℕ → Match
 match_in column row = match_got (slice_get column row)
 
--- the positions, from the first on, at which the row says Yes
+-- the positions, from the first on, at which the row evaluates to Yes
 abbrev pub yes_from : ℕ → ℕ → List (List Match) → List ℕ
 yes_from first row [] = []
 yes_from first row (c ∷ cs) = if is_yes (match_in c row) then first ∷ yes_from (first + 1) row cs else yes_from (first + 1) row cs
 
--- the first position at which it says Fault
+-- the first position at which it evaluates to Fault
 abbrev pub fault_from : ℕ → ℕ → List (List Match) → Option ℕ
 fault_from first row [] = None
 fault_from first row (c ∷ cs) = if is_fault (match_in c row) then Some first else fault_from (first + 1) row cs
@@ -66,6 +66,6 @@ abbrev pub cell_by : Option (List Match) → ℕ → Match
 cell_by None row = No
 cell_by (Some c) row = match_in c row
 
--- what a row says of the device at a position
+-- what a row evaluates to for the device at a position
 abbrev pub cell : List (List Match) → (row position : ℕ) → Match
 cell columns row position = cell_by (slice_get columns position) row

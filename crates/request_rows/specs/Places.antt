@@ -1,4 +1,4 @@
--- The places of faults, by rows.
+-- The locations of evaluation errors, by rows.
 use Rattle.std.specs.Prelude.{ℕ, List, Option, None, Some, slice_get}
 use Rattle.device_match.specs.declared.matching.Match.{Match}
 use Rattle.device_match.specs.declared.matching.Match.TheVariants.{Yes, No, Fault}
@@ -24,6 +24,6 @@ abbrev pub place_of_row : List Offered → List (List Match) → ℕ → Option 
 place_of_row devices columns at None = None
 place_of_row devices columns at (Some row) = place_at devices columns at row row.fault
 
--- the place of the first fault of a row
+-- the location of the first evaluation error of a row
 abbrev pub place_in : List Offered → List (List Match) → List Row → ℕ → Option FaultPlace
 place_in devices columns rows at = place_of_row devices columns at (slice_get rows at)

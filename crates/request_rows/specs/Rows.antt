@@ -1,4 +1,4 @@
--- Rows and what they say.
+-- Rows and what they evaluate to.
 use Rattle.std.specs.Prelude.{ℕ, ◌+◌, ◌≡◌, List, [], ◌∷◌, Option, find, map, length}
 use Rattle.walk.specs.Lists.{numbers}
 use Rattle.device_match.specs.declared.matching.Match.{Match}
@@ -29,7 +29,7 @@ rows_from columns row (a ∷ rest) = row_by columns row a ∷ rows_from columns 
 
 -- ---- by the input
 
--- the first of these positions at which a request gives a fault
+-- the first of these positions at which a request has an evaluation error
 abbrev pub first_fault : SearchInput → Asked → List ℕ → Option ℕ
 first_fault w a xs = find (λ x. is_fault (match_at w a.ask x)) xs
 
@@ -44,7 +44,7 @@ row_for w a = record {
   fault = first_fault w a (numbers 0 (length w.devices));
 }
 
--- what was worked out is the input's
+-- what was computed is the input's
 pub record AreRows (w : SearchInput) (counts : List ℕ) (requests : List RequestRows) (rows : List Row) (columns : List (List Match)) : Type 0 where
   pub options_are : counts ≡ options w
   pub requests_are : requests ≡ requests_from 0 (wishes w)

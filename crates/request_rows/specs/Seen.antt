@@ -1,4 +1,4 @@
--- What slots, shapes and faults say of an input.
+-- Slots, shapes and evaluation errors as those of an input.
 use Rattle.walk.specs.Walk as walks
 use Rattle.request_rules.specs.Input.{SearchInput}
 use Rattle.request_rules.specs.Asked as rules

@@ -1,4 +1,4 @@
--- What is wanted of a node, as the input of its search.
+-- What is asked of a node, as the input of its search.
 use Rattle.std.specs.Prelude.{ℕ, List, [], Bool, Option, None}
 use Rattle.object_fields.specs.declared.key.DeviceId.{DeviceId}
 use Rattle.object_fields.specs.declared.key.Key.{Key}
@@ -8,13 +8,13 @@ use Rattle.counter_sets.specs.Draws.{CounterId}
 use Rattle.request_rules.specs.Input.{SearchInput}
 use Rattle.request_rows.specs.Match.{ClassTable, matched_by}
 
--- claims, each under its key, and the classes that there are
+-- claims, each under its key, and the classes that exist
 pub record WantsFields : Type 0 where
   pub claims : List ResourceClaim
   pub classes : ClassTable
 
--- The input of a search that wants this of these devices, where nothing is held and no counter is
--- there. What a choice asks for depends on neither.
+-- The input of a search that asks this of these devices, with nothing held and no
+-- counters. What a choice asks for depends on neither.
 abbrev pub asking : WantsFields → List Offered → Bool → SearchInput
 asking wants devices broken = record {
   devices = devices;
@@ -36,6 +36,6 @@ pub record RowsFields : Type 0 where
 abbrev pub input_of : RowsFields → SearchInput
 input_of r = asking r.wants r.devices r.broken
 
--- the same where these devices are held, and these counters are there, of which so much is drawn
+-- the same with these devices held, these counters, and these amounts drawn from them
 abbrev pub with_held : SearchInput → List (DeviceId × Key) → (CounterId → Option ℕ) → (CounterId → ℕ) → SearchInput
 with_held w held value drawn = record w { held = held; value = value; drawn = drawn }

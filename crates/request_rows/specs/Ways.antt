@@ -24,7 +24,7 @@ asked_exactly q r = record {
   ask = r.ask;
 }
 
--- `exactly`, or each of the subrequests, as it is asked for where it is chosen
+-- `exactly`, or each of the subrequests, as it is asked for if it is chosen
 abbrev pub ways_by : Wish → RequestKind → List Asked
 ways_by q (Exactly r) = asked_exactly q r ∷ []
 ways_by q (FirstAvailable rs) = map (asked_sub q) rs
@@ -39,7 +39,7 @@ ways_from qs = flat_map ways_in qs
 unfoldable pub all_asked : SearchInput → List Asked
 all_asked w = ways_from (wishes w)
 
--- nothing that is asked for
+-- nothing asked for
 abbrev pub nothing_asked : Asked
 nothing_asked = record {
   label = record { claim = 0; request = []; sub = None; admin = false };

@@ -18,7 +18,7 @@ pub enum Seat {
     Due(usize),
 }
 
-/// A result that is to be filled.
+/// A result to fill.
 #[derive(Clone, Copy, Debug, PartialEq, Eq)]
 pub struct Slot {
     /// The index of the row that it is for.
@@ -33,7 +33,7 @@ pub enum Shape {
     Faulty,
     /// A chosen request for all devices fails as a whole, or a claim would have more than 32 results.
     Hopeless,
-    /// So many slots are to be filled.
+    /// This many slots need to be filled.
     Open(usize),
 }
 
@@ -41,7 +41,7 @@ pub enum Shape {
 #[derive(Drop)]
 pub struct Choice {
     pub shape: Shape,
-    /// None where the shape isn't Open.
+    /// Empty if the shape isn't Open.
     pub slots: Vec<Slot>,
 }
 
@@ -52,7 +52,7 @@ fn row_for_choice(request: RequestRows, choice: usize) -> Result<Option<usize>, 
     if request.exact {
         Ok(Some(request.first))
     } else if choice < request.ways {
-        // More than 2^64 rows fit no memory.
+        // Memory can't hold more than 2^64 rows.
         let row = request.first.checked_add(choice).ok_or(AllocError)?;
         Ok(Some(row))
     } else {
@@ -94,7 +94,7 @@ fn faulty_at(rows: &[Row], row: usize) -> bool
     is_faulty(rows.get(row))
 }
 
-/// Whether one of the rows has a fault.
+/// Whether one of the rows has an evaluation error.
 fn any_faulty(rows: &[Row], chosen: &[usize]) -> bool
     ensures { result ≡ list_any (faulty_at rows.now) chosen.now }
 {
@@ -155,7 +155,7 @@ fn due_at(rows: &[Row], row: usize) -> (usize, u64)
     due_of(rows.get(row))
 }
 
-/// Whether a claim has more than 32 slots with those of a row, `total` of `claim` standing before.
+/// Whether a claim has more than 32 slots with those of a row, after `total` slots of `claim`.
 fn is_over(claim: usize, total: u64, due: (usize, u64)) -> bool
     requires { total ≤ 32 }
     ensures { result ≡ nat_lt 32 (due_with claim total due) }
@@ -176,8 +176,8 @@ fn total_with(claim: usize, total: u64, due: (usize, u64)) -> u64
     if due.0 == claim { due.1 + total } else { due.1 }
 }
 
-/// Whether a claim has more slots than it may have results, where the rows of each claim stand
-/// together.
+/// Whether a claim has more slots than it may have results, if the rows of each claim are
+/// adjacent.
 fn is_crowded(rows: &[Row], chosen: &[usize]) -> bool
     ensures { result ≡ is_crowded rows.now 0 0 chosen.now }
 {

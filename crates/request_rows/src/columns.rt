@@ -14,7 +14,7 @@ use ready_objects::ReadyClass;
 use std::alloc::{AllocError, Global};
 use std::marker::Model;
 
-/// The class of a way, where it is there, and the way's own selectors.
+/// The class of a way, if it exists, and the way's own selectors.
 #[derive(Drop)]
 pub struct Selection<'a> {
     pub class: Option<&'a Stored<Shared<ReadyClass>>>,
@@ -63,7 +63,7 @@ fn class_selectors(class: Option<&Stored<Shared<ReadyClass>>>) -> &[DeviceSelect
     }
 }
 
-/// Whether there is a selector to be looked at.
+/// Whether there is a selector to evaluate.
 fn has_selectors(selection: &Selection) -> bool
     ensures { result ≡ has_selectors selection.now }
 {
@@ -81,7 +81,7 @@ fn any_selectors(selections: &[Selection]) -> bool
     false
 }
 
-/// What the selectors say of a device; No where the class isn't there.
+/// What the selectors evaluate to for a device; No if the class doesn't exist.
 fn match_one(alloc: Global, selection: &Selection, device: &DeviceEnv) -> Result<Match, AllocError>
     ensures { IfOk result (λ m. m ≡ says device.now selection.now) }
 {
@@ -105,7 +105,7 @@ fn match_each(
     Ok(matches)
 }
 
-/// What no selectors say: Yes, and No where the class isn't there.
+/// What no selectors evaluate to: Yes, and No if the class doesn't exist.
 fn plain_match(selection: &Selection) -> Match
     ensures { result ≡ plain_match selection.now }
 {
@@ -125,7 +125,7 @@ fn match_plainly(alloc: Global, selections: &[Selection]) -> Result<Seq<Match>, 
     Ok(matches)
 }
 
-/// What each way says of a device, whose attributes are copied only where there is a selector.
+/// What each way evaluates to for a device, whose attributes are copied only if there is a selector.
 #[tactic(auto, using(crate::proofs::Filled::plain))]
 fn column_of(
     alloc: Global,
@@ -146,7 +146,7 @@ fn column_of(
     }
 }
 
-/// What each way says of each device.
+/// What each way evaluates to for each device.
 pub fn columns_of(
     alloc: Global,
     selections: &[Selection],

@@ -15,7 +15,7 @@ use std::alloc::{AllocError, Global};
 #[derive(Drop)]
 pub struct FaultPlace {
     pub claim: Key,
-    /// The name of the results that the request is due.
+    /// The name of the results expected for the request.
     pub request: Text,
     /// The selector's index among those of the class and then of the request, from 0.
     pub selector: usize,
@@ -35,7 +35,7 @@ fn device_id(alloc: Global, device: &DeviceRef) -> Result<DeviceId, AllocError>
     })
 }
 
-/// The place of a fault of a row on a device, where it is one.
+/// The location of an evaluation error of a row on a device, if it is one.
 fn place_of(
     alloc: Global,
     row: &Row,
@@ -105,7 +105,7 @@ fn place_in(
     place_of_row(alloc, devices, columns, row, rows.get(row))
 }
 
-/// The place of the fault of the first of the rows that has one.
+/// The location of the evaluation error of the first of the rows that has one.
 pub fn first_place(
     alloc: Global,
     devices: &[DeviceRef],

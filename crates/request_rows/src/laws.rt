@@ -1,4 +1,4 @@
-//! What held devices and counters have no part in.
+//! What doesn't depend on held devices and counters.
 
 ghost use Rattle.std.specs.Prelude.{◌≡◌, ℕ, List, Option};
 ghost use Rattle.object_fields.specs.declared.key.DeviceId.{DeviceId};

@@ -1,4 +1,4 @@
-//! What the claims of a pod ask of a node, worked out once before its search.
+//! What the claims of a pod ask of a node, computed once before its search.
 #![tactic(auto)]
 
 mod choice;

@@ -26,10 +26,10 @@ use std::marker::Model;
 /// What one way to meet a request asks of the devices of a node.
 #[derive(Drop)]
 pub struct Row {
-    /// The place of its claim.
+    /// The index of its claim.
     pub claim: usize,
     pub key: Key,
-    /// What its results are called: `request`, or `request/subrequest`.
+    /// The name of its results: `request`, or `request/subrequest`.
     pub name: Text,
     /// `adminAccess`.
     pub admin: bool,
@@ -40,7 +40,7 @@ pub struct Row {
     pub fault: Option<usize>,
 }
 
-/// What a match is, where there is one.
+/// The match if there is one, else No.
 fn match_got(found: Option<&Match>) -> Match
     ensures { result ≡ match_got (option_copied found.entry) }
 {
@@ -74,7 +74,7 @@ fn is_fault(found: Match) -> bool
     }
 }
 
-/// What a row says of the device at a position; No where there is none.
+/// What a row evaluates to for the device at a position; No if there is none.
 pub fn cell(columns: &[Seq<Match>], row: usize, position: usize) -> Match
     ensures { result ≡ cell columns.now row position }
 {
@@ -84,7 +84,7 @@ pub fn cell(columns: &[Seq<Match>], row: usize, position: usize) -> Match
     }
 }
 
-/// The positions at which the row says Yes.
+/// The positions at which the row evaluates to Yes.
 fn matching_in(alloc: Global, columns: &[Seq<Match>], row: usize) -> Result<Seq<usize>, AllocError>
     ensures { IfOk result (λ xs. xs ≡ yes_from 0 row columns.now) }
 {
@@ -97,7 +97,7 @@ fn matching_in(alloc: Global, columns: &[Seq<Match>], row: usize) -> Result<Seq<
     Ok(matching)
 }
 
-/// The first position at which the row says Fault.
+/// The first position at which the row evaluates to Fault.
 fn fault_in(columns: &[Seq<Match>], row: usize) -> Option<usize>
     ensures { result ≡ fault_from 0 row columns.now }
 {
@@ -109,7 +109,7 @@ fn fault_in(columns: &[Seq<Match>], row: usize) -> Option<usize>
     None
 }
 
-/// What results are called.
+/// The name of results.
 fn result_name(alloc: Global, request: &Text, sub: Option<&Text>) -> Result<Text, AllocError>
     ensures { IfOk result (λ name. name ≡ name_by request.now (option_copied sub.entry)) }
 {
@@ -163,11 +163,11 @@ fn columns_for(
     columns_of(alloc, &selections, devices)
 }
 
-/// What claims ask of the devices of a node, worked out once: a row for each way to meet each of
+/// What claims ask of the devices of a node, computed once: a row for each way to meet each of
 /// their requests (`exactly`, or a subrequest), in order.
 ///
 /// Contracts see what they were made of, and by `input_of` the input of the node's search, as if no
-/// device were held and no counter there: what a choice asks for depends on neither
+/// device were held and no counter existed: what a choice asks for depends on neither
 /// (`choices_ask_alike`).
 #[derive(Drop)]
 pub struct Rows<'a> {
@@ -177,7 +177,7 @@ pub struct Rows<'a> {
     options: Seq<usize>,
     requests: Seq<RequestRows>,
     rows: Seq<Row>,
-    /// By the devices, what each row says of it.
+    /// For each device, what each row evaluates to.
     columns: Seq<Seq<Match>>,
 }
 
@@ -193,7 +193,7 @@ impl<'a> Model for Rows<'a> {
 }
 
 impl<'a> Rows<'a> {
-    /// What is wanted of these devices, the node's in order; `broken` says that an incomplete or invalid
+    /// What is asked of these devices, the node's in order; `broken` says that an incomplete or invalid
     /// pool is visible to the node. Each selector is tried at most once on each device.
     /// `AllocError` only if memory runs out.
     pub fn of(
@@ -249,7 +249,7 @@ impl<'a> Rows<'a> {
         Ok(begun)
     }
 
-    /// The place of the fault of a choice, if a request that it picks gives one: that of the first such
+    /// Where a choice has an evaluation error, if a request that it picks has one: that of the first such
     /// request, in order, on the first device. `AllocError` only if memory runs out.
     pub fn fault_of(
         &self,
@@ -272,7 +272,7 @@ impl<'a> Rows<'a> {
         self.devices
     }
 
-    /// What a row says of the device at a position; No where there is none.
+    /// What a row evaluates to for the device at a position; No if there is none.
     pub fn matched(&self, row: usize, position: usize) -> Match
         requires { row < length (all_asked (input_of self.now)) }
         ensures { result ≡ match_at (input_of self.now) (asked_at (input_of self.now) row).ask position }

@@ -14,7 +14,7 @@ use std::marker::Model;
 /// A request of a claim.
 #[derive(Drop)]
 pub struct Wish<'a> {
-    /// The place of its claim.
+    /// The index of its claim.
     pub claim: usize,
     pub key: &'a Key,
     pub request: &'a DeviceRequest,
@@ -37,7 +37,7 @@ impl<'a> Model for Wish<'a> {
 /// One way to meet a request: `exactly`, or a subrequest.
 #[derive(Drop)]
 pub struct Way<'a> {
-    /// The place of its claim.
+    /// The index of its claim.
     pub claim: usize,
     pub key: &'a Key,
     pub request: &'a Text,
@@ -70,7 +70,7 @@ pub struct RequestRows {
     pub first: usize,
     /// How many ways there are to meet it.
     pub ways: usize,
-    /// Whether it has `exactly`, and so one way whatever is chosen.
+    /// Whether it has `exactly`, and so one way for every choice.
     pub exact: bool,
 }
 
@@ -224,7 +224,7 @@ pub fn request_rows_of<'a>(
             ways,
             exact: is_exactly(kind),
         })?;
-        // More than 2^64 ways fit no memory.
+        // Memory can't hold more than 2^64 ways.
         first = first.checked_add(ways).ok_or(AllocError)?;
     }
     Ok(requests)

@@ -1,4 +1,4 @@
--- The counters are covered where each device found them so.
+-- The counters are covered if each device found them covered.
 use Rattle.std.proofs.Common.{ℕ, suc, ◌+◌, ◌≡◌, ◌⊎◌, List, [], ◌∷◌, ◌++◌, Bool, true, false, ◌&&◌, cond, Option, Some, None, refl, sym, ap, ◌∙◌, subst, inl, inr, ⊎_elim, arith, append_assoc, append-nil}
 use Rattle.std.specs.List.{list_all, slice_get}
 use Rattle.std.proofs.lemmas.List.Sums.{sum_by-append, sum_by-cons}
@@ -45,7 +45,7 @@ less_by (Some v) t m e = grind (arith, nat_tests, e)
 less : (w : SearchInput) (k : CounterId) (t m : ℕ) → within w k (t + m) ≡ true → within w k t ≡ true
 less w k t m e = less_by (w.value k) t m e
 
--- a counter that was covered stays so, since those on which the new device draws are
+-- a counter that was covered remains covered, since those on which the new device draws are covered
 kept : (w : SearchInput) (l : List Pick) (p : Pick) (d : Draw) → covers w l p ≡ true → within w d.counter (total w d.counter l) ≡ true
     → within w d.counter (total w d.counter (l ++ p ∷ [])) ≡ true
 unfolding covers

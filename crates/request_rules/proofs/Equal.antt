@@ -1,4 +1,4 @@
--- Names, counters and attributes are equal where the tests say so.
+-- Names, counters and attributes are equal if the tests are true.
 use Rattle.std.proofs.Common.{ℕ, ◌≡◌, List, Bool, true, false, ◌&&◌, Option, None, Some, refl, sym, ap, ◌∙◌}
 use Rattle.std.specs.Option.{IsSome}
 use Rattle.std.specs.Cmp.Lexicographic.{same_text}

@@ -1,4 +1,4 @@
--- Where there is a fault, and where there is none.
+-- When there is an evaluation error, and when there is none.
 use Rattle.std.proofs.Common.{◌≡◌, ℕ, zero, suc, List, [], ◌∷◌, ◌++◌, Bool, true, false, ◌||◌, length, Option, None, Some, cond, refl, sym, ap, ◌∙◌, arith}
 use Rattle.std.specs.List.{Contains, list_any}
 use Rattle.std.specs.Option.{IsSome}
@@ -19,7 +19,7 @@ both_none : {X : Type 0} (o p : Option X) → or_else o p ≡ None → (o ≡ No
 both_none None p e = (refl, e)
 both_none (Some x) p e = absurd (cc)
 
--- by places of the list, as `Contains` has them: k, k < length xs, get_or xs k x ≡ x
+-- by indexes of the list, as `Contains` has them: k, k < length xs, get_or xs k x ≡ x
 first_some_none : {X Y : Type 0} (f : X → Option Y) (xs : List X) (x : X) → first_some f xs ≡ None → Contains xs x → f x ≡ None
 first_some_none f [] x e h = absurd (omega (arith, h.1))
 first_some_none f (y ∷ ys) x e (zero, under, same) = sym (ap f same) ∙ (both_none (f y) (first_some f ys) e).0
@@ -30,7 +30,7 @@ no_fault a o Yes n why e f = absurd (cc)
 no_fault a o No n why e f = absurd (cc)
 no_fault a o (Fault i c) n why e f = absurd (cc)
 
--- the first of a list for which there is something, with what stands before it
+-- the first of a list for which there is something, with the elements before it
 record GivesFirst {X Y : Type 0} (f : X → Option Y) (xs : List X) (y : Y) : Type 0 where
   before : List X
   it : X

@@ -21,7 +21,7 @@ use Rattle.request_rules.specs.Grants.{ClaimResults, NamedResult, grants_from, g
 use Rattle.request_rules.proofs.Tests.{same_number}
 use Rattle.request_rules.proofs.Places.{each_join, get-map}
 
--- the results of each claim, behind those of the claims before it
+-- the results of each claim, after those of the claims before it
 abbrev Blocks : ℕ → List ResourceClaim → List Result → Type 0
 Blocks i [] rs = rs ≡ []
 Blocks i (c ∷ cs) rs = (mine : List Result) × (rest : List Result) × (rs ≡ mine ++ rest) × Each (λ r. r.label.claim ≡ i) mine × Blocks (i + 1) cs rest

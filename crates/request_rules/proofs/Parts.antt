@@ -63,7 +63,7 @@ both_false : (a b c : Bool) → b ≡ false → ((a && b) && c) ≡ false
 both_false true b c e = ap (λ (t : Bool). t && c) e
 both_false false b c e = refl
 
--- no position is left where no slot is
+-- no position is left if no slot is
 pub good-past : (w : SearchInput) (ss : List Slot) (l : List ℕ) (x : ℕ) → slice_get ss (length l) ≡ None → is_good w ss (l ++ x ∷ []) ≡ false
 unfolding is_good
 good-past w ss l x e =
@@ -144,7 +144,7 @@ picks_taken w (a ∷ asks) (l ∷ ls) z =
     ∙ ap (λ (ps : List Pick). ps ++ picks (slots_for w asks) (concat ls)) (picks_seated a (seats w a.ask) l z.0)
     ∙ ap (λ (ps : List Pick). map (λ x. record { label = a.label; position = x }) l ++ ps) (picks_taken w asks ls z.1)
 
--- the first slot of a request doesn't look at the position before it
+-- the first slot of a request doesn't depend on the position before it
 anew_due : (w : SearchInput) (least : ℕ) (a : Asked) (ys : List ℕ) (ts : List Slot) (l : List ℕ) → ((m : ℕ) (n : ℕ) → each_fills w m ts l ≡ each_fills w n ts l)
     → each_fills w least (map (λ s. record { asked = a; seat = s }) (map (λ y. Due y) ys) ++ ts) l ≡ each_fills w 0 (map (λ s. record { asked = a; seat = s }) (map (λ y. Due y) ys) ++ ts) l
 anew_due w least a [] ts l h = h least 0

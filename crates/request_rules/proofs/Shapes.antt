@@ -37,7 +37,7 @@ open_from w asks ss m a b c e =
     ∙ ap (λ (t : Bool). cond t Hopeless (Open (length ss))) c
     ∙ ap (λ (n : ℕ). Open n) e
 
--- ---- faults
+-- ---- evaluation errors
 
 no_fault : (m : Match) → is_fault m ≡ false → (n : ℕ) (why : Cause) → m ≢ Fault n why
 no_fault Yes e n why f = absurd (cc)

@@ -1,4 +1,4 @@
--- Devices that may stand together, fact by fact.
+-- Devices that may be allocated together, fact by fact.
 use Rattle.std.proofs.Common.{ℕ, ◌≡◌, ◌≢◌, List, [], Bool, true, false, not, ◌&&◌, ◌||◌, cond, eqb, leb, Option, None, Some, take, refl, sym, ap, ◌∙◌, subst, ⊎_elim, arith}
 use Rattle.std.specs.List.{slice_get, list_all, Contains}
 use Rattle.std.specs.Option.{is_some, IsSome}

@@ -29,7 +29,7 @@ taken [] parts = []
 taken (a ∷ asks) [] = []
 taken (a ∷ asks) (l ∷ ls) = map (λ x. record { label = a.label; position = x }) l ++ taken asks ls
 
--- so many, in increasing position
+-- n of them, in increasing position
 pub record IsExact (n : ℕ) (l : List ℕ) : Type 0 where
   pub count : length l ≡ n
   pub rising : EachTwo (λ x y. x < y) l
@@ -45,7 +45,7 @@ pub record Met (w : SearchInput) (a : Asked) (x : ℕ) : Type 0 where
   pub on_node : x < length w.devices
   pub matched : match_at w a.ask x ≡ Yes
 
--- the counter is there, and covered
+-- the counter exists, and is covered
 pub record IsCovered (w : SearchInput) (ps : List Pick) (k : CounterId) : Type 0 where
   pub value : ℕ
   pub there : w.value k ≡ Some value
@@ -69,11 +69,11 @@ pub record IsAllocation (w : SearchInput) (c : List ℕ) (results : List Result)
   pub exact_count : EachBoth (λ a l. (n : ℕ) → a.ask.mode ≡ ExactCount n → IsExact n l) (asked w c) parts
   pub all_devices : EachBoth (λ a l. a.ask.mode ≡ All → IsWhole w a l) (asked w c) parts
   pub devices_match : EachBoth (λ a l. Each (Met w a) l) (asked w c) parts
-  -- no chosen request gives a fault on any device
+  -- no chosen request has an evaluation error on any device
   pub unfaulted : Each (λ a. GivesNone w a w.devices) (asked w c)
   -- the devices of one claim differ
   pub distinct : EachTwo (λ p q. p.label.claim ≡ q.label.claim → id_of w p ≢ id_of w q) (taken (asked w c) parts)
-  -- a device without admin access isn't held, and is so in one claim only
+  -- a device without admin access isn't held, and is without admin access in one claim only
   pub unheld : Each (λ p. p.label.admin ≡ false → (holder : Key) → Contains w.held (id_of w p, holder) → ⊥) (taken (asked w c) parts)
   pub exclusive : EachTwo (λ p q. p.label.admin ≡ false → q.label.admin ≡ false → id_of w p ≡ id_of w q → p.label.claim ≡ q.label.claim) (taken (asked w c) parts)
   -- each counter that a device without admin access draws on

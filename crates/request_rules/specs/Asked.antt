@@ -21,7 +21,7 @@ use Rattle.request_rules.specs.Input.{SearchInput}
 
 -- ---- requests
 
--- a request, with its claim and the claim's place
+-- a request, with its claim and the claim's index
 pub record Wish : Type 0 where
   pub claim : ℕ
   pub key : Key
@@ -77,12 +77,12 @@ asked w c = asked_from (wishes w) c
 
 -- ---- matches
 
--- none of a position that no device has
+-- No of a position that no device has
 abbrev pub match_by : SearchInput → DeviceAsk → Option Offered → Match
 match_by w a None = No
 match_by w a (Some o) = w.matched a o
 
--- what is said of the device at a position
+-- what the request evaluates to for the device at a position
 abbrev pub match_at : SearchInput → DeviceAsk → ℕ → Match
 match_at w a x = match_by w a (slice_get w.devices x)
 
@@ -143,7 +143,7 @@ slots w c = slots_for w (asked w c)
 
 -- ---- constraints
 
--- a constraint, with the place of its claim
+-- a constraint, with the index of its claim
 pub record Rule : Type 0 where
   pub claim : ℕ
   pub constraint : DeviceConstraint

@@ -1,4 +1,4 @@
--- What begins a good list is good.
+-- Each prefix of a good list is good.
 use Rattle.std.proofs.Common.{ℕ, ◌+◌, ◌≡◌, List, [], ◌∷◌, ◌++◌, Bool, true, false, ◌&&◌, length, drop, refl, sym, ap, ◌∙◌}
 use Rattle.std.proofs.lemmas.Bool.{and_parts, and_from}
 use Rattle.request_rules.specs.Rules.{Pick}

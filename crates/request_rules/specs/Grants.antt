@@ -21,7 +21,7 @@ pub record ClaimResults : Type 0 where
 abbrev pub named_result : Result → NamedResult
 named_result r = record { name = result_name r.label; device = r.device; admin = r.label.admin }
 
--- those of the claim at a place
+-- those of the claim at an index
 abbrev pub results_at : ℕ → List Result → List Result
 results_at i rs = filter (λ r. r.label.claim == i) rs
 
@@ -29,6 +29,6 @@ abbrev pub grants_from : ℕ → List ResourceClaim → List Result → List Cla
 grants_from i [] rs = []
 grants_from i (c ∷ cs) rs = record { claim = c.key; results = map named_result (results_at i rs) } ∷ grants_from (i + 1) cs rs
 
--- one grant for each claim, also where it has no results, in order
+-- one grant for each claim, even if it has no results, in order
 unfoldable pub grants_of : SearchInput → List Result → List ClaimResults
 grants_of w rs = grants_from 0 w.claims rs

@@ -1,4 +1,4 @@
--- What a search of a node is given.
+-- The input of a search of a node.
 use Rattle.std.specs.Prelude.{ℕ, List, Bool, Option}
 use Rattle.object_fields.specs.declared.key.DeviceId.{DeviceId}
 use Rattle.object_fields.specs.declared.key.Key.{Key}
@@ -13,11 +13,11 @@ pub record SearchInput : Type 0 where
   pub devices : List Offered
   -- the claims that have no grant, in the pod's order
   pub claims : List ResourceClaim
-  -- what the selectors of an ask's class and then its own say of a device
+  -- what the selectors of an ask's class and then its own evaluate to for a device
   pub matched : DeviceAsk → Offered → Match
   -- the devices that claims hold, each with its claim
   pub held : List (DeviceId × Key)
-  -- the value of each counter that there is, in 10^-9
+  -- the value of each counter that exists, in 10^-9
   pub value : CounterId → Option ℕ
   -- what the held devices draw from each counter, in 10^-9
   pub drawn : CounterId → ℕ

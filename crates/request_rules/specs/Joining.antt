@@ -9,7 +9,7 @@ use Rattle.request_rules.specs.Input.{SearchInput}
 use Rattle.request_rules.specs.Asked.{Rule}
 use Rattle.request_rules.specs.Rules.{Pick}
 
--- each counter on which the device draws has the value that the device's slice gives it
+-- each counter on which the device draws has the value that it has in the device's slice
 pub record HasItsCounters (w : SearchInput) (o : Offered) : Type 0 where
   pub values : (d : Draw) → Contains (draws_of o) d → w.value d.counter ≡ counter_value o.slice d.counter
 

@@ -1,4 +1,4 @@
--- Words on lists.
+-- Definitions on lists.
 use Rattle.std.specs.Prelude.{ℕ, ◌<◌, ◌≡◌, List, [], ◌∷◌, ◌++◌, Bool, true, ◌&&◌, Option, None, Some, slice_get}
 
 -- the test holds of each element, given those before it
@@ -13,7 +13,7 @@ Each {X} P xs = (i : ℕ) (x : X) → slice_get xs i ≡ Some x → P x
 abbrev pub EachTwo : {X : Type 0} → (X → X → Type 0) → List X → Type 0
 EachTwo {X} R xs = (i j : ℕ) (x y : X) → i < j → slice_get xs i ≡ Some x → slice_get xs j ≡ Some y → R x y
 
--- elements of two lists at the same place
+-- elements of two lists at the same index
 abbrev pub EachBoth : {X Y : Type 0} → (X → Y → Type 0) → List X → List Y → Type 0
 EachBoth {X} {Y} R xs ys = (i : ℕ) (x : X) (y : Y) → slice_get xs i ≡ Some x → slice_get ys i ≡ Some y → R x y
 

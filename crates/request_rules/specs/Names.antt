@@ -1,8 +1,8 @@
 -- What results and labels are called.
 use Rattle.std.specs.Prelude.{ℕ, List, ◌++◌, Bool, codes, Option, None, Some}
 
--- what a result is for: a claim by its place, one of its requests, the subrequest that is chosen
--- where it has `firstAvailable`, and whether it has admin access
+-- what a result is for: a claim by its index, one of its requests, the subrequest that is chosen
+-- if it has `firstAvailable`, and whether it has admin access
 pub record Label : Type 0 where
   pub claim : ℕ
   pub request : List ℕ

@@ -9,7 +9,7 @@ use Rattle.request_rules.specs.Input.{SearchInput}
 use Rattle.request_rules.specs.Asked.{Asked, Slot, asked, is_fault, matching, options, slots}
 use Rattle.request_rules.specs.Rules.{is_good}
 
--- the request gives a fault on a device
+-- the request has an evaluation error on a device
 abbrev pub is_faulty : SearchInput → Asked → Bool
 is_faulty w a = list_any (λ o. is_fault (w.matched a.ask o)) w.devices
 

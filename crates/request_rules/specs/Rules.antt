@@ -1,4 +1,4 @@
--- Which devices may stand together.
+-- Which devices may be allocated together.
 use Rattle.std.specs.Prelude.{ℕ, ◌+◌, ◌==◌, List, [], ◌∷◌, Bool, true, false, not, ◌&&◌, ◌||◌, Option, None, Some, is_some, slice_get, nat_le, if◌then◌else◌}
 use Rattle.std.specs.List.{list_any, list_all, sum_by}
 use Rattle.object_fields.specs.declared.key.DeviceId.{DeviceId}
@@ -24,7 +24,7 @@ seated (Due y) least x = y == x
 abbrev pub fills : SearchInput → Slot → (least x : ℕ) → Bool
 fills w s least x = meets w s.asked.ask x && seated s.seat least x
 
--- each device meets the request of its slot, and sits as it is due
+-- each device meets the request of its slot, and sits as its seat requires
 abbrev pub each_fills : SearchInput → ℕ → List Slot → List ℕ → Bool
 each_fills w least slots [] = true
 each_fills w least [] (x ∷ xs) = false
@@ -87,7 +87,7 @@ amount k ds = sum_by (drawn_at k) ds
 unfoldable pub total : SearchInput → CounterId → List Pick → ℕ
 total w k l = w.drawn k + sum_by (λ p. amount k (draws w p)) l
 
--- the counter is there, and has so much
+-- the counter exists, and has at least this much
 abbrev pub within : SearchInput → CounterId → ℕ → Bool
 within w k t = is_within (w.value k) t
 
@@ -105,7 +105,7 @@ abbrev pub attribute_by : Option Offered → QualName → Option Attribute
 attribute_by None name = None
 attribute_by (Some o) name = attribute_of o name
 
--- what the device has of the constraint's attribute
+-- the device's value of the constraint's attribute
 abbrev pub value_of : SearchInput → Rule → Pick → Option Attribute
 value_of w r p = attribute_by (slice_get w.devices p.position) r.constraint.attribute
 
@@ -128,6 +128,6 @@ may_join w before p =
     && (covers w before p
     && list_all (λ r. agrees w r before p) (rules_of w)))
 
--- the devices at the positions may stand in the first slots
+-- the devices at the positions may fill the first slots
 unfoldable pub is_good : SearchInput → List Slot → List ℕ → Bool
 is_good w ss l = each_fills w 0 ss l && each_after (may_join w) [] (picks ss l)

@@ -35,7 +35,7 @@ pub fn walk_is_meant()
     walk::walk_is_exact();
 }
 
-/// What begins a good list is good, and one position more is good by the slot that it is for.
+/// Each prefix of a good list is good, and one position more is good by the slot that it is for.
 pub fn fronts_are_good()
     ensures none { (w : SearchInput) (c : List ℕ) → good w c [] ≡ true }
     ensures front { (w : SearchInput) (c l m : List ℕ) → good w c (l ++ m) ≡ true → good w c l ≡ true }
@@ -45,8 +45,8 @@ pub fn fronts_are_good()
     ensures past { (w : SearchInput) (c l : List ℕ) (x : ℕ) → slice_get (open_slots w c) (length l) ≡ None → good w c (l ++ x ∷ []) ≡ false }
 {}
 
-/// The fault of a choice is that of the first of its requests, in order, that gives one, on the first
-/// device, in order, on which it does. There is one if and only if the choice is faulty.
+/// The evaluation error of a choice is that of the first of its requests, in order, that has one, on the first
+/// device, in order, on which it has one. There is one if and only if the choice is faulty.
 pub fn faults_are_first()
     ensures first { (w : SearchInput) (c : List ℕ) (fault : FaultPlace) → fault_of w c ≡ Some fault → IsFirstFault w c fault }
     ensures found { (w : SearchInput) (c : List ℕ) → shape_of w c ≡ Faulty → IsSome (fault_of w c) }
@@ -59,8 +59,8 @@ pub fn allocations_hold_once()
     ensures { (w : SearchInput) (c : List ℕ) (rs : List Result) → IsAllocation w c rs → HoldsOnce w rs }
 {}
 
-/// What one result more asks of the counters and of the constraints is what `counter_sets` and
-/// `constraints` say of its device: the device is covered behind what is drawn, where the input gives
+/// What one result more requires of the counters and of the constraints is what `counter_sets` and
+/// `constraints` define for its device: the device is covered after what is drawn, if the input has for
 /// its counters the values that they have in its slice, and admin access draws nothing; and it agrees
 /// with the results of the constraint's claim before it.
 pub fn joining_is_by_device()

@@ -1,7 +1,7 @@
-//! What an allocation is: which devices a node may give to claims of `resource.k8s.io/v1`, and which
+//! What an allocation is: which devices of a node may be allocated to claims of `resource.k8s.io/v1`, and which
 //! lists of positions begin an allocation.
 //!
-//! The definitions are in `specs/`; this crate has no code but laws, whose bodies are empty.
+//! The definitions are in `specs/`; the only code of this crate is laws, whose bodies are empty.
 #![tactic(auto)]
 
 mod laws;

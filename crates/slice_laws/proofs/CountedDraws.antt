@@ -1,4 +1,4 @@
--- What a device draws is read item by item, each from a set that nothing before draws on, within a limit of amounts.
+-- What a device draws is read item by item, each from a set that no item before draws on, with limited amounts.
 use Rattle.std.proofs.Common.{◌≡◌, ◌∙◌, ℕ, ◌+◌, ◌<◌, ◌≤◌, ℤ, true, not, ◌||◌, List, [], ◌∷◌, ◌++◌, map, Some, Result, Ok, Err, ap, codes, nat_lt, option_and_then, refl, sym}
 use Rattle.std.proofs.Math.Logic.{⊎_elim}
 use Rattle.std.proofs.lemmas.Bool.{ltb-true}

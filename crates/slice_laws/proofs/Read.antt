@@ -71,7 +71,7 @@ behind r path place before (item d ds) xs h =
 pub column : {A : Type 0} (r : List Step → Data → Result A FieldError) (path : List Step) (ds : Items) (xs : List A) → each r path ds ≡ Ok xs → Column r path 0 xs ds
 column r path ds xs h = let b = behind r path 0 [] ds xs h in along (λ ys. Column r path 0 ys ds) b.own xs b.is b.column
 
--- ---- what the labels of items say, a law of the readers of fields
+-- ---- the labels of items, a law of the readers of fields
 
 pub record Labels : Type 0 where
   pub name : (path : List Step) (d : Data) (name : List ℕ) → dns_label_at path (codes "name") d ≡ Ok name → named d ≡ Some name

@@ -28,7 +28,7 @@ abbrev pub counted : Items → ℕ
 counted no_items = 0
 counted (item d ds) = count_at (codes "counters") d + counted ds
 
--- and the first so many of them
+-- and how many the first n of them have
 abbrev pub counted_first : ℕ → Items → ℕ
 counted_first n no_items = 0
 counted_first zero (item d ds) = 0

@@ -3,7 +3,7 @@ use Rattle.serde_json.specs.View.{members_view}
 use Rattle.api_slice.specs.Attributes.{attributes_with}
 use Rattle.api_slice.proofs.attribute.attributes_of.Given as goal
 
--- the members that are left, behind those read, are all members
+-- the members that are left, after those read, are all members
 abbrev pub invariant-loop-key : goal.invariant-loop-key
 invariant-loop-key l = record {
   can : (goal.iterator-loop-key).can_next l.key-iterator;

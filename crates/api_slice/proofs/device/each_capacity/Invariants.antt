@@ -4,7 +4,7 @@ use Rattle.api_slice.specs.Lists.{each, each_from}
 use Rattle.api_slice.specs.Capacity.{capacity_of}
 use Rattle.api_slice.proofs.device.each_capacity.Given as goal
 
--- the items that are left, behind those read, are all
+-- the items that are left, after those read, are all
 abbrev pub invariant-loop-place : goal.invariant-loop-place
 invariant-loop-place l =
     each_from (capacity_of l.driver) l.path l.place l.column (items_view (drop l.place l.values)) ≡ each (capacity_of l.driver) l.path (items_view l.values)

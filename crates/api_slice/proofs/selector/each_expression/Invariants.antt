@@ -4,7 +4,7 @@ use Rattle.api_slice.specs.Lists.{each, each_from}
 use Rattle.api_slice.specs.Selectors.{expression_of}
 use Rattle.api_slice.proofs.selector.each_expression.Given as goal
 
--- the items that are left, behind those read, are all
+-- the items that are left, after those read, are all
 abbrev pub invariant-loop-place : goal.invariant-loop-place
 invariant-loop-place l =
     each_from expression_of l.path l.place l.requirements (items_view (drop l.place l.values)) ≡ each expression_of l.path (items_view l.values)
