@@ -13,7 +13,7 @@ use quantity::Quantity;
 pub enum Change {
     /// They are added.
     Draw,
-    /// They are taken away.
+    /// They are subtracted.
     Return,
 }
 
@@ -66,7 +66,7 @@ fn move_sets(sets: &mut SetTotals, change: Change, consumes: &[CounterConsumptio
     }
 }
 
-/// Counts what a device draws from the sets of its slice, where that slice was added.
+/// Counts what a device draws from the sets of its slice, if that slice was added.
 pub fn move_slice(
     slices: &mut Table<Text, SetTotals>,
     change: Change,

@@ -68,7 +68,7 @@ impl Held {
         put_driver(&mut self.drivers, device, holder, alloc)
     }
 
-    /// Takes a device away, whichever claim holds it; changes nothing if none does. Allocates nothing.
+    /// Removes a device, whichever claim holds it; changes nothing if none does. Allocates nothing.
     pub fn remove(&mut self, device: &DeviceId)
         ensures { (id : DeviceId) → holder_in self.new id ≡ (if device_eq device.now id then None else holder_in self.old id) }
     {

@@ -121,7 +121,7 @@ impl Totals {
         self.change(Change::Draw, device);
     }
 
-    /// Returns what a device drew. Allocates nothing.
+    /// Subtracts what a device drew. Allocates nothing.
     #[tactic(auto, using(crate::proofs::Moves::given_back))]
     pub fn give_back(&mut self, device: &DeviceRef<'_>)
         ensures drawn { (c : CounterId) → drawn_in self.new c ≡ drawn_in self.old c - drawn_from c device.now }
