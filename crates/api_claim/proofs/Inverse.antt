@@ -1,4 +1,4 @@
--- What was read, from the answer back.
+-- What was read, from the result back.
 use Rattle.std.proofs.Common.{◌≡◌, ◌∙◌, ℕ, ◌+◌, Bool, true, false, List, [], ◌∷◌, ◌++◌, length, map, Result, Ok, Err, ap, append_assoc, arith, refl, subst, sym}
 use Rattle.std.proofs.lemmas.List.{append-nil}
 use Rattle.std.specs.List.{zip}
@@ -10,11 +10,11 @@ use Rattle.object_fields.specs.declared.path.Step.{Step}
 use Rattle.object_fields.specs.declared.path.Step.TheVariants.{Place}
 use Rattle.api_claim.specs.Limits.{EachOf}
 
--- an answer of a reading
+-- a result of a reading
 abbrev pub given : {A : Type 0} → A → Result A FieldError
 given x = Ok x
 
--- both readings gave something
+-- both readings returned a value
 pub then_ok : {A B : Type 0} (x : Result A FieldError) (f : A → Result B FieldError) (b : B) → x >>= f ≡ Ok b → (a : A) × ((x ≡ Ok a) × (f a ≡ Ok b))
 then_ok (Ok a) f b h = (a, (refl, h))
 then_ok (Err e) f b h = cc
@@ -24,7 +24,7 @@ pub unless_ok : {A : Type 0} (e : FieldError) (b : Bool) (x y : A) → unless e 
 unless_ok e true x y h = cc
 unless_ok e false x y h = (refl, cc)
 
--- ---- items, each at its place
+-- ---- items, each at its index
 
 abbrev pub Rows : {A : Type 0} → (List Step → Data → Result A FieldError) → List Step → ℕ → Items → List A → Type 0
 Rows f path place no_items [] = Unit {0}
@@ -52,7 +52,7 @@ rows_length f path place (item d ds) [] h = absurd h
 rows_length f path place (item d ds) (x ∷ xs) h =
     let k : length xs ≡ items_length ds = rows_length f path (place + 1) ds xs h.1 in omega arith
 
--- what each reading gives, each item has
+-- what holds of each reading's result holds of each item
 pub rows_each : {A : Type 0} (P : A → Type 0) (f : List Step → Data → Result A FieldError) (gives : (path : List Step) (d : Data) (x : A) → f path d ≡ Ok x → P x) (path : List Step) (place : ℕ) (ds : Items) (xs : List A) → Rows f path place ds xs → EachOf P xs
 rows_each P f gives path place no_items [] h = tt
 rows_each P f gives path place no_items (x ∷ xs) h = absurd h

@@ -146,7 +146,7 @@ as_itself (string s) ms h = absurd (let no_value : ⊥ = cc in no_value)
 as_itself (array ds) ms h = absurd (let no_value : ⊥ = cc in no_value)
 as_itself (object xs) ms h = let same : xs ≡ ms = cc in ap object same
 
--- what is read as an object stands there
+-- what is read as an object is there
 stands : (path : List Step) (name : List ℕ) (d v : Data) → object_at path name d ≡ Ok v → member_of name d ≡ Some v
 stands path name d v h =
     let s = then_ok (table_at path name d) (λ ms. Ok (object ms)) v h in

@@ -5,7 +5,7 @@ use Rattle.object_fields.specs.Fields.{Reads, ◌>>=◌}
 use Rattle.object_fields.specs.declared.error.FieldError.{FieldError}
 use Rattle.object_fields.specs.declared.path.Step.{Step}
 
--- what a reading gives of a value is what it gives behind the reading of that value
+-- what a reading returns for a value is what it returns after the reading of that value
 pub behind : {A : Type 0} (r : Result A FieldError) (x : Result Data FieldError) (v : Data) (path inside : List Step) (f : List Step → Data → Result A FieldError) → x ≡ Ok v → path ≡ inside → Reads r (f inside v) → Reads r (x >>= f path)
 behind {A = A} r x v path inside f is at h =
     let P : List Step → Type 0 = λ q. Reads r (f q v) in

@@ -1,4 +1,4 @@
--- Two lists joined place by place, at the end of one of them.
+-- Two lists joined index by index, at the end of one of them.
 use Rattle.std.proofs.Common.{◌≡◌, ◌∙◌, List, [], ◌∷◌, ◌++◌, length, map, sym, arith}
 use Rattle.std.proofs.lemmas.List.{append-nil}
 use Rattle.std.specs.List.{zip}

@@ -20,7 +20,7 @@ use Rattle.api_claim.specs.declared.types.ExactDeviceRequest.{ExactDeviceRequest
 
 -- ---- allocationMode with count
 
--- whether the word asks for all devices; there are two words
+-- whether the value asks for all devices; there are two values
 abbrev pub all_meant : List Step → List ℕ → Result Bool FieldError
 all_meant path word =
     if bytes_eq word (codes "ExactCount") then Ok false

@@ -1,4 +1,4 @@
--- The requests as they stand in the document of a claim, and what reads the name of one by itself.
+-- The requests as they are in the document of a claim, and what reads the name of one by itself.
 use Rattle.std.specs.Prelude.{ℕ, not, List, Option, Some, None, Result, codes, option_and_then}
 use Rattle.serde_json.specs.Data.{Data, Items, no_items}
 use Rattle.serde_json.specs.Find.{as_array}
@@ -12,12 +12,12 @@ abbrev pub items_or_none : Option Items → Items
 items_or_none None = no_items
 items_or_none (Some ds) = ds
 
--- the list `spec.devices.requests`; none where it isn't there
+-- the list `spec.devices.requests`; none if it isn't there
 abbrev pub listed_requests : Data → Items
 listed_requests d =
     items_or_none (option_and_then as_array (option_and_then (member_of (codes "requests")) (option_and_then (member_of (codes "devices")) (member_of (codes "spec") d))))
 
--- the name of a request, whatever stands before it
+-- the name of a request, whatever comes before it
 abbrev pub request_label : List Step → Data → Result (List ℕ) FieldError
 request_label path d =
     object_value path d >>= λ request.

@@ -1,4 +1,4 @@
--- Lists that must have an item, and names that stand once.
+-- Lists that must have an item, and names that appear once.
 use Rattle.std.specs.Prelude.{ℕ, Bool, false, true, List, Option, Some, None, Result, Ok, Err, codes}
 use Rattle.std.specs.List.{list_any}
 use Rattle.std.specs.Str.{bytes_eq}

@@ -80,7 +80,7 @@ term_node d =
 abbrev pub selector_node : Data → Option (List ℕ)
 selector_node d = option_and_then term_node (only_of (codes "nodeSelectorTerms") d)
 
--- the node that the selector names; a selector of another form is left out
+-- the node that the selector names; any other selector is not supported
 abbrev pub node_at : List Step → Data → Result (List ℕ) FieldError
 node_at path allocation =
     object_at path (codes "nodeSelector") allocation >>= λ selector.

@@ -132,7 +132,7 @@ fn counted(count: Option<u64>) -> AllocationMode
     }
 }
 
-/// Whether `allocationMode` asks for all devices. NotSupported at another word than its two.
+/// Whether `allocationMode` asks for all devices. NotSupported if it is neither of its two values.
 fn read_all(alloc: Global, ask: &Value, path: &Path) -> Result<bool, FieldError>
     ensures { Reads result (fields.all_at path.now (view ask.now)) }
 {

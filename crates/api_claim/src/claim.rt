@@ -44,7 +44,7 @@ impl ResourceClaim {
     ///   BadName)
     ///
     /// `status`, and fields that this project doesn't know, as `config`, are not looked at. Memory
-    /// may come at any time.
+    /// may be returned at any point.
     pub fn read(alloc: Global, value: &Value) -> Result<ResourceClaim, FieldError>
         ensures { Reads result (fields.claim_of (view value.now)) }
     {

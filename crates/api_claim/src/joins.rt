@@ -7,7 +7,7 @@ use crate::types::{DeviceAsk, DeviceRequest, DeviceSubRequest, RequestKind};
 use dra_values::{Seq, Text};
 use std::alloc::{AllocError, Global};
 
-/// The requests of these names and kinds, place by place.
+/// The requests of these names and kinds, index by index.
 pub(crate) fn join_requests(
     alloc: Global,
     names: Seq<Text>,

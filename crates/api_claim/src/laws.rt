@@ -39,9 +39,9 @@ pub fn claims_have_their_requests()
 }
 
 /// The row of the names of requests. What is read are the names in the document, in order and as many.
-/// Where each request reads by itself, the names are read if no two are equal, and else it is Doubled
-/// at the first request whose name a request before has. It is Doubled only where two requests of the
-/// document have the same name, at the later of the two.
+/// If each request reads by itself, the names are read if no two are equal; otherwise the error is
+/// Doubled at the first request that has the name of an earlier one. The error is Doubled only if two
+/// requests of the document have the same name, at the later of the two.
 pub fn request_names_are_new()
     ensures same { (path : List Step) (ds : Items) (names : List (List ℕ)) →
         each_beside request_name_at path ds ≡ Ok names → map Some names ≡ names_in ds }
@@ -57,7 +57,7 @@ pub fn request_names_are_new()
     names_are_new();
 }
 
-/// The row of the names of a request's subrequests, of which the same is so.
+/// The row of the names of a request's subrequests, for which the same holds.
 pub fn subrequest_names_are_new()
     ensures same { (path : List Step) (ds : Items) (names : List (List ℕ)) →
         each_beside subrequest_name_at path ds ≡ Ok names → map Some names ≡ names_in ds }

@@ -8,7 +8,7 @@ use object_fields::{FieldError, FieldErrorKind, Path, member, read_dns_label, sh
 use serde_json::Value;
 use std::alloc::Global;
 
-/// A list of 1 to `most` items, borrowed. Missing, which an empty list is too, then WrongType and
+/// A list of 1 to `most` items, borrowed. Missing, also for an empty list, then WrongType and
 /// TooMany.
 pub(crate) fn some_items<'a>(
     alloc: Global,

@@ -35,12 +35,12 @@ impl ClaimStatus {
     /// - `results` of the devices, 1 to 32 (Missing, WrongType, TooMany): of each `request`,
     ///   `driver`, `pool` and `device`, which are any text, and `adminAccess`
     /// - `status.allocation.nodeSelector` (Missing, WrongType): one term, without
-    ///   `matchExpressions`, that says by `matchFields` that `metadata.name` is In one value;
-    ///   NotSupported where it has another form (this project's own)
+    ///   `matchExpressions`, whose `matchFields` require that `metadata.name` is In one value;
+    ///   NotSupported for any other selector (this project's own)
     /// - `status.reservedFor`, which must not be set (NotSupported, this project's own)
     ///
-    /// `spec`, and fields that this project doesn't know, are not looked at. Memory may come at any
-    /// time.
+    /// `spec`, and fields that this project doesn't know, are not looked at. Memory may be returned
+    /// at any point.
     pub fn read(alloc: Global, value: &Value) -> Result<ClaimStatus, FieldError>
         ensures { Reads result (fields.status_of (view value.now)) }
     {
@@ -131,7 +131,7 @@ fn read_device(alloc: Global, found: &Value, path: &Path) -> Result<DeviceId, Fi
     })
 }
 
-/// The node that `nodeSelector` names. NotSupported where it has another form.
+/// The node that `nodeSelector` names. NotSupported for any other selector.
 fn read_node(alloc: Global, allocation: &Value, path: &Path) -> Result<Text, FieldError>
     ensures { Reads result (fields.node_at path.now (view allocation.now)) }
 {

@@ -8,8 +8,8 @@ use std::marker::Model;
 
 /// A ResourceClaim of `resource.k8s.io/v1`.
 ///
-/// Each claim keeps the limits and name rules that stand at its fields and at those of its requests
-/// and constraints; contracts see the record of its fields.
+/// Each claim keeps the limits and name rules that are documented at its fields and at those of its
+/// requests and constraints; contracts see the record of its fields.
 #[derive(Drop)]
 pub struct ResourceClaim {
     /// `metadata.namespace` and `metadata.name`.
@@ -35,7 +35,7 @@ pub struct DeviceRequest {
 pub enum RequestKind {
     /// `exactly`.
     Exactly(ExactDeviceRequest),
-    /// `firstAvailable`, 1 to 8 subrequests, of which the first that can be met is taken.
+    /// `firstAvailable`, 1 to 8 subrequests, of which the first that can be satisfied is taken.
     FirstAvailable(Seq<DeviceSubRequest>),
 }
 
@@ -132,8 +132,8 @@ impl Model for ClaimStatus {
 }
 
 impl ResourceClaim {
-    /// Each claim keeps the limits and name rules of the API reference of `resource.k8s.io/v1`. Takes
-    /// no memory.
+    /// Each claim keeps the limits and name rules of the API reference of `resource.k8s.io/v1`.
+    /// Allocates nothing.
     pub fn keeps_limits(&self)
         ensures { ClaimKept self.now }
     {
@@ -211,7 +211,7 @@ impl Duplicate for DeviceConstraint {
 }
 
 impl ClaimStatus {
-    /// Each status keeps the limits of the API reference of `resource.k8s.io/v1`. Takes no memory.
+    /// Each status keeps the limits of the API reference of `resource.k8s.io/v1`. Allocates nothing.
     pub fn keeps_limits(&self)
         ensures { StatusKept self.now }
     {

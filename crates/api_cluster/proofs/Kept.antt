@@ -19,11 +19,11 @@ use Rattle.api_cluster.specs.declared.types.PodResourceClaim.{PodResourceClaim}
 use Rattle.api_cluster.specs.Classes as class
 use Rattle.api_cluster.specs.Pods as pod
 
--- an answer of a reading
+-- a result of a reading
 abbrev given : {A : Type 0} → A → Result A FieldError
 given x = Ok x
 
--- both readings gave something
+-- both readings returned a value
 then_ok : {A B : Type 0} (x : Result A FieldError) (f : A → Result B FieldError) (b : B) → x >>= f ≡ Ok b → (a : A) × ((x ≡ Ok a) × (f a ≡ Ok b))
 then_ok (Ok a) f b h = (a, (refl, h))
 then_ok (Err e) f b h = cc

@@ -9,10 +9,10 @@ use serde_json::Value;
 use std::alloc::Global;
 
 impl Node {
-    /// Reads a Node of the API reference of `v1`, whose fields all stand in its metadata, in the
+    /// Reads a Node of the API reference of `v1`, whose fields are all in its metadata, in the
     /// order of `ObjectMeta::read`, whose errors are the only ones.
     ///
-    /// Fields that this project doesn't know are not looked at. Memory may come at any time.
+    /// Fields that this project doesn't know are not looked at. Memory may be returned at any point.
     pub fn read(alloc: Global, value: &Value) -> Result<Node, FieldError>
         ensures { Reads result (fields.node_of (view value.now)) }
     {

@@ -29,7 +29,7 @@ impl Pod {
     /// WrongType), in this order.
     ///
     /// Fields that this project doesn't know, as a pod's containers, are not looked at. Memory may
-    /// come at any time.
+    /// be returned at any point.
     pub fn read(alloc: Global, value: &Value) -> Result<Pod, FieldError>
         ensures { Reads result (fields.pod_of (view value.now)) }
     {
@@ -68,7 +68,7 @@ fn read_members(
     read_claims(alloc, spec, path)
 }
 
-/// Nothing, where the spec names no node.
+/// Nothing, if the spec names no node.
 fn read_node(alloc: Global, spec: &Value, path: &Path) -> Result<(), FieldError>
     ensures { Reads result (fields.node_at path.now (view spec.now)) }
 {

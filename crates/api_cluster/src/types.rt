@@ -93,7 +93,7 @@ impl Model for Pod {
 }
 
 impl Node {
-    /// Each node keeps the limits and name rules of the API reference of `v1`. Takes no memory.
+    /// Each node keeps the limits and name rules of the API reference of `v1`. Allocates nothing.
     pub fn keeps_limits(&self)
         ensures { NodeKept self.now }
     {
@@ -113,8 +113,8 @@ impl Node {
 }
 
 impl DeviceClass {
-    /// Each class keeps the limits and name rules of the API reference of `resource.k8s.io/v1`. Takes
-    /// no memory.
+    /// Each class keeps the limits and name rules of the API reference of `resource.k8s.io/v1`.
+    /// Allocates nothing.
     pub fn keeps_limits(&self)
         ensures { ClassKept self.now }
     {
@@ -134,7 +134,7 @@ impl DeviceClass {
 }
 
 impl Pod {
-    /// Each pod keeps the limits and name rules of the API reference of `v1`. Takes no memory.
+    /// Each pod keeps the limits and name rules of the API reference of `v1`. Allocates nothing.
     pub fn keeps_limits(&self)
         ensures { PodKept self.now }
     {

@@ -10,7 +10,7 @@ use ckpt_journal::{Record, format as format_disk};
 use dra_values::Text;
 use std::alloc::{AllocError, Global};
 
-/// The bytes of a journal of these records, or the word of the error.
+/// The bytes of a journal of these records, or the name of the error.
 fn written(alloc: Global, items: &[Record]) -> Result<String, AllocError>
     requires { AllByRecursion ReadsBack items.now }
 {
@@ -52,7 +52,7 @@ fn by_length(alloc: Global, bytes: &[u8]) -> Result<String, AllocError> {
     Ok(text)
 }
 
-/// The length of a journal of one record, and the number of records read from it, or the word of the
+/// The length of a journal of one record, and the number of records read from it, or the name of the
 /// error.
 fn lengths(alloc: Global, item: Record) -> Result<String, AllocError>
     requires { ReadsBack item }

@@ -6,7 +6,7 @@ use ckpt_journal::{Claim, Journal, JournalError, Record};
 use mem_disk::MemDisk;
 use std::alloc::{AllocError, Global};
 
-/// The word of an error.
+/// The name of an error.
 pub fn word(alloc: Global, error: JournalError) -> Result<String, AllocError> {
     match error {
         JournalError::DiskFault => String::from_str(alloc, "DiskFault"),
@@ -22,7 +22,7 @@ pub fn disk_of(alloc: Global, bytes: Vec<u8>) -> Result<MemDisk, AllocError> {
     MemDisk::new(alloc, bytes, Vec::new(alloc))
 }
 
-/// The records of a disk, or the word of the error.
+/// The records of a disk, or the name of the error.
 pub fn records_of(alloc: Global, disk: MemDisk) -> Result<Result<Vec<Record>, String>, AllocError>
     ensures { IfOk result (λ read. IfOk read (λ rs. AllByRecursion ReadsBack rs.items)) }
 {
@@ -59,7 +59,7 @@ fn push_record(alloc: Global, text: &mut String, record: &Record) -> Result<(), 
     }
 }
 
-/// The records of a file's bytes, each behind a semicolon, or the word of the error.
+/// The records of a file's bytes, each after a semicolon, or the name of the error.
 pub fn listed(alloc: Global, bytes: Vec<u8>) -> Result<String, AllocError> {
     match records_of(alloc, disk_of(alloc, bytes)?)? {
         Ok(records) => {
@@ -74,7 +74,7 @@ pub fn listed(alloc: Global, bytes: Vec<u8>) -> Result<String, AllocError> {
     }
 }
 
-/// The number of records of a disk, or the word of the error.
+/// The number of records of a disk, or the name of the error.
 pub fn counted(alloc: Global, disk: MemDisk) -> Result<String, AllocError> {
     match records_of(alloc, disk)? {
         Ok(records) => Ok(format!(in alloc; "{}", records.len())?),

@@ -1,5 +1,5 @@
 //! Runs cases of the checkpoint journal: reads one a line from the standard input and prints one line
-//! for each, so that the expected lines of the file `stdout` stand beside those of `stdin`, whose head
+//! for each, so that the expected lines of the file `stdout` line up with those of `stdin`, whose head
 //! says what a case is. An empty line and a line that begins with `#` are printed as they are.
 #![tactic(auto)]
 

@@ -33,14 +33,14 @@ length-front-more es e =
 abbrev Places : Type 0
 Places = List (Option ℕ)
 
--- whatever bytes agree with these places, P holds of them
+-- P holds of any bytes that agree with these places
 abbrev Across : (List ℕ → Type 0) → Places → Type 0
 Across P places = (image : List ℕ) → Agrees places image → P image
 
 leaves_from : (P : List ℕ → Type 0) (sure : Sure) (places : Places) → sure.places ≡ places → Across P places → Leaves P sure
 leaves_from P sure places is across image left = across image (subst (λ (l : Places). Agrees l image) is left.agrees)
 
--- n of the places from this one on are no longer sure
+-- n of the places from this offset on are no longer sure
 abbrev gapped : ℕ → ℕ → Places → Places
 gapped at n places = take at places ++ replicate (min (at + n) (length places) - min at (length places)) None ++ drop (at + n) places
 
@@ -77,7 +77,7 @@ module _ (es : List Record) (end : ℕ) (c : Content) (s : Settled es end c) (ho
       let gap_is : gapped (end + 1) n places ≡ map Some (front es ++ s.gate ∷ []) ++ (gap ++ rest) = (λ i. front_is i ++ gap ++ rest) ∙ append_assoc _ gap rest in
       leaves_from (Has es) (blurred (end + 1) n c.sure) _ gap_is (behind_gate es s.gate (gap ++ rest) s.fits s.shut)
 
--- the block stands behind the gate, and all is sure
+-- the block is behind the gate, and all is sure
 pub staged : (es : List Record) (item : Record) (end : ℕ) (bytes : List ℕ) (x y z : Option Content) → IfSome x (Settled es end) → bytes ≡ block item ++ 0 ∷ []
     → y ≡ option_map (written (end + 1) bytes) x → z ≡ option_map synced y → IfSome z (Staged es item end)
 staged es item end bytes None y z s is w k = subst (λ (o : Option Content). IfSome o (Staged es item end)) (sym (k ∙ ap (option_map synced) w)) tt

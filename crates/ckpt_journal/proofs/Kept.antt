@@ -89,7 +89,7 @@ reopened es end x s = kept_after es end x (settled_all es end x s)
 pub keeps_read : (es : List Record) (end : ℕ) (x : Option Content) → IfSome x (IsSettled es end) → IfSome x (Keeps es)
 keeps_read es end x s = keeps es end x (settled_all es end x s)
 
--- an error of the disk is a fault that was counted
+-- an error of the disk is one that was counted
 pub fault_of : (before now : ℕ) (e : PortError) → HasCause {T = Unit {0}} before now (Err e) → (IsErrOf {T = Unit {0}} (Err e) port.Memory → ⊥) → Rose before now
 fault_of before now port.Failed cause none = cause.failed refl
 fault_of before now port.Memory cause none = absurd (none refl)

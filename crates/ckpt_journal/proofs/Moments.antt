@@ -67,7 +67,7 @@ under P Q (Some a) (Some b) h p = λ honest.
     let all = p honest in
     record { moments = all.moments; passed = all.passed; each = each_under P Q h all.moments all.each; now = λ image is. h image (all.now image is); honest = all.honest }
 
--- what is sure stands in front of each image
+-- what is sure is a prefix of each image
 pub sure_front : (xs : List ℕ) (sure : List (Option ℕ)) (image : List ℕ) → Agrees (map Some xs ++ sure) image → (rest : List ℕ) × (image ≡ xs ++ rest) × Agrees sure rest
 sure_front [] sure image is = (image, refl, is)
 sure_front (x ∷ xs) sure [] is = absurd is

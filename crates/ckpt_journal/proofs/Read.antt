@@ -65,7 +65,7 @@ read_from (e ∷ es) (suc most) gate tail fits shut le =
     ∙ ap (if_block left (records_from most)) (read_block es e gate tail fits.0)
     ∙ ap (with_front e) (read_from es most gate tail fits.1 shut fewer)
 
--- the header, and what stands behind it
+-- the header, and what follows it
 pub header_read : (rest : List ℕ) → records (header ++ rest) ≡ placed (length (header ++ rest)) (records_from (length (header ++ rest)) rest)
 unfolding records header
 header_read rest = refl

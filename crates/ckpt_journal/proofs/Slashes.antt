@@ -10,7 +10,7 @@ use Rattle.object_fields.specs.declared.key.DeviceId.{DeviceId}
 use Rattle.object_fields.specs.declared.key.Key.{Key}
 use Rattle.ckpt_journal.specs.Names.{by_both, by_first, device_made, device_read, first_slash_from, key_made, key_read, last_slash_from, text_read}
 
--- the slash at n, the first of the bytes standing at this offset
+-- the slash at n, the first of the bytes being at this offset
 pub record Cut (at n : ℕ) (bytes : List ℕ) : Type 0 where
   pub before : List ℕ
   pub after : List ℕ

@@ -29,7 +29,7 @@ le_false a b is = grind (arith, nat_tests)
 lt_false : (a b : ℕ) → nat_lt a b ≡ false → b ≤ a
 lt_false a b is = grind (arith, nat_tests)
 
--- what was read, and what stands behind it
+-- what was read, and what follows it
 pub record Taken (e : Record) (rest bytes : List ℕ) : Type 0 where
   pub parts : bytes ≡ block e ++ rest
   pub fits : Fits e
@@ -71,7 +71,7 @@ block_taken e rest bytes small is =
       more = omega (arith, sym (ap length parts.2), length-drop n behind, parts.0);
     }
 
--- a fault behind records is a fault of the whole
+-- an error after records is an error of the whole
 pub fault_from : (es : List Record) (most gate left : ℕ) (tail : List ℕ) → AllByRecursion Fits es → length (blocks es ++ gate ∷ tail) ≤ most
     → ((m : ℕ) → length (gate ∷ tail) ≤ m → records_from m (gate ∷ tail) ≡ Err left) → records_from most (blocks es ++ gate ∷ tail) ≡ Err left
 fault_from [] most gate left tail fits le fault = fault most le
@@ -154,6 +154,6 @@ next_taken es e bytes rest after parts small is = block_taken e after (drop 1 re
     behind : (i : ℕ) → get_or rest i 0 < 256
     behind i = subst (λ (n : ℕ). n < 256) (ap (λ (l : List ℕ). get_or l (length (front es) + i) 0) parts ∙ get_or-append-add (front es) rest i 0) (small (length (front es) + i))
 
--- what a reader says that finds no record
+-- what a reader returns that finds no record
 pub no_record : {V X : Type 0} (view : V → X) (e : Unread) (found : Option X) → e ≡ NoRecord → Gives view (Err e) found → found ≡ None
 no_record view e found is gives = subst (λ (e : Unread). Gives view (Err e) found) is gives

@@ -57,7 +57,7 @@ unless false x y e = (refl, e)
 lt_false : (a b : ℕ) → nat_lt a b ≡ false → b ≤ a
 lt_false a b is = grind (arith, nat_tests)
 
--- what was read from the front, as it is spelled, and what stands behind it
+-- what was read from the start, as it is spelled, and what follows it
 record Front (spelled rest bytes : List ℕ) : Type 0 where
   parts : bytes ≡ spelled ++ rest
   small : IsBytes rest
@@ -93,7 +93,7 @@ raw_taken text rest bytes small is =
       },
     )
 
--- a reading gives only what is printed as the text that was read
+-- a reading returns only what is printed as the text that was read
 abbrev Prints : {A : Type 0} → (List ℕ → Option A) → (A → List ℕ) → Type 0
 Prints {A} reading text = (t : List ℕ) (a : A) → reading t ≡ Some a → text a ≡ t
 

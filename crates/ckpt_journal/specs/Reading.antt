@@ -98,7 +98,7 @@ records_from _ [] = Err 0
 records_from zero (gate ∷ bytes) = Err (length bytes + 1)
 records_from (suc most) (gate ∷ bytes) = if gate == 90 then if_block (length bytes + 1) (records_from most) (block_at bytes) else Ok []
 
--- the first offset where bytes aren't as they should be, or are missing
+-- the first offset at which bytes aren't as they should be, or are missing
 abbrev pub differs_at : ℕ → List ℕ → List ℕ → Option ℕ
 differs_at at [] bytes = None
 differs_at at (m ∷ ms) [] = Some at

@@ -17,17 +17,17 @@ Has rs bytes = records bytes ≡ Ok rs
 abbrev pub IsBeforeOrAfter : List Record → Record → List ℕ → Type 0
 IsBeforeOrAfter before item bytes = Has before bytes ⊎ Has (before ++ item ∷ []) bytes
 
--- the records of what a read gives, where the disk tells that
+-- the records of what a read returns, if the disk exposes that
 abbrev pub recorded : Option Content → List Record
 recorded None = []
 recorded (Some c) = elim (records c.bytes) [ Ok rs ↦ rs | Err at ↦ [] ]
 
--- what a read gives has these records, and so has whatever a crash leaves, if the disk is honest
+-- what a read returns has these records, and so has whatever a crash leaves, if the disk is honest
 pub record Keeps (rs : List Record) (c : Content) : Type 0 where
   pub read : Has rs c.bytes
   pub images : IsTrue c.honest → Leaves (Has rs) c.sure
 
--- these records and then a closed gate at this offset, and all that a read gives is sure
+-- these records and then a closed gate at this offset, and all that a read returns is sure
 pub record Settled (rs : List Record) (end : ℕ) (c : Content) : Type 0 where
   pub gate : ℕ
   pub tail : List ℕ
@@ -69,7 +69,7 @@ Returns records_of (Ok x) read = read ≡ Ok (records_of x)
 Returns records_of (Err (NotAJournal at)) read = read ≡ Err at
 Returns records_of (Err e) read = Unit {0}
 
--- an error that reading bytes may give
+-- an error that reading bytes may return
 abbrev pub IsOfBytes : JournalError → Type 0
 IsOfBytes (NotAJournal at) = Unit {0}
 IsOfBytes Memory = Unit {0}

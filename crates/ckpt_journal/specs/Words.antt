@@ -1,4 +1,4 @@
--- What clauses say of a journal.
+-- What clauses say about a journal.
 use Rattle.std.specs.Prelude.{ℕ, Bool}
 use Rattle.dra_ports.specs.declared.disk.Disk.{Ghosts}
 use Rattle.ckpt_journal.specs.declared.state.Journal.{Journal}
@@ -6,7 +6,7 @@ use Rattle.ckpt_journal.specs.declared.state.Journal.{Journal}
 abbrev pub disk_of : {D : Type 0} {ghosts : Ghosts D} → Journal D ghosts → D
 disk_of j = j.disk
 
--- a fault of the disk has ended it
+-- an error of the disk has ended it
 abbrev pub has_ended : {D : Type 0} {ghosts : Ghosts D} → Journal D ghosts → Bool
 has_ended j = j.ended
 

@@ -8,7 +8,7 @@ use dra_values::{Seq, Text};
 use object_fields::{DeviceId, Key};
 use std::alloc::Global;
 
-/// A number of 16 bits at the front, and what follows it.
+/// A number of 16 bits at the start, and what follows it.
 #[tactic(auto, unfolding(crate::specs::Reading::count_at))]
 fn take_count(bytes: &[u8]) -> Result<(usize, &[u8]), Unread>
     ensures { Gives (λ x. (x.0, x.1.now)) result (count_at bytes.now) }
@@ -20,7 +20,7 @@ fn take_count(bytes: &[u8]) -> Result<(usize, &[u8]), Unread>
     Ok((u16::from_be_bytes([count[0], count[1]]) as usize, rest))
 }
 
-/// A number of 16 bits at the front, that many bytes, and what follows them.
+/// A number of 16 bits at the start, that many bytes, and what follows them.
 fn take_raw(bytes: &[u8]) -> Result<(&[u8], &[u8]), Unread>
     ensures { Gives (λ x. (x.0.now, x.1.now)) result (raw_at bytes.now) }
 {
@@ -31,7 +31,7 @@ fn take_raw(bytes: &[u8]) -> Result<(&[u8], &[u8]), Unread>
     Ok(rest.split_at(len))
 }
 
-/// A name at the front, and what follows it.
+/// A name at the start, and what follows it.
 #[tactic(auto, unfolding(crate::specs::Reading::name_at))]
 fn take_name<T: Named>(alloc: Global, bytes: &[u8]) -> Result<(T, &[u8]), Unread>
     ensures { Gives (λ x. (x.0, x.1.now)) result (name_at T.reading bytes.now) }
@@ -40,7 +40,7 @@ fn take_name<T: Named>(alloc: Global, bytes: &[u8]) -> Result<(T, &[u8]), Unread
     Ok((T::read(alloc, name)?, rest))
 }
 
-/// A count at the front, that many names, and what follows them.
+/// A count at the start, that many names, and what follows them.
 #[tactic(auto, unfolding(crate::specs::Reading::names_at))]
 fn take_names<T: Named + Drop>(alloc: Global, bytes: &[u8]) -> Result<(Seq<T>, &[u8]), Unread>
     ensures { Gives (λ x. (x.0, x.1.now)) result (names_at T.reading bytes.now) }
@@ -49,7 +49,7 @@ fn take_names<T: Named + Drop>(alloc: Global, bytes: &[u8]) -> Result<(Seq<T>, &
     take_each(alloc, count, rest)
 }
 
-/// So many names at the front, and what follows them.
+/// So many names at the start, and what follows them.
 fn take_each<T: Named + Drop>(
     alloc: Global,
     count: usize,
@@ -67,7 +67,7 @@ fn take_each<T: Named + Drop>(
     Ok((names, rest))
 }
 
-/// The fields of a claim at the front, and what follows them.
+/// The fields of a claim at the start, and what follows them.
 #[tactic(auto, unfolding(crate::specs::Reading::claim_at))]
 fn take_claim(alloc: Global, bytes: &[u8]) -> Result<(Claim, &[u8]), Unread>
     ensures { Gives (λ x. (x.0, x.1.now)) result (claim_at bytes.now) }

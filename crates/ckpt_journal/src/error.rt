@@ -6,10 +6,10 @@ use dra_ports::PortError;
 use std::alloc::{AllocError, AllocFailed};
 use thiserror::Error;
 
-/// Why a journal did not do what it was asked.
+/// Why a call on a journal failed.
 #[derive(Clone, Copy, Debug, PartialEq, Eq, Drop, Error)]
 pub enum JournalError {
-    /// The disk failed: its count of faults rose, or is at its last value, 2^64-1. A journal that was
+    /// The disk failed: its error count rose, or is at its last value, 2^64-1. A journal that was
     /// open has ended.
     #[error("the disk failed")]
     DiskFault,
@@ -18,7 +18,7 @@ pub enum JournalError {
     /// cut, has no next gate, or isn't one.
     #[error("not a journal at byte {0}")]
     NotAJournal(u64),
-    /// The file would pass 67,108,864 bytes, or a text or a count of the record is over 65,535.
+    /// The file would exceed 67,108,864 bytes, or a text or a count of the record is over 65,535.
     /// Nothing was changed.
     #[error("the journal is full")]
     Full,
@@ -30,7 +30,7 @@ pub enum JournalError {
     Memory,
 }
 
-/// A disk never runs out of memory: it counts that as a fault.
+/// A disk never runs out of memory: it counts that as an error of its own.
 impl From<PortError> for JournalError {
     ghost from_gives = { λ _ e. e ≡ errors.DiskFault };
 

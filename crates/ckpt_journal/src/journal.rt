@@ -23,11 +23,11 @@ impl<D: Disk> Journal<D> {
     /// key's namespace ends at its first `/`, and in a device id the driver ends at the first `/` and the
     /// device begins after the last.
     ///
-    /// `Closed` is the error if and only if an earlier call on this journal returned `DiskFault`. `Full`
-    /// is the error where a text or a count of the record is over 65,535 or the file would pass
-    /// 67,108,864 bytes, and only there; then no call returns `Ok`. `Memory` is the error only where
-    /// memory runs out, and `DiskFault` only where the disk's count of faults rose in this call. All but
-    /// `DiskFault` change nothing; that ends the journal.
+    /// `Closed` is returned if and only if an earlier call on this journal returned `DiskFault`. `Full`
+    /// is returned only if a text or a count of the record is over 65,535 or the file would exceed
+    /// 67,108,864 bytes, and if so no call returns `Ok`. `Memory` is returned only if memory runs out,
+    /// and `DiskFault` only if the disk's error count rose in this call or is at its last value. All
+    /// errors but `DiskFault` change nothing; that one ends the journal.
     pub fn append(&mut self, alloc: Global, item: &Record) -> Result<(), JournalError>
         requires { ReadsBack item.now }
         ensures any_moment { has_ended self.old ≡ false → AtEachMoment (IsBeforeOrAfter (recorded (D.content (disk_of self.old))) item.now) (D.content (disk_of self.old)) (D.content (disk_of self.new)) }
@@ -92,10 +92,10 @@ impl<D: Disk> Journal<D> {
     /// Syncs the disk, so that what is read is stable, and reads its records, up to the first closed
     /// gate.
     ///
-    /// `NotAJournal(offset)` is the error where the bytes are no journal, and only there. `Memory` is the
-    /// error only where memory runs out, and `DiskFault` only where the disk's count of faults rose in
-    /// this call. With each other result the count stays. An error hands the disk back, to which nothing
-    /// was written.
+    /// `NotAJournal(offset)` is returned only if the bytes are no journal, and if so no call returns
+    /// `Ok`. `Memory` is returned only if memory runs out, and `DiskFault` only if the disk's error count
+    /// rose in this call or is at its last value. With every other result the count does not change. An
+    /// error hands the disk back, to which nothing was written.
     ///
     /// What was read may be appended again: its keys and device ids read back.
     pub fn open(
@@ -138,7 +138,7 @@ impl<D: Disk> Journal<D> {
         let _ended = self.ended;
     }
 
-    /// Hands the disk back as it is. Touches nothing and takes no memory.
+    /// Hands the disk back unchanged. Touches nothing and allocates nothing.
     pub fn close(self) -> D
         ensures { result ≡ disk_of self }
     {

@@ -26,7 +26,7 @@ pub trait Named: Sized {
     fn read(alloc: Global, bytes: &[u8]) -> Result<Self, Unread>
         ensures { Reads result (reading bytes.now) };
 
-    /// The length of the printed form in bytes, or 2^64-1 where it is longer. Takes no memory.
+    /// The length of the printed form in bytes, or 2^64-1 if it is longer. Allocates nothing.
     fn text_len(&self) -> usize
         ensures { result ≡ min (length (text self.now)) (2 ^ 64 - 1) };
 

@@ -10,7 +10,7 @@ use crate::spelling::{HEADER, OPEN};
 use crate::{JournalError, Record};
 use std::alloc::Global;
 
-/// The first offset where the header is wrong or missing.
+/// The first offset at which the header is wrong or missing.
 #[tactic(auto, unfolding(crate::specs::Format::header))]
 fn header_fault(bytes: &[u8]) -> Option<u64>
     ensures { result ≡ differs_at 0 header bytes.now }
@@ -26,7 +26,7 @@ fn header_fault(bytes: &[u8]) -> Option<u64>
     None
 }
 
-/// The record of a body of `len` bytes at the front, and what follows it from the next gate on.
+/// The record of a body of `len` bytes at the start, and what follows it from the next gate on.
 #[tactic(auto, unfolding(crate::specs::Reading::body_at))]
 fn take_body(alloc: Global, len: usize, bytes: &[u8]) -> Result<(Record, &[u8]), Unread>
     ensures { Gives (λ x. (x.0, x.1.now)) result (body_at len bytes.now) }
@@ -53,7 +53,7 @@ fn take_block(alloc: Global, bytes: &[u8]) -> Result<(Record, &[u8]), Unread>
 
 /// The records up to the first closed gate, and the offset of that gate.
 ///
-/// The error is `NotAJournal` where the bytes are no journal, and `Memory` only where memory runs out.
+/// The error is `NotAJournal` if the bytes are no journal, and `Memory` only if memory runs out.
 pub fn read_records(alloc: Global, bytes: &[u8]) -> Result<(u64, Vec<Record>), JournalError>
     ensures exact { Returns (λ x. x.1.items) result (records bytes.now) }
     ensures ends { IfOk result (λ x. EndsAt x.1.items x.0 bytes.now) }

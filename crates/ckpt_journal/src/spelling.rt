@@ -172,8 +172,8 @@ fn framed(alloc: Global, body: &[u8]) -> Result<Vec<u8>, AllocError>
 
 /// What is written behind the closed gate at the offset `gate`: a record and the next gate, closed.
 ///
-/// The error is `Full` where a text or a count of the record is over 65,535 or the file would pass
-/// 67,108,864 bytes, and `Memory` only where memory runs out.
+/// The error is `Full` only if a text or a count of the record is over 65,535 or the file would exceed
+/// 67,108,864 bytes, and if so the result is not `Ok`. It is `Memory` only if memory runs out.
 pub fn spelled(alloc: Global, item: &Record, gate: u64) -> Result<Vec<u8>, JournalError>
     requires { ReadsBack item.now }
     ensures bytes { IfOk result (λ v. v.items ≡ block item.now ++ 0 ∷ []) }

@@ -10,7 +10,7 @@ pub struct Journal<D: Disk> {
     pub(crate) disk: D,
     /// The offset of the first closed gate.
     pub(crate) end: u64,
-    /// Whether a fault of the disk has ended the journal.
+    /// Whether an error of the disk has ended the journal.
     pub(crate) ended: bool,
     ghost kept: { ended ≡ false → IfSome (D.content disk) (IsSettled (recorded (D.content disk)) end) } by { Prim.hlevel props },
     ghost small: { end < 2 ^ 63 },

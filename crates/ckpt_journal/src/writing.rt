@@ -64,8 +64,8 @@ pub fn write<D: Disk>(disk: &mut D, end: u64, bytes: &[u8]) -> Result<(), PortEr
 /// Makes a journal of no record out of whatever the disk holds, and makes it stable. Before this has
 /// returned `Ok` a crash may leave anything.
 ///
-/// The only error is `DiskFault`, and only where the disk's count of faults rose in this call. With
-/// `Ok` the count stays. Takes no memory.
+/// The only error is `DiskFault`, and only if the disk's error count rose in this call or is at its
+/// last value. With `Ok` the count does not change. Allocates nothing.
 pub fn format<D: Disk>(disk: &mut D) -> Result<(), JournalError>
     ensures ok { OnOk result (IfSome (D.content disk.new) (Keeps [])) }
     ensures no_fault { OnOk result (D.faults disk.new ≡ D.faults disk.old) }

@@ -5,7 +5,7 @@ use dra_ports::MemSource;
 use http_wire::{Request, RequestReader, WireError};
 use std::alloc::{AllocError, Global};
 
-/// The word of an error.
+/// The name of an error.
 pub fn word(error: WireError) -> Result<&'static str, AllocError> {
     match error {
         WireError::BadHead => Ok("BadHead"),
@@ -28,7 +28,7 @@ fn push_request(alloc: Global, text: &mut String, request: &Request) -> Result<(
     text.push_str(line.as_str())
 }
 
-/// Prints what a call returned. Whether there may be more.
+/// Prints what a call returned. Returns whether there may be more.
 fn push_answer(
     alloc: Global,
     text: &mut String,

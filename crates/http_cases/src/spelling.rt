@@ -55,7 +55,7 @@ fn repeated(text: &[u8]) -> Run<'_> {
     }
 }
 
-/// What stands behind a backslash.
+/// What follows a backslash.
 fn escaped(kind: u8, rest: &[u8]) -> Run<'_> {
     match kind {
         b'r' => one(b'\r', rest),

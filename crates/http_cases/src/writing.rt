@@ -13,7 +13,7 @@ fn sink(alloc: Global, failing: Vec<u64>) -> Result<MemSink, AllocError> {
     }
 }
 
-/// What a sink holds behind a reply, or the word of the error.
+/// What a sink holds after a reply, or the name of the error.
 fn written(alloc: Global, reply: &Reply, failing: Vec<u64>) -> Result<String, AllocError> {
     let mut to = sink(alloc, failing)?;
     match write_reply(alloc, &mut to, reply) {

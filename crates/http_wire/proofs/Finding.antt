@@ -15,7 +15,7 @@ use Rattle.http_wire.specs.Steps.{EndsAt, Finds, Kept}
 use Rattle.http_wire.proofs.Ends.{blank_is, found_is, long_is, open_is, undone_is}
 use Rattle.http_wire.proofs.Known.{consumes_more, joined_kept, kept_left, lost_all}
 
--- a scan that stands behind as many bytes as it may
+-- a scan that is done, or has gone over as many bytes as it may
 pub record Stopped (bytes : List ℕ) (scan : Scan) : Type 0 where
   pub within : scan.count ≤ min (length bytes) 16384
   pub behind : IsBehind (take scan.count bytes) scan

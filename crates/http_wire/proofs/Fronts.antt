@@ -1,4 +1,4 @@
--- A head at the front of bytes is the same whatever follows, and there is one.
+-- A head at the start of bytes is the same whatever follows, and there is one.
 use Rattle.std.proofs.Common.{ℕ, ◌+◌, ◌-◌, ◌≤◌, ◌≡◌, ◌∙◌, Bool, true, false, cond, eqb, nat_lt, ◌&&◌, ◌||◌, List, [], ◌∷◌, ◌++◌, length, take, drop, get_or, refl, sym, ap, arith, option_map}
 use Rattle.std.specs.Prelude.{Option, None, Some}
 use Rattle.std.proofs.Math.Seq.{take-append-add}
@@ -111,7 +111,7 @@ through_more (b ∷ []) ys n h = by_none n (through_empty (b ∷ [])) (none_one 
 through_more (b ∷ c ∷ []) ys n h = two_lines b c n ys (eqb c 10) refl h
 through_more (b ∷ c ∷ d ∷ ds) ys n h = through_by b (c ∷ d ∷ ds) (c ∷ d ∷ (ds ++ ys)) n (eqb b 10 && nat_lt 0 (empty_line (c ∷ d ∷ ds))) refl (empty_two c d ds ys) (λ k j. through_more (c ∷ d ∷ ds) ys k j) h
 
--- a head at the front of bytes
+-- a head at the start of bytes
 
 pub record Fronted (bytes front lines rest : List ℕ) : Type 0 where
   pub is : bytes ≡ front ++ rest
@@ -145,7 +145,7 @@ split_same (x ∷ a) (y ∷ b) c d l e =
     let first : x ≡ y = ap (λ (l : List ℕ). get_or l 0 0) e in
     (ap (λ (l : List ℕ). x ∷ l) r.0 ∙ ap (λ (z : ℕ). z ∷ b) first, r.1)
 
--- two heads at the front of the same bytes are one
+-- two heads at the start of the same bytes are one
 pub record Same (front lines rest front' lines' rest' : List ℕ) : Type 0 where
   pub fronts : front ≡ front'
   pub lines_are : lines ≡ lines'

@@ -52,7 +52,7 @@ joined_kept ahead ahead_now piece (Some xs) (Some ys) e p = ap (λ (l : List ℕ
 pub kept_left : (ahead ahead_now : List ℕ) (left left_now : Option (List ℕ)) → ahead_now ≡ ahead → Consumes left left_now [] → Consumes (remaining ahead left) (remaining ahead_now left_now) []
 kept_left ahead ahead_now left left_now e p = joined_kept ahead ahead_now [] left left_now (e ∙ sym (append-nil ahead)) p
 
--- what holds with an error holds with the answer that is this error
+-- what holds with an error holds with the result that is this error
 pub by_error : {T : Type 0} (P : Result T WireError → Type 0) (r : Result T WireError) (e : WireError) → IsErrAnd r (λ d. d ≡ e) → P (Err e) → P r
 by_error P (Ok t) e h p = absurd h
 by_error P (Err d) e h p = subst (λ (x : WireError). P (Err x)) (sym h) p

@@ -26,7 +26,7 @@ first_turn x xs false e h =
     let s : 1 + position_or_len comma xs ≡ suc (position_or_len comma xs) = omega arith in
     (h.0, slice_split-cons_no comma x xs e ∙ ap (onto_first x) h.1 ∙ ap (λ (k : ℕ). take k (x ∷ xs) ∷ h.0) (sym s))
 
--- the first option stands before the first comma
+-- the first option comes before the first comma
 pub first_option : (xs : List ℕ) → (others : List (List ℕ)) × (slice_split comma xs ≡ take (position_or_len comma xs) xs ∷ others)
 first_option [] = ([], refl)
 first_option (x ∷ xs) = first_turn x xs (eqb x 44) refl (first_option xs)

@@ -10,7 +10,7 @@ use Rattle.http_wire.specs.declared.scan.Scan.{Scan}
 use Rattle.http_wire.specs.Heads.{behind_empty, through_empty}
 use Rattle.http_wire.specs.Scan.{BehindEmpty, BehindLines, InLines, IsBehind, IsBehindAt, blank_after, next_place, scan_after, shift}
 
--- empty lines at the front
+-- empty lines at the start
 
 empty_lf : (more : List ℕ) → behind_empty (10 ∷ more) ≡ behind_empty more
 unfolding behind_empty
@@ -91,7 +91,7 @@ goes_three b more e =
     ∙ ap (shift 1) (goes_other 13 (b ∷ more) refl ∙ ap (shift 1) (goes_other b more e) ∙ shift_more 1 1 (through_empty more))
     ∙ shift_more 1 2 (through_empty more)
 
--- one byte more, by what stands before it
+-- one byte more, by what comes before it
 
 join : (front more : List ℕ) (b : ℕ) → (front ++ b ∷ []) ++ more ≡ front ++ b ∷ more
 join front more b = append_assoc front (b ∷ []) more

@@ -11,7 +11,7 @@ use Rattle.http_wire.specs.Heads.{HasNoHead, IsBlank, IsHead, IsLongHead, IsOpen
 use Rattle.http_wire.specs.Requests.{AreRequests, BadHead, Closed, EndedEarly, Ending, Follow, HasMeaning, IsBadHead, IsFirst, IsNoHead, IsRequest, IsTooLong, Lie, Message, NoLength, Says, Stops, TooLong, message_of}
 use Rattle.http_wire.proofs.Fronts.{Fronted, none_at_all, no_head_there, one_head, split_same}
 
--- what a head that stands at the front is found to be
+-- what a head at the start is found to be
 data Verdict : Type 0 where
   Bare : Verdict
   Crowded : Verdict
@@ -39,7 +39,7 @@ judged_same lines (Meant r) Bare h k = absurd (k.1 h.1.head h.1.reads)
 judged_same lines (Meant r) Crowded h k = absurd (too_many (line_count lines) h.0 k)
 judged_same lines (Meant r) (Meant q) h k = ap (λ (x : Result Head WireError). Meant x) (meant_same lines r q h.1 k.1)
 
--- bytes with a head at their front
+-- bytes with a head at their start
 record Headed (bytes front lines rest : List ℕ) (v : Verdict) : Type 0 where
   at : Fronted bytes front lines rest
   judged : VerdictGiven lines v
@@ -54,7 +54,7 @@ same_head bytes front lines rest front' lines' rest' v v' h k =
     let s = one_head bytes front lines rest front' lines' rest' h.at k.at in
     record { fronts = s.fronts; rests = s.rests; verdicts = judged_same lines' v v' (subst (λ (l : List ℕ). VerdictGiven l v) s.lines_are h.judged) k.judged }
 
--- how the requests end where no request stands first
+-- how the requests end if the bytes begin with no request
 
 abbrev ending_of : Verdict → Option Ending
 ending_of Bare = Some BadHead
@@ -246,7 +246,7 @@ lie_one bytes (m ∷ ms) (n ∷ ns) e f h k =
     let r = go_on m.last h.1 ms ns e f h.4 there (λ p q. lie_one h.1 ms ns e f p q) in
     (ap (λ (x : Message). x ∷ ms) s.0 ∙ ap (λ (l : List Message). n ∷ l) r.0, r.1)
 
--- a request that stands first is the first of them
+-- a request that the bytes begin with is the first of them
 
 pub lie_first : (text rest : List ℕ) (m : Message) (ms : List Message) (e : Ending) → IsRequest text m → Lie (text ++ rest) ms e → IsFirst m rest ms e
 lie_first text rest m [] e r h = absurd (request_or_ending (text ++ rest) text rest m e refl r (shape_of (text ++ rest) e h))

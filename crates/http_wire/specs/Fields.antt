@@ -1,4 +1,5 @@
--- What a request's head says of its body and of the connection (RFC 9110, section 8.6; RFC 9112, sections 6 and 9.6).
+-- What a request's head states about its body and the connection (RFC 9110, section 8.6; RFC 9112, sections 6
+-- and 9.6).
 use Rattle.std.specs.Prelude.{ℕ, ◌+◌, ◌*◌, ◌-◌, ◌==◌, ◌&&◌, ◌||◌, nat_le, nat_lt, Bool, List, [], ◌∷◌, Result, Ok, Err, codes, drop, take, length, map, if◌then◌else◌}
 use Rattle.std.specs.Char.{is_ascii_digit}
 use Rattle.std.specs.Str.{bytes_eq, str_eq_ignore_ascii_case}
@@ -9,7 +10,7 @@ use Rattle.http_wire.specs.declared.error.WireError.{WireError}
 use Rattle.http_wire.specs.declared.error.WireError.TheVariants.{BadHead, NoLength, TooLong}
 use Rattle.http_wire.specs.declared.head.Head.{Head}
 
--- the values of the fields with a name, in order; upper and lower case are one
+-- the values of the fields with a name, in order; ignoring ASCII case
 abbrev pub values_of : List ℕ → List (List ℕ × List ℕ) → List (List ℕ)
 values_of name [] = []
 values_of name (f ∷ fs) = if str_eq_ignore_ascii_case f.0 name then f.1 ∷ values_of name fs else values_of name fs
@@ -30,7 +31,7 @@ abbrev pub number_after : ℕ → List ℕ → ℕ
 number_after n [] = n
 number_after n (b ∷ bs) = number_after (n * 10 + (b - 48)) bs
 
--- a POST or a PUT has to say how long its body is
+-- a POST or a PUT has to state the length of its body
 abbrev pub wants_length : List ℕ → Bool
 wants_length method = bytes_eq method (codes "POST") || bytes_eq method (codes "PUT")
 
@@ -42,7 +43,7 @@ abbrev pub at_most_body : ℕ → Result ℕ WireError
 at_most_body n = if nat_le n body_most then Ok n else Err TooLong
 
 -- how many bytes the body has by the lengths that are stated, whether there is a field `Transfer-Encoding`, and
--- whether a length is wanted
+-- whether a length is needed
 abbrev pub length_by : List (List ℕ) → Bool → Bool → Result ℕ WireError
 length_by [] encoded wanted = if encoded || wanted then Err NoLength else Ok 0
 length_by (value ∷ values) encoded wanted =

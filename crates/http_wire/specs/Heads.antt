@@ -1,4 +1,4 @@
--- Where a head stands in bytes (RFC 9112, sections 2.1 and 2.2): lines that end with LF, where a CR before
+-- Where a head is in bytes (RFC 9112, sections 2.1 and 2.2): lines that end with LF, where a CR before
 -- the LF belongs to the end, up to the first empty one behind one that isn't empty.
 use Rattle.std.specs.Prelude.{ℕ, ◌≡◌, ◌≤◌, ◌<◌, ◌+◌, ◌==◌, ◌&&◌, ◌||◌, nat_lt, Bool, false, List, [], ◌∷◌, Option, None, Some, option_map, length, take, count_by, if◌then◌else◌}
 

@@ -21,7 +21,7 @@ Reads lines (Err error.ReadFault) = ⊥
 Reads lines (Err error.WriteFault) = ⊥
 Reads lines (Err error.Memory) = Unit {0}
 
--- the answer is what the head says, but where memory runs out
+-- the result is what the head says, unless memory runs out
 abbrev pub Gives : Result Head WireError → Result Head WireError → Type 0
 Gives (Ok head) meaning = meaning ≡ Ok head
 Gives (Err error.BadHead) meaning = meaning ≡ Err error.BadHead

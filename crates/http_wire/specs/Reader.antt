@@ -20,7 +20,7 @@ read_error port.Memory = error.Memory
 abbrev pub remaining : List ℕ → Option (List ℕ) → Option (List ℕ)
 remaining ahead left = prepend_known ahead left
 
--- what remained begins with bytes of which this holds, and behind them stands the rest
+-- what remained begins with bytes of which this holds, and the rest follows them
 pub record Begins (ahead : List ℕ) (left rest : Option (List ℕ)) (P : List ℕ → Type 0) : Type 0 where
   pub front : List ℕ
   pub consumed : Consumes (remaining ahead left) rest front
@@ -33,8 +33,8 @@ message r = record { method = r.method; target = r.target; body = r.body.items; 
 abbrev pub IsUndone : List ℕ → Type 0
 IsUndone front = IsBlank front ⊎ IsOpen front
 
--- what each answer says of the bytes that remained before the call and remain after it. Behind a request that is
--- refused stands what was taken of the source besides, and what it has left
+-- what each result means for the bytes that remained before the call and remain after it. A request that is
+-- refused is followed by what else was taken from the source, and what it has left
 abbrev pub Answers : List ℕ → List ℕ → Option (List ℕ) → Option (List ℕ) → Result (Option Request) WireError → Type 0
 Answers ahead ahead_now left left_now (Ok (Some r)) = Begins ahead left (remaining ahead_now left_now) (λ front. IsRequest front (message r))
 Answers ahead ahead_now left left_now (Ok None) = Begins ahead left (remaining ahead_now left_now) IsBlank × IsAtEnd (remaining ahead_now left_now)
@@ -46,7 +46,8 @@ Answers ahead ahead_now left left_now (Err error.ReadFault) = Begins ahead left 
 Answers ahead ahead_now left left_now (Err error.WriteFault) = ⊥
 Answers ahead ahead_now left left_now (Err error.Memory) = ConsumesFront (remaining ahead left) left_now
 
--- the count of faults never falls, `ReadFault` comes only where it rose, and with each other answer it stays
+-- the error count never falls, `ReadFault` is returned only if it rose or is at its last value, and with every
+-- other result it does not change
 pub record HasReadCause {T : Type 0} (before now : ℕ) (result : Result T WireError) : Type 0 where
   pub later : before ≤ now
   pub failed : IsErrOf result error.ReadFault → Rose before now

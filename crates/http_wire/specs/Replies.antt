@@ -22,7 +22,7 @@ head_bytes code phrase kind long =
     ++ codes "Content-Length: " ++ decimal long ++ crlf
     ++ crlf
 
--- the phrase that `http` gives for the status; empty where it has none
+-- the phrase that `http` has for the status; empty if it has none
 unfoldable pub phrase_of : ℕ → List ℕ
 phrase_of status = unwrap_or (reason_phrase status) []
 
@@ -39,7 +39,8 @@ abbrev pub write_error : PortError → WireError
 write_error port.Failed = error.WriteFault
 write_error port.Memory = error.Memory
 
--- the count of faults never falls, `WriteFault` comes only where it rose, and with each other answer it stays
+-- the error count never falls, `WriteFault` is returned only if it rose or is at its last value, and with every
+-- other result it does not change
 pub record HasWriteCause (before now : ℕ) (result : Result (Unit {0}) WireError) : Type 0 where
   pub later : before ≤ now
   pub failed : IsErrOf result error.WriteFault → Rose before now

@@ -1,4 +1,4 @@
--- The requests that stand in bytes, one behind another.
+-- The requests in bytes, one after another.
 use Rattle.std.specs.Prelude.{ℕ, ◌≡◌, ◌≤◌, ◌<◌, ◌⊎◌, Bool, false, List, [], ◌∷◌, ◌++◌, Result, Ok, Err, MatchBool, length}
 use Rattle.httparse.specs.Grammar.{RequestHead, ReadsRequest}
 use Rattle.http_wire.specs.declared.error.WireError.{WireError}
@@ -84,12 +84,12 @@ IsOpen text = IsOpenHead text ⊎ IsOpenBody text
 pub data Ending : Type 0 where
   -- the input ends between two requests, or the last request ends the connection
   Closed : Ending
-  -- the next request is refused, and what stands behind it isn't looked at
+  -- the next request is refused, and what follows it isn't looked at
   BadHead NoLength TooLong : Ending
   -- the input ends inside a request
   EndedEarly : Ending
 
--- why no request stands first
+-- why the bytes begin with no request
 abbrev pub Stops : List ℕ → Ending → Type 0
 Stops bytes Closed = IsBlank bytes
 Stops bytes BadHead = (front rest : List ℕ) × (bytes ≡ front ++ rest) × IsBadHead front
@@ -97,13 +97,13 @@ Stops bytes NoLength = (front rest : List ℕ) × (bytes ≡ front ++ rest) × S
 Stops bytes TooLong = (front rest : List ℕ) × (bytes ≡ front ++ rest) × IsTooLong front
 Stops bytes EndedEarly = IsOpen bytes
 
--- the requests of bytes: these are the requests that stand in them in order, one behind another, and then this
--- ending; what stands behind a request that ends the connection isn't looked at
+-- the requests of bytes: these are the requests in them in order, one after another, and then this ending;
+-- what follows a request that ends the connection isn't looked at
 abbrev pub Lie : List ℕ → List Message → Ending → Type 0
 Lie bytes [] ending = Stops bytes ending
 Lie bytes (m ∷ ms) ending = (text rest : List ℕ) × (bytes ≡ text ++ rest) × IsRequest text m × MatchBool m.last ((ms ≡ []) × (ending ≡ Closed)) (Lie rest ms ending)
 
--- behind a request stand these requests and this ending
+-- a request is followed by these requests and this ending
 abbrev pub Follow : Message → List ℕ → List Message → Ending → Type 0
 Follow m rest ms ending = MatchBool m.last ((ms ≡ []) × (ending ≡ Closed)) (Lie rest ms ending)
 

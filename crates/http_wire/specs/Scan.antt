@@ -1,4 +1,4 @@
--- How the bytes of a head are gone over: where the next byte stands.
+-- How the bytes of a head are gone over: where the next byte is.
 use Rattle.std.specs.Prelude.{ℕ, ◌≡◌, ◌≤◌, ◌<◌, ◌+◌, ◌==◌, List, [], ◌∷◌, ◌++◌, Option, Some, option_map, length, drop, if◌then◌else◌}
 use Rattle.http_wire.specs.Heads.{behind_empty, through_empty}
 use Rattle.http_wire.specs.declared.scan.Place.{Place}
@@ -19,7 +19,7 @@ next_place Start b = at_start b Done StartReturn
 next_place StartReturn b = within b Done
 next_place Done b = Done
 
--- how many bytes the empty lines have so far, where the place behind so many bytes is this
+-- how many bytes the empty lines have so far, if this is the place after so many bytes
 abbrev pub blank_after : Place → ℕ → ℕ → ℕ
 blank_after Before count blank = count
 blank_after BeforeReturn count blank = blank

@@ -69,7 +69,7 @@ TakesBody ahead ahead_now left left_now long (Err error.ReadFault) = IsPart ahea
 TakesBody ahead ahead_now left left_now long (Err error.WriteFault) = ⊥
 TakesBody ahead ahead_now left left_now long (Err error.Memory) = ConsumesFront (remaining ahead left) left_now
 
--- what is found where the input ends and the next byte would stand at this place
+-- what is found if the input ends and the next byte would be at this place
 abbrev pub EndsAt : Place → Result (Option Scan) WireError → Type 0
 EndsAt place (Ok (Some scan)) = ⊥
 EndsAt place (Ok None) = place ≡ Before

@@ -22,10 +22,10 @@ pub enum WireError {
     /// The input ends inside a request.
     #[error("the input ends inside a request")]
     EndedEarly,
-    /// The source failed, and its count of faults rose, or stands at its last value, 2^64-1.
+    /// The source failed, and its error count rose, or is at its last value, 2^64-1.
     #[error("the connection can't be read")]
     ReadFault,
-    /// The sink failed, and its count of faults rose, or stands at its last value, 2^64-1.
+    /// The sink failed, and its error count rose, or is at its last value, 2^64-1.
     #[error("the connection can't be written")]
     WriteFault,
     /// Memory ran out.

@@ -11,7 +11,7 @@ use httparse::Header;
 /// The most bytes of a body: 2 MiB.
 const BODY: usize = 2_097_152;
 
-/// Whether two words are the same but for upper and lower case.
+/// Whether two texts are equal, ignoring ASCII case.
 fn is_same_word(left: &[u8], right: &[u8]) -> bool
     ensures { result ≡ str_eq_ignore_ascii_case left.now right.now }
 {
@@ -99,7 +99,7 @@ pub fn body_length(method: &str, headers: &[Header<'_>]) -> Result<usize, WireEr
     }
 }
 
-/// Whether a request with this method has to say how long its body is.
+/// Whether a request with this method has to state the length of its body.
 fn wants_length(method: &str) -> bool
     ensures { result ≡ wants_length method.now }
 {
@@ -170,7 +170,7 @@ fn has_close(value: &[u8]) -> bool
     }
 }
 
-/// How many bytes stand before the first comma, or in all.
+/// How many bytes come before the first comma; all of them if there is none.
 fn count_to_comma(bytes: &[u8]) -> usize
     ensures count { result ≡ position_or_len (λ b. b == 44) bytes.now }
     ensures within { result ≤ length bytes.now }

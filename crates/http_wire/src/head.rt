@@ -14,7 +14,7 @@ use std::alloc::Global;
 /// The most header lines of a head.
 const LINES: usize = 64;
 
-/// What a head says of its request.
+/// What a head states about its request.
 #[derive(Drop)]
 pub struct Head {
     pub method: Text,

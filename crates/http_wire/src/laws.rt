@@ -3,11 +3,11 @@ ghost use Rattle.http_wire.specs.Requests.{AreRequests, Ending, IsFirst, IsReque
 
 /// The requests of bytes lie in them in order, one behind another, up to an ending.
 ///
-/// Bytes have one list of requests and one ending (`one`), and a request that stands first is the
-/// first of them, with those of the bytes behind it (`first`): so a reader that takes the request
-/// that stands first, again and again, can give no others. Requests that don't end the connection,
-/// and one behind them that doesn't either, are such requests again (`more`). Behind them stand the
-/// requests and the ending of what follows (`ends`).
+/// Bytes have one list of requests and one ending (`one`), and a request that the bytes begin with is
+/// the first of them, followed by those of the bytes after it (`first`): so a reader that takes the
+/// first request, again and again, can return no others. Requests that don't end the connection, and
+/// one after them that doesn't either, are such requests again (`more`). After them come the requests
+/// and the ending of what follows (`ends`).
 pub fn requests_lie_in_order()
     ensures one { (bytes : List ℕ) (ms ns : List Message) (e f : Ending) → Lie bytes ms e → Lie bytes ns f → (ms ≡ ns) × (e ≡ f) }
     ensures first { (text rest : List ℕ) (m : Message) (ms : List Message) (e : Ending) → IsRequest text m → Lie (text ++ rest) ms e → IsFirst m rest ms e }

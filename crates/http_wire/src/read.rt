@@ -21,16 +21,16 @@ impl RequestReader {
     /// between its first line and the empty one that ends it. A body has as many bytes as
     /// `Content-Length` says, at most 2,097,152, or none.
     ///
-    /// If the source tells its bytes, a request is returned only if it is the first of what remains,
+    /// If the source exposes its contents, a request is returned only if it is the first of what remains,
     /// `None` only if at most 16,384 bytes of empty lines remain, and `BadHead`, `NoLength`,
     /// `TooLong` and `EndedEarly` only if what remains begins with a request that is refused, or
     /// ends early, for the reason that the variant names. They are looked at in the order `TooLong`
     /// of the head, `BadHead`, `NoLength`, `TooLong` of the body.
     ///
-    /// `ReadFault` is returned only if the source's count of faults rose in this call, or stands at
-    /// its last value, and only if no request stands whole in what was read; with every other result
-    /// the count stays. `Memory` is returned only if memory runs out. Nothing is said of a call after
-    /// an error.
+    /// `ReadFault` is returned only if the source's error count rose in this call, or is at its last
+    /// value, and only if what was read contains no whole request; with every other result the count
+    /// does not change. `Memory` is returned only if memory runs out. Nothing is promised about a call
+    /// after an error.
     pub fn read_request<S: Source>(
         &mut self,
         alloc: Global,
@@ -70,7 +70,7 @@ impl RequestReader {
         Ok(Some(head))
     }
 
-    /// Finds the end of the next head. None where empty lines alone are left, which are ahead then.
+    /// Finds the end of the next head. None if only empty lines are left, which are ahead then.
     fn find_head<S: Source>(
         &mut self,
         alloc: Global,
@@ -129,7 +129,7 @@ impl RequestReader {
     }
 }
 
-/// What is found where the input ends.
+/// What is found if the input ends here.
 fn at_end(place: Place) -> Result<Option<Scan>, WireError>
     ensures { EndsAt place result }
 {

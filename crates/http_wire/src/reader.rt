@@ -28,7 +28,7 @@ impl Model for RequestReader {
 }
 
 impl RequestReader {
-    /// A reader that has taken nothing. Takes no memory: the allocator is kept for its buffer.
+    /// A reader that has taken nothing. Allocates nothing: the allocator is kept for its buffer.
     pub fn new(alloc: Global) -> RequestReader
         ensures { result ≡ [] }
     {
@@ -45,7 +45,7 @@ impl RequestReader {
         &self.bytes[self.next..]
     }
 
-    /// Goes over so many of the bytes ahead.
+    /// Skips so many of the bytes ahead.
     pub(crate) fn advance(&mut self, count: usize)
         requires { count ≤ length self.old }
         ensures { self.new ≡ drop count self.old }

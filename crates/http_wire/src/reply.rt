@@ -19,11 +19,11 @@ pub struct Reply {
     pub body: Vec<u8>,
 }
 
-/// Writes a reply: the status line, with the phrase that `http` gives for the status, the type and
+/// Writes a reply: the status line, with the phrase that `http` has for the status, the type and
 /// the length of the body, an empty line, and the body.
 ///
-/// `WriteFault` is returned only if the sink's count of faults rose in this call, or stands at its
-/// last value, and `Memory` only if memory runs out. After either, some of the first bytes of the
+/// `WriteFault` is returned only if the sink's error count rose in this call, or is at its last
+/// value, and `Memory` only if memory runs out. After either, some of the first bytes of the
 /// reply may be written.
 pub fn write_reply<K: Sink>(alloc: Global, to: &mut K, reply: &Reply) -> Result<(), WireError>
     ensures bytes { OnOk result (Appends (K.written to.old) (K.written to.new) (reply_bytes reply.now)) }
@@ -75,7 +75,7 @@ fn digits_of(status: StatusCode) -> &'static str
     status.as_str()
 }
 
-/// The phrase that `http` gives for a status, or none.
+/// The phrase that `http` has for a status, or the empty text.
 #[tactic(auto, unfolding(crate::specs::Replies::phrase_of))]
 fn phrase_of(status: StatusCode) -> &'static str
     ensures { result.now ≡ phrase_of status }

@@ -3,9 +3,9 @@ use dra_values::Text;
 /// A request.
 #[derive(Drop)]
 pub struct Request {
-    /// The method, as it stands in the request line; upper and lower case differ.
+    /// The method, as it is in the request line; upper and lower case differ.
     pub method: Text,
-    /// The target, as it stands in the request line, with what follows a `?` and without escapes
+    /// The target, as it is in the request line, with what follows a `?` and without escapes
     /// decoded.
     pub target: Text,
     /// The body: as many bytes as `Content-Length` says, or none.

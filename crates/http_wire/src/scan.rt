@@ -3,7 +3,7 @@ ghost use Rattle.http_wire.specs.Heads.{head_most};
 ghost use Rattle.http_wire.specs.Scan.{IsBehind, at_start, begins, blank_after, next_place, scan_after, within};
 ghost use Rattle.http_wire.specs.declared.scan.Place.TheVariants.{Before, Done};
 
-/// Where the next byte stands in a head.
+/// Where in a head the next byte is.
 #[derive(Clone, Copy, Debug, PartialEq, Eq, Drop)]
 pub enum Place {
     /// At the beginning of a line, behind empty lines alone.
@@ -76,7 +76,7 @@ impl Scan {
     }
 }
 
-/// How many bytes the empty lines have so far, where the place behind so many bytes is this.
+/// How many bytes the empty lines have so far, if this is the place after `count` bytes.
 fn blank_after(place: Place, count: usize, blank: usize) -> usize
     ensures { result ≡ blank_after place count blank }
 {
@@ -118,7 +118,7 @@ pub fn is_before(place: Place) -> bool
     }
 }
 
-/// Where the byte behind this one stands.
+/// The place of the byte after this one.
 fn next_place(place: Place, byte: u8) -> Place
     ensures { result ≡ next_place place byte }
 {
@@ -132,7 +132,7 @@ fn next_place(place: Place, byte: u8) -> Place
     }
 }
 
-/// Where the byte behind this one stands, which begins a line.
+/// The place of the byte after this one, which begins a line.
 fn at_start(byte: u8, end: Place, behind_return: Place) -> Place
     ensures { result ≡ at_start byte end behind_return }
 {
@@ -143,7 +143,7 @@ fn at_start(byte: u8, end: Place, behind_return: Place) -> Place
     }
 }
 
-/// Where the byte behind this one stands, which may end a line.
+/// The place of the byte after this one, which may end a line.
 fn within(byte: u8, end: Place) -> Place
     ensures { result ≡ within byte end }
 {

@@ -21,7 +21,7 @@ use Rattle.ready_objects.proofs.Gathered.{given, text_ok, then_ok}
 abbrev refusal : {A : Type 0} → FieldError → Result A FieldError
 refusal e = Err e
 
--- the answer, where each text is a selector
+-- the result, if each text is a selector
 abbrev decided : {B : Type 0} → List SelectorAt → Result B FieldError → Result B FieldError
 decided [] r = r
 decided (s ∷ ss) r = text_at s.path s.text >>= λ text. decided ss r
@@ -94,7 +94,7 @@ each_compiles (s ∷ ss) b h =
     let u = text_ok s.path s.text p.0 (selector_of s.text) p.1.0 in
     (record { compiled = u.0; is = u.1.0 }, each_compiles ss b p.1.1)
 
--- selectors in front change nothing
+-- selectors before it change nothing
 behind_selectors : {B : Type 0} (ss : List SelectorAt) (r : Result B FieldError) → EachCompiles ss → decided ss r ≡ r
 behind_selectors [] r h = refl
 behind_selectors (s ∷ ss) r h =

@@ -15,21 +15,21 @@ use Rattle.api_cluster.specs.declared.types.DeviceClass.{DeviceClass}
 use Rattle.device_match.specs.Selectors.{selector_of}
 use Rattle.ready_objects.specs.Ready.{IsReadyClaim, IsReadyClass, class_path, kind_selectors, kind_texts, options_from, requests_from, requests_path, selectors_path, text_at, text_by, texts_at, texts_from}
 
--- an answer of a reading
+-- a result of a reading
 abbrev pub given : {A : Type 0} → A → Result A FieldError
 given x = Ok x
 
--- both readings gave something
+-- both readings returned a value
 pub then_ok : {A B : Type 0} (x : Result A FieldError) (f : A → Result B FieldError) (b : B) → x >>= f ≡ Ok b → (a : A) × ((x ≡ Ok a) × (f a ≡ Ok b))
 then_ok (Ok a) f b h = (a, (refl, h))
 then_ok (Err e) f b h = cc
 
--- the text is a selector, and is what is given
+-- the text is a selector, and is what is returned
 pub text_ok : {A : Type 0} (path : List Step) (text s : List ℕ) (r : Result A Stage) → text_by path text r ≡ Ok s → (a : A) × ((r ≡ Ok a) × (text ≡ s))
 text_ok path text s (Ok a) h = let k : given text ≡ Ok s = h in (a, (refl, cc))
 text_ok path text s (Err e) h = cc
 
--- ---- from the answer back
+-- ---- from the result back
 
 pub texts_gathered : (path : List Step) (n : ℕ) (before ts all : List (List ℕ)) → texts_from path n before ts ≡ Ok all → all ≡ before ++ ts
 texts_gathered path n before [] all h =

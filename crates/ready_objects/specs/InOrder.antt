@@ -15,12 +15,12 @@ use Rattle.api_cluster.specs.declared.types.DeviceClass.{DeviceClass}
 use Rattle.device_match.specs.Selectors.{IsSelector, selector_of}
 use Rattle.ready_objects.specs.Ready.{class_path, requests_path, selector_error, selectors_path}
 
--- a text of a list `selectors`, and the path to its place there
+-- a text of a list `selectors`, and the path to its index there
 pub record SelectorAt : Type 0 where
   pub path : List Step
   pub text : List ℕ
 
--- those of a list that stands at the path, from a place on
+-- those of a list that is at the path, from an index on
 abbrev pub listed : List Step → ℕ → List (List ℕ) → List SelectorAt
 listed path n [] = []
 listed path n (t ∷ ts) = record { path = path ++ Place n ∷ []; text = t } ∷ listed path (n + 1) ts
@@ -47,8 +47,8 @@ claim_listed c = requests_listed 0 c.requests
 abbrev pub EachCompiles : List SelectorAt → Type 0
 EachCompiles ss = EachOf (λ s. IsSelector s.text) ss
 
--- The object is given exactly where each text is a selector, and else the error of the first that
--- is none.
+-- The object is returned if and only if each text is a selector; otherwise the error is that of the
+-- first that is none.
 pub record AreDecisive {A : Type 0} (ss : List SelectorAt) (object : A) (answer : Result A FieldError) : Type 0 where
   pub ready : EachCompiles ss → answer ≡ Ok object
   pub each : answer ≡ Ok object → EachCompiles ss

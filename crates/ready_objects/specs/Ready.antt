@@ -21,7 +21,7 @@ use Rattle.device_match.specs.Selectors.{selector_of}
 abbrev pub selector_error : List Step → Stage → FieldError
 selector_error path stage = field_error (path ++ Member (codes "cel") ∷ []) (codes "expression") (Selector stage)
 
--- the text, or its error at `cel.expression` of what stands at the path
+-- the text, or its error at `cel.expression` of what is at the path
 abbrev pub text_by : {A : Type 0} → List Step → List ℕ → Result A Stage → Result (List ℕ) FieldError
 text_by path text (Ok c) = Ok text
 text_by path text (Err stage) = Err (selector_error path stage)
@@ -29,7 +29,7 @@ text_by path text (Err stage) = Err (selector_error path stage)
 abbrev pub text_at : List Step → List ℕ → Result (List ℕ) FieldError
 text_at path text = text_by path text (selector_of text)
 
--- behind those before, the texts of a list of selectors from a place on; the first error counts
+-- after those before, the texts of a list of selectors from an index on; the first error counts
 abbrev pub texts_from : List Step → ℕ → List (List ℕ) → List (List ℕ) → Result (List (List ℕ)) FieldError
 texts_from path n before [] = Ok before
 texts_from path n before (t ∷ ts) = text_at (path ++ Place n ∷ []) t >>= λ s. texts_from path (n + 1) (before ++ s ∷ []) ts
@@ -42,7 +42,7 @@ texts_at path ts = texts_from path 0 [] ts
 abbrev pub class_path : List Step
 class_path = Member (codes "spec") ∷ Member (codes "selectors") ∷ []
 
--- the class, where its selectors compile
+-- the class, if its selectors compile
 abbrev pub class_ready : DeviceClass → Result DeviceClass FieldError
 class_ready c = texts_at class_path c.selectors >>= λ texts. Ok c
 
@@ -60,11 +60,11 @@ options_from path n before [] = Ok before
 options_from path n before (r ∷ rs) =
     texts_at (selectors_path (path ++ Place n ∷ [])) r.ask.selectors >>= λ ts. options_from path (n + 1) (before ++ ts ∷ []) rs
 
--- of the one way to meet a request, which stands at the path
+-- of the one way to satisfy a request, which is at the path
 abbrev pub only_texts : List Step → List (List ℕ) → Result (List (List (List ℕ))) FieldError
 only_texts path selectors = texts_at (selectors_path path) selectors >>= λ ts. Ok (ts ∷ [])
 
--- of the ways to meet a request: `exactly`, or one of its subrequests
+-- of the ways to satisfy a request: `exactly`, or one of its subrequests
 abbrev pub kind_texts : List Step → RequestKind → Result (List (List (List ℕ))) FieldError
 kind_texts path (Exactly r) = only_texts (path ++ Member (codes "exactly") ∷ []) r.ask.selectors
 kind_texts path (FirstAvailable rs) = options_from (path ++ Member (codes "firstAvailable") ∷ []) 0 [] rs
@@ -74,11 +74,11 @@ abbrev pub requests_from : ℕ → List (List (List (List ℕ))) → List Device
 requests_from n before [] = Ok before
 requests_from n before (r ∷ rs) = kind_texts (requests_path ++ Place n ∷ []) r.kind >>= λ ts. requests_from (n + 1) (before ++ ts ∷ []) rs
 
--- the claim, where its selectors compile
+-- the claim, if its selectors compile
 abbrev pub claim_ready : ResourceClaim → Result ResourceClaim FieldError
 claim_ready c = requests_from 0 [] c.requests >>= λ texts. Ok c
 
--- the texts of the selectors of a claim, by its requests and by the ways to meet each
+-- the texts of the selectors of a claim, by its requests and by the ways to satisfy each
 abbrev pub kind_selectors : RequestKind → List (List (List ℕ))
 kind_selectors (Exactly r) = r.ask.selectors ∷ []
 kind_selectors (FirstAvailable rs) = map (λ r. r.ask.selectors) rs

@@ -15,7 +15,7 @@ use std::marker::Model;
 #[derive(Drop)]
 pub struct ReadyClaim {
     claim: ResourceClaim,
-    /// By the requests, and by the ways to meet each: `exactly`, or its subrequests.
+    /// By the requests, and by the ways to satisfy each: `exactly`, or its subrequests.
     selectors: Seq<Seq<Seq<DeviceSelector>>>,
 }
 
@@ -32,7 +32,7 @@ impl Model for ReadyClaim {
 
 impl ReadyClaim {
     /// Compiles the selectors of a claim. The error is that of the first that doesn't compile, of kind
-    /// `Selector` with its stage, at its `cel.expression`; Memory may come at any time.
+    /// `Selector` with its stage, at its `cel.expression`; Memory may be returned at any point.
     #[tactic(auto, using(crate::proofs::Gathered::claim_made))]
     pub fn of(alloc: Global, claim: ResourceClaim) -> Result<ReadyClaim, FieldError>
         ensures { Reads result (claim_ready claim) }
@@ -49,7 +49,7 @@ impl ReadyClaim {
         &self.claim
     }
 
-    /// The compiled selectors by the requests, and by the ways to meet each.
+    /// The compiled selectors by the requests, and by the ways to satisfy each.
     pub fn selectors(&self) -> &[Seq<Seq<DeviceSelector>>]
         ensures { result.now ≡ claim_selectors self.now }
     {

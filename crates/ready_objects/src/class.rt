@@ -30,7 +30,7 @@ impl Model for ReadyClass {
 
 impl ReadyClass {
     /// Compiles the selectors of a class. The error is that of the first that doesn't compile, of kind
-    /// `Selector` with its stage, at its `cel.expression`; Memory may come at any time.
+    /// `Selector` with its stage, at its `cel.expression`; Memory may be returned at any point.
     #[tactic(auto, using(crate::proofs::Gathered::class_made))]
     pub fn of(alloc: Global, class: DeviceClass) -> Result<ReadyClass, FieldError>
         ensures { Reads result (class_ready class) }

@@ -9,7 +9,7 @@ use dra_values::{Seq, Text};
 use object_fields::{FieldError, FieldErrorKind, Path, Stage, or_memory};
 use std::alloc::Global;
 
-/// The selectors of these texts, which stand at the path. The error is that of the first text that
+/// The selectors of these texts, which are at the path. The error is that of the first text that
 /// doesn't compile, at its `cel.expression`.
 pub fn compile_each(
     alloc: Global,

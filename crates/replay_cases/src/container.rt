@@ -156,7 +156,7 @@ fn do_case(
     }
 }
 
-/// Does what a line asks. False where that isn't understood.
+/// Does what a line asks. Returns false if that isn't understood.
 fn do_line(
     alloc: Global,
     line: &[u8],

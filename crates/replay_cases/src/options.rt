@@ -7,7 +7,7 @@ pub struct Options {
     pub budget: u64,
     /// The most attempts to schedule a pod.
     pub attempts: u64,
-    /// The most bytes that a read gives.
+    /// The most bytes that a read returns.
     pub pieces: u64,
     /// The most bytes that a write takes.
     pub takes: u64,
@@ -31,7 +31,7 @@ impl Options {
         }
     }
 
-    /// The options with one changed by a word such as `pieces=7`.
+    /// The options with one changed by an argument such as `pieces=7`.
     fn with_word(self, word: &str) -> Option<Self> {
         let (key, number) = word.split_once('=')?;
         let number = number.parse::<u64>().ok()?;

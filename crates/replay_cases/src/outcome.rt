@@ -14,7 +14,7 @@ pub struct Outcome {
     pub output: Output,
 }
 
-/// How many bytes no read gave, which are read then.
+/// How many bytes no read had returned, which are read at the end.
 #[derive(Clone, Copy, Drop)]
 enum Left {
     /// These were read.
@@ -45,7 +45,7 @@ fn left_in(alloc: Global, input: &mut Input) -> Result<Left, AllocError> {
     }
 }
 
-/// The words for what was left.
+/// The text for what was left.
 fn left_text(alloc: Global, left: Left) -> Result<String, AllocError> {
     match left {
         Left::Read(count) => format!(in alloc; ", left {count}\n"),
@@ -57,7 +57,7 @@ fn left_text(alloc: Global, left: Left) -> Result<String, AllocError> {
 /// No history may have room for so many entries.
 const ENTRIES_BOUND: u64 = 281_474_976_710_656;
 
-/// Runs a script. A read gives at least one byte and a write takes at least one.
+/// Runs a script. A read returns at least one byte and a write takes at least one.
 pub fn run_once(alloc: Global, script: &[u8], options: Options) -> Result<Outcome, AllocError> {
     let takes = (options.takes as usize).max(1);
     let pieces = (options.pieces as usize).max(1);
@@ -83,7 +83,7 @@ pub fn run_once(alloc: Global, script: &[u8], options: Options) -> Result<Outcom
     })
 }
 
-/// The exit status of the program `dra` and its word, with the offset or the count.
+/// The exit status of the program `dra` and its name, with the offset or the count.
 fn status_text(alloc: Global, status: Status) -> Result<String, AllocError> {
     match status {
         Status::Done => format!(in alloc; "0 done"),
@@ -98,7 +98,7 @@ fn status_text(alloc: Global, status: Status) -> Result<String, AllocError> {
 }
 
 impl Outcome {
-    /// The status and the counts of faults of the input and of the output.
+    /// The status and the error counts of the input and of the output.
     fn head(&self, alloc: Global) -> Result<String, AllocError> {
         let status = status_text(alloc, self.status)?;
         let read_faults = self.read_faults;
@@ -115,8 +115,8 @@ impl Outcome {
         out.extend_from_slice(self.output.bytes())
     }
 
-    /// The outcome on one line: how many lines of the output stand at the front of `whole`, and the
-    /// rest with `;` for each line end.
+    /// The outcome on one line: how many leading lines the output shares with `whole`, and the rest
+    /// with `;` for each line end.
     pub fn in_short(&self, alloc: Global, whole: &[u8]) -> Result<Vec<u8>, AllocError> {
         let head = self.head(alloc)?;
         let text = self.output.bytes();
@@ -128,7 +128,7 @@ impl Outcome {
     }
 }
 
-/// How many lines two texts begin with both, and where these end.
+/// How many leading lines two texts share, and the offset where these end.
 fn shared_lines(text: &[u8], whole: &[u8]) -> (usize, usize) {
     let mut lines = 0usize;
     let mut end = 0;

@@ -21,7 +21,7 @@ pub struct Output {
     ghost moves: { 0 < takes },
 }
 
-/// The count after an answer, which rises where that is a fault.
+/// The error count after a result; it rises by one if the result is `Failed`.
 fn counted(faults: u64, answer: &Result<usize, PortError>) -> u64 {
     match answer {
         Err(PortError::Failed) => faults.saturating_add(1),
@@ -30,7 +30,7 @@ fn counted(faults: u64, answer: &Result<usize, PortError>) -> u64 {
 }
 
 impl Input {
-    /// An input of these bytes. A read gives at most `piece` of them, and the read of the number
+    /// An input of these bytes. A read returns at most `piece` of them, and the read of the number
     /// `failing`, from 1, fails.
     pub fn new(alloc: Global, bytes: &[u8], piece: usize, failing: u64) -> Result<Input, AllocError>
         requires { 0 < piece }

@@ -6,7 +6,7 @@ pub struct Reader<'a> {
     bytes: &'a [u8],
 }
 
-/// How many bytes stand before the first line end, or how many there are.
+/// How many bytes come before the first line end; all of them if there is none.
 fn line_length(bytes: &[u8]) -> usize
     ensures { result ≤ length bytes.now }
 {

@@ -1,6 +1,6 @@
 use std::alloc::{AllocError, Global};
 
-/// Outcomes by their numbers, of which equal ones in a row stand on one line.
+/// Outcomes by their numbers, of which equal ones in a row share one line.
 #[derive(Drop)]
 pub struct Report {
     first: u64,

@@ -30,7 +30,7 @@ impl Scripts {
         Ok(())
     }
 
-    /// Appends a part to the last script. False where there is none.
+    /// Appends a part to the last script. Returns false if there is none.
     pub fn append(&mut self, part: &[u8]) -> Result<bool, AllocError> {
         let Some(script) = self.all.last_mut() else {
             return Ok(false);

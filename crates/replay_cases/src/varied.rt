@@ -78,7 +78,7 @@ fn text_of(alloc: Global, script: &[u8], options: Options) -> Result<Vec<u8>, Al
     Vec::from_slice(alloc, outcome.output.bytes())
 }
 
-/// Runs a script once for each number, and prints the outcomes beside that of the plain run.
+/// Runs a script once for each number, and prints the outcomes beside that of the unvaried run.
 pub fn run_varied(
     alloc: Global,
     varied: Varied,
@@ -98,7 +98,7 @@ pub fn run_varied(
     report.print(alloc, out)
 }
 
-/// Runs each line of a script behind a front, and prints the outcomes beside that of the front.
+/// Runs each line of a script after a prefix, and prints the outcomes beside that of the prefix.
 pub fn run_each(
     alloc: Global,
     front: &[u8],
@@ -119,7 +119,7 @@ pub fn run_each(
     report.print(alloc, out)
 }
 
-/// The outcome of a line behind a front.
+/// The outcome of a line after a prefix.
 fn said_behind(
     alloc: Global,
     front: &[u8],

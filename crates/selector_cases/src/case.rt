@@ -68,7 +68,7 @@ fn of_operation(
     }
 }
 
-/// Sets the devices, and tells how many there are.
+/// Sets the devices, and prints how many there are.
 fn set_devices(
     alloc: Global,
     devices: &mut Vec<DeviceEnv>,

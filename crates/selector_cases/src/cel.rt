@@ -59,7 +59,7 @@ fn of_value(
     }
 }
 
-// ---- answers as text
+// ---- results as text
 
 fn shown(alloc: Global, answer: Result<Value, EvalError>) -> Result<String, AllocError> {
     match answer {
@@ -78,7 +78,7 @@ fn of_unary(alloc: Global, op: &str, operand: &Json) -> Result<String, CaseError
     Ok(shown(alloc, unary(op, &operand))?)
 }
 
-/// The operator on a value and each of a list of others, the answers one after another.
+/// The operator on a value and each of a list of others, the results one after another.
 fn of_binary(
     alloc: Global,
     device: &DeviceEnv,
@@ -142,7 +142,7 @@ fn of_method(
     Ok(shown(alloc, method(alloc, device, function, &object, &arguments))?)
 }
 
-/// The index of a value by each of a list of others, the answers one after another.
+/// The index of a value by each of a list of others, the results one after another.
 fn of_index(
     alloc: Global,
     device: &DeviceEnv,
@@ -279,7 +279,7 @@ fn function(name: &str) -> Result<Function, CaseError> {
 
 // ---- values
 
-/// The value that a JSON value stands for: one that holds no others, a list of such, or an object
+/// The value that a JSON value denotes: one that holds no others, a list of such, or an object
 /// with the one member `quantity`, `version`, `map` (a list of keys and values), `domains`
 /// (`attributes` or `capacity`) or `entries` (the same with a domain).
 fn value(alloc: Global, input: &Json) -> Result<Value, CaseError> {

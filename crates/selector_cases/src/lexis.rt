@@ -13,7 +13,7 @@ pub fn answer(alloc: Global, word: &str, input: &Value) -> Result<String, CaseEr
     }
 }
 
-/// The tokens of a text with their kinds and places, and the fault that follows them.
+/// The tokens of a text with their kinds and spans, and the error that follows them.
 fn list(alloc: Global, text: &str) -> Result<String, AllocError> {
     let mut out = String::new(alloc);
     let mut tokens = Tokens::of(text);
@@ -40,7 +40,7 @@ fn push_token(alloc: Global, out: &mut String, token: &Token) -> Result<(), Allo
     write!(out, " {start}-{end}")
 }
 
-/// The word of the fault with its offset.
+/// The name of the error with its offset.
 pub fn push_fault(out: &mut String, error: LexError) -> Result<(), AllocError> {
     match error {
         LexError::BadChar(at) => write!(out, "BadChar {at}"),
@@ -50,7 +50,7 @@ pub fn push_fault(out: &mut String, error: LexError) -> Result<(), AllocError> {
     }
 }
 
-/// The first fault of the tokens in words, or `none`.
+/// The message of the tokens' first error, or `none`.
 fn message(alloc: Global, text: &str) -> Result<String, AllocError> {
     let mut tokens = Tokens::of(text);
     for _ in 0..=text.len() {

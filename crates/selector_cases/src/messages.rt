@@ -6,7 +6,7 @@ use device_match::{Cause, CompileError};
 use object_fields::{FieldError, Kind, Stage};
 use std::alloc::{AllocError, Global};
 
-/// The words of errors that no input leads to, and of those that print otherwise elsewhere.
+/// The messages of errors that no input leads to, and of those that print otherwise elsewhere.
 pub fn answer(alloc: Global, word: &str) -> Result<String, CaseError> {
     match word {
         "parse" => Ok(ParseError::Memory.to_string(alloc)?),

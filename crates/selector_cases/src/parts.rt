@@ -8,7 +8,7 @@ use dra_values::{Table, Text};
 use serde_json::Value;
 use std::alloc::{AllocError, Global};
 
-/// Parts of the selector language that stand behind its expressions, and parts of devices.
+/// Parts of the selector language that underlie its expressions, and parts of devices.
 pub fn answer(alloc: Global, word: &str, input: &Value) -> Result<String, CaseError> {
     match word {
         "called" => Ok(called(alloc, text(input)?)?),
@@ -19,7 +19,7 @@ pub fn answer(alloc: Global, word: &str, input: &Value) -> Result<String, CaseEr
     }
 }
 
-/// What a name stands for in a call.
+/// What a name denotes in a call.
 fn called(alloc: Global, name: &str) -> Result<String, AllocError> {
     let called = called_of(name);
     format!(in alloc; "{called:?}")

@@ -66,7 +66,7 @@ fn push_each(
 
 // ---- refusals
 
-/// The word of the error, with its place where places are wanted.
+/// The name of the error, with its span if `places` is set.
 pub fn push_parse_error(
     out: &mut String,
     error: ParseError,
@@ -108,7 +108,7 @@ fn push_at(out: &mut String, word: &str, span: Span, places: bool) -> Result<(),
     }
 }
 
-/// The stage that refused a text, and the word of its error.
+/// The stage that refused a text, and the name of its error.
 fn refusal(alloc: Global, error: CompileError, places: bool) -> Result<String, AllocError> {
     let mut out = String::new(alloc);
     match error {
@@ -126,7 +126,7 @@ fn refusal(alloc: Global, error: CompileError, places: bool) -> Result<String, A
     Ok(out)
 }
 
-/// The type of a selector, or the error with its place.
+/// The type of a selector, or the error with its span.
 fn place(alloc: Global, text: &str) -> Result<String, AllocError> {
     match Compiled::compile(alloc, text) {
         Ok(selector) => kind_of(alloc, &selector),
@@ -134,7 +134,7 @@ fn place(alloc: Global, text: &str) -> Result<String, AllocError> {
     }
 }
 
-/// The type of a selector, or the error in words.
+/// The type of a selector, or the message of the error.
 fn message(alloc: Global, text: &str) -> Result<String, AllocError> {
     match Compiled::compile(alloc, text) {
         Ok(selector) => kind_of(alloc, &selector),
@@ -206,7 +206,7 @@ fn push_run(
     write!(out, "{word} {count}")
 }
 
-/// The word of what a selector gives.
+/// The word that is printed for what a selector returns.
 fn word_of(answer: Result<Value, EvalError>) -> Result<&'static str, AllocError> {
     match answer {
         Ok(Value::Single(Single::Bool(true))) => Ok("true"),
@@ -228,9 +228,9 @@ fn error_word(error: EvalError) -> Result<&'static str, AllocError> {
     }
 }
 
-// ---- what selectors say of a device
+// ---- what selectors evaluate to on a device
 
-/// What a selector says of each device.
+/// What a selector evaluates to on each device.
 fn verdicts(alloc: Global, devices: &[DeviceEnv], text: &str) -> Result<String, AllocError> {
     match DeviceSelector::compile(alloc, &Text::from_str(alloc, text)?) {
         Ok(selector) => verdicts_of(alloc, devices, &selector),
@@ -290,7 +290,7 @@ fn push_compiled(
     }
 }
 
-/// What a class's selectors and then a request's say of each device.
+/// What a class's selectors and then a request's evaluate to on each device.
 fn matches(
     alloc: Global,
     devices: &[DeviceEnv],

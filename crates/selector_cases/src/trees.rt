@@ -13,8 +13,8 @@ pub fn answer(alloc: Global, word: &str, input: &Value) -> Result<String, CaseEr
     }
 }
 
-/// The tree of a text, or why it is no expression. With spans the place of each node stands behind
-/// it, as `@0-3`.
+/// The tree of a text, or why it is no expression. With spans each node is followed by its span, as
+/// `@0-3`.
 fn tree(alloc: Global, text: &str, spans: bool) -> Result<String, AllocError> {
     match parse(alloc, text) {
         Ok(tree) => tree_text(alloc, &tree, spans),

@@ -7,7 +7,7 @@ use ready_objects::ReadyClaim;
 use serde_json::Value;
 use std::alloc::{AllocError, Global};
 
-/// The fields of a claim, or the word and the path of the error.
+/// The fields of a claim, or the name and the path of the error.
 pub fn claim_answer(alloc: Global, value: &Value) -> Result<String, AllocError> {
     match ResourceClaim::read(alloc, value) {
         Ok(claim) => claim_text(alloc, &claim.copy(alloc)?),
@@ -23,7 +23,7 @@ pub fn status_answer(alloc: Global, value: &Value) -> Result<String, AllocError>
     }
 }
 
-/// A claim that is made ready, with the numbers of the selectors of each way to meet each request.
+/// A claim that is made ready, with the numbers of the selectors of each way to satisfy each request.
 pub fn ready_answer(alloc: Global, value: &Value) -> Result<String, AllocError> {
     match ResourceClaim::read(alloc, value) {
         Ok(claim) => made_ready(alloc, claim),

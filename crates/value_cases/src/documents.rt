@@ -31,7 +31,7 @@ fn bytes(alloc: Global, text: &str) -> Result<Vec<u8>, CaseError> {
     Ok(bytes)
 }
 
-/// What the document asks for, in words.
+/// What the document asks for, as text.
 fn asked(alloc: Global, document: &[u8]) -> Result<String, AllocError> {
     match read_commands(alloc, document)? {
         None => String::from_str(alloc, "no command"),
@@ -54,7 +54,7 @@ fn commands_text(alloc: Global, commands: &[Command]) -> Result<String, AllocErr
     Ok(text)
 }
 
-/// What the command asks for, in words.
+/// What the command asks for, as text.
 fn push_command(alloc: Global, command: &Command, text: &mut String) -> Result<(), AllocError> {
     match command {
         Command::Invalid(error) => write!(text, "invalid {}", error_text(alloc, error)?),

@@ -8,7 +8,7 @@ use serde_json::{Map, Value};
 use std::alloc::{AllocError, Global};
 use std::fmt::Display;
 
-/// An answer's value, or the word and the path of its error.
+/// A result's value, or the name and the path of its error.
 pub fn printed<T: Display + Drop>(
     alloc: Global,
     answer: Result<T, FieldError>,
@@ -19,7 +19,7 @@ pub fn printed<T: Display + Drop>(
     }
 }
 
-/// The word and the path of an error, by a copy of it.
+/// The name and the path of an error, by a copy of it.
 pub fn error_text(alloc: Global, error: &FieldError) -> Result<String, AllocError> {
     format!(in alloc; "{}", error.copy(alloc)?)
 }
@@ -58,7 +58,7 @@ fn member_text(alloc: Global, value: Option<&Value>) -> Result<String, AllocErro
     }
 }
 
-/// The field `f` by one of the readers that want it.
+/// The field `f` by one of the readers that require it.
 pub fn required(alloc: Global, reader: &str, value: &Value) -> Result<String, CaseError> {
     let top = Path::top(alloc);
     Ok(match reader {
@@ -91,7 +91,7 @@ fn metadata_of(alloc: Global, scope: Scope, value: &Value) -> Result<String, All
     }
 }
 
-/// The key, the version, which is 99 where there is none, and the label `l`.
+/// The key, the version, which is 99 if there is none, and the label `l`.
 fn meta_text(alloc: Global, meta: &ObjectMeta) -> Result<String, AllocError> {
     let version = meta.version.unwrap_or(99);
     let label = Text::from_str(alloc, "l")?;

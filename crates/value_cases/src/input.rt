@@ -4,7 +4,7 @@ use std::alloc::{AllocError, Global};
 /// Why a case has no line of its own.
 #[derive(Clone, Copy, Debug, PartialEq, Eq, Drop)]
 pub enum CaseError {
-    /// Its kind isn't known, or its input isn't of the kind's form.
+    /// Its kind isn't known, or its input isn't what the kind expects.
     BadCase,
     /// Memory ran out.
     Memory,
@@ -47,7 +47,7 @@ pub fn items(value: &Value) -> Result<&[Value], CaseError> {
     }
 }
 
-/// The item of a list at that place.
+/// The item of a list at that index.
 pub fn item(value: &Value, place: usize) -> Result<&Value, CaseError> {
     match items(value)?.get(place) {
         Some(item) => Ok(item),
@@ -55,12 +55,12 @@ pub fn item(value: &Value, place: usize) -> Result<&Value, CaseError> {
     }
 }
 
-/// The text at that place of a list.
+/// The text at that index of a list.
 pub fn text_at(value: &Value, place: usize) -> Result<&str, CaseError> {
     text(item(value, place)?)
 }
 
-/// The whole number from 0 at that place of a list.
+/// The whole number from 0 at that index of a list.
 pub fn number_at(value: &Value, place: usize) -> Result<u64, CaseError> {
     match item(value, place)?.as_u64() {
         Some(number) => Ok(number),

@@ -1,7 +1,7 @@
 //! Runs cases of values and objects: reads one a line from the standard input and prints one line for
-//! each, so that the expected lines of the file `stdout` stand beside those of `stdin`.
+//! each, so that the expected lines of the file `stdout` line up with those of `stdin`.
 //!
-//! A case is a kind of two words, a tab and the input, which is JSON but for documents of commands.
+//! A case is a kind (two words), a tab and the input, which is JSON but for documents of commands.
 //! An empty line and a line that begins with `#` are printed as they are. In the line of a case each
 //! character below U+0020, and U+007F, is printed as `?`.
 #![tactic(auto)]

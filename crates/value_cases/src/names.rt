@@ -66,7 +66,7 @@ fn place_seven(alloc: Global) -> Result<Path, FieldError> {
     Path::top(alloc).place(alloc, 7)
 }
 
-/// The text as a label at the place 7 of a list.
+/// The text as a label at index 7 of a list.
 fn label_at_seven(alloc: Global, text: &str) -> Result<String, AllocError> {
     match place_seven(alloc) {
         Ok(path) => printed(alloc, label_of(alloc, &path, text)),
@@ -74,7 +74,7 @@ fn label_at_seven(alloc: Global, text: &str) -> Result<String, AllocError> {
     }
 }
 
-/// The steps of the place 7 of a list, one after another.
+/// The steps of the path to index 7 of a list, one after another.
 fn steps(alloc: Global) -> Result<String, AllocError> {
     match place_seven(alloc) {
         Ok(path) => steps_text(alloc, &path),

@@ -23,7 +23,7 @@ pub fn answer(alloc: Global, word: &str, input: &Value) -> Result<String, CaseEr
     }
 }
 
-/// A selector's requirements, or the word and the path of its error.
+/// A selector's requirements, or the name and the path of its error.
 fn selector(alloc: Global, value: &Value) -> Result<String, AllocError> {
     match read_selector(alloc, value, &Path::top(alloc)) {
         Ok(selector) => selector_text(alloc, &selector),

@@ -7,7 +7,7 @@ use ready_objects::ReadyClass;
 use serde_json::Value;
 use std::alloc::{AllocError, Global};
 
-/// The fields of a Node, a DeviceClass or a Pod, or the word and the path of the error; of a
+/// The fields of a Node, a DeviceClass or a Pod, or the name and the path of the error; of a
 /// DeviceClass that is made ready its name and the number of its selectors.
 pub fn answer(alloc: Global, word: &str, value: &Value) -> Result<String, AllocError> {
     match word {
@@ -18,7 +18,7 @@ pub fn answer(alloc: Global, word: &str, value: &Value) -> Result<String, AllocE
     }
 }
 
-/// ` @` and the version, where there is one.
+/// ` @` and the version, if there is one.
 pub fn push_version(text: &mut String, version: Option<u64>) -> Result<(), AllocError> {
     match version {
         Some(version) => write!(text, " @{version}"),
@@ -91,7 +91,7 @@ fn class_made_ready(alloc: Global, class: DeviceClass) -> Result<String, AllocEr
     }
 }
 
-/// `ok` where the object of the kind that it names reads, or the word and the path of the error.
+/// `ok` if the object of the kind that it names reads, or the name and the path of the error.
 pub fn reads(alloc: Global, value: &Value) -> Result<String, AllocError> {
     match value.get("kind").and_then(Value::as_str) {
         Some("Node") => read(alloc, Node::read(alloc, value)),

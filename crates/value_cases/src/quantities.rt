@@ -16,7 +16,7 @@ pub fn answer(alloc: Global, word: &str, input: &Value) -> Result<String, CaseEr
     }
 }
 
-/// The value as it prints, or the word of the error.
+/// The value as it prints, or the name of the error.
 fn value(alloc: Global, text: &str) -> Result<String, AllocError> {
     match Quantity::parse(text.as_bytes()) {
         Ok(quantity) => quantity.to_string(alloc),
@@ -24,7 +24,7 @@ fn value(alloc: Global, text: &str) -> Result<String, AllocError> {
     }
 }
 
-/// The value as it prints, or the error in words.
+/// The value as it prints, or the message of the error.
 fn message(alloc: Global, text: &str) -> Result<String, AllocError> {
     match Quantity::parse(text.as_bytes()) {
         Ok(quantity) => quantity.to_string(alloc),

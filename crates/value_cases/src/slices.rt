@@ -8,7 +8,7 @@ use quantity::Quantity;
 use serde_json::Value;
 use std::alloc::{AllocError, Global};
 
-/// The fields of a slice, or the word and the path of the error.
+/// The fields of a slice, or the name and the path of the error.
 pub fn answer(alloc: Global, value: &Value) -> Result<String, AllocError> {
     match ResourceSlice::read(alloc, value) {
         Ok(slice) => slice_text(alloc, &slice.copy(alloc)?),
@@ -32,7 +32,7 @@ fn slice_text(alloc: Global, slice: &ResourceSlice) -> Result<String, AllocError
     Ok(text)
 }
 
-/// The pool, its generation and its slices, and the slice's version where there is one.
+/// The pool, its generation and its slices, and the slice's version if there is one.
 fn push_pool(text: &mut String, slice: &ResourceSlice) -> Result<(), AllocError> {
     let pool = &slice.pool;
     write!(text, " {} {}/{}", pool.name, pool.generation, pool.slices)?;

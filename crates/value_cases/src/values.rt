@@ -13,7 +13,7 @@ pub fn answer(alloc: Global, word: &str, input: &Value) -> Result<String, CaseEr
     }
 }
 
-/// A text's copy in quotes, the text at the right of eight places, and the text.
+/// A text's copy in quotes, the text right-aligned to eight characters, and the text.
 fn text_forms(alloc: Global, chars: &str) -> Result<String, AllocError> {
     let text = Text::from_str(alloc, chars)?;
     let copy = text.duplicate(alloc)?;
@@ -55,7 +55,7 @@ fn list_text(alloc: Global, pairs: Seq<(u64, bool)>) -> Result<String, AllocErro
     format!(in alloc; "{pairs:?} {equal}")
 }
 
-/// What each step on a table of numbers answers, one after another: `["insert", key, number]`,
+/// What each step on a table of numbers returns, one after another: `["insert", key, number]`,
 /// `["set", key, number]`, `["get", key]`, `["remove", key]` or `["print"]`.
 fn table(alloc: Global, input: &Value) -> Result<String, CaseError> {
     let mut numbers = Table::new(alloc);
