@@ -67,7 +67,7 @@ ask_at path d =
     mode_at path d >>= λ mode.
     Ok (record { class = class; selectors = selectors; mode = mode })
 
--- tolerations and capacity, which are left out
+-- tolerations and capacity, which must not be set
 abbrev pub left_out_at : List Step → Data → Result ⊤ FieldError
 left_out_at path d = unset_at path (codes "tolerations") d >>= λ u. unset_at path (codes "capacity") d
 

@@ -18,7 +18,7 @@ use Rattle.api_claim.specs.declared.types.ResourceClaim.{ResourceClaim}
 abbrev pub constraints_over : List DeviceRequest → List Step → Data → Result (List DeviceConstraint) FieldError
 constraints_over requests path devices = constraints_at (all_names requests) path devices
 
--- the constraints behind the requests
+-- the constraints after the requests
 abbrev pub devices_with : List DeviceRequest → List Step → Data → Result Devices FieldError
 devices_with requests path devices =
     constraints_over requests path devices >>= λ constraints.

@@ -38,7 +38,7 @@ abbrev pub attribute_at : List Step → Data → Result QualName FieldError
 attribute_at path d =
     text_at path (codes "matchAttribute") d >>= full_name_in (path ++ Member (codes "matchAttribute") ∷ [])
 
--- distinctAttribute, which is left out, is looked at first; then requests and matchAttribute
+-- distinctAttribute, which must not be set, is looked at first; then requests and matchAttribute
 abbrev pub constraint_at : List (List ℕ) → List Step → Data → Result DeviceConstraint FieldError
 constraint_at names path d =
     object_value path d >>= λ constraint.

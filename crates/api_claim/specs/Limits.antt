@@ -27,7 +27,7 @@ abbrev pub EachOf : {A : Type 0} → (A → Type 0) → List A → Type 0
 EachOf P [] = Unit {0}
 EachOf P (x ∷ xs) = P x × EachOf P xs
 
--- no text is one of those behind it
+-- no text is one of those after it
 abbrev pub AreDistinct : List (List ℕ) → Type 0
 AreDistinct [] = Unit {0}
 AreDistinct (t ∷ ts) = EachOf (λ u. bytes_eq t u ≡ false) ts × AreDistinct ts

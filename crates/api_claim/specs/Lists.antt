@@ -34,7 +34,7 @@ abbrev pub some_items : FieldError → Items → Result Items FieldError
 some_items e no_items = Err e
 some_items e (item d ds) = Ok (item d ds)
 
--- a list of 1 to so many items; an empty one is as if it were missing
+-- a list of 1 to this many items; an empty one is as if it were missing
 abbrev pub some_items_at : ℕ → List Step → List ℕ → Data → Result Items FieldError
 some_items_at most path name d =
     short_list_at most path name d >>= some_items (field_error path name Missing)

@@ -48,7 +48,7 @@ subrequests_most = 8
 abbrev pub subrequest_name_at : List Step → List (List ℕ) → Data → Result (List ℕ) FieldError
 subrequest_name_at path before d = object_value path d >>= new_name_at path before
 
--- the names of a request's subrequests: none where it has none
+-- the names of a request's subrequests: none if it has none
 abbrev pub subrequest_names_at : List Step → Data → Result (List (List ℕ)) FieldError
 subrequest_names_at path request =
     if has_some (codes "firstAvailable") request

@@ -99,7 +99,7 @@ abbrev pub allocation_at : List Step → Data → Result Allocation FieldError
 allocation_at path status =
     object_at path (codes "allocation") status >>= allocation_in (path ++ Member (codes "allocation") ∷ [])
 
--- the allocation, then reservedFor, which is left out
+-- the allocation, then reservedFor, which must not be set
 abbrev pub members_at : List Step → Data → Result Allocation FieldError
 members_at path status =
     allocation_at path status >>= λ allocation.

@@ -81,14 +81,14 @@ fn read_exact(alloc: Global, exactly: &Value, path: &Path) -> Result<ExactDevice
     Ok(ExactDeviceRequest { ask, admin })
 }
 
-/// `adminAccess`, false where it is missing or null.
+/// `adminAccess`, false if it is missing or null.
 pub(crate) fn read_admin(alloc: Global, object: &Value, path: &Path) -> Result<bool, FieldError>
     ensures { Reads result (fields.admin_at path.now (view object.now)) }
 {
     Ok(optional_truth(alloc, object, path, "adminAccess")?.unwrap_or(false))
 }
 
-/// `tolerations` and `capacity`, which are left out.
+/// `tolerations` and `capacity`, which must not be set.
 fn left_out(alloc: Global, ask: &Value, path: &Path) -> Result<(), FieldError>
     ensures { Reads result (fields.left_out_at path.now (view ask.now)) }
 {
@@ -122,7 +122,7 @@ fn read_mode(alloc: Global, ask: &Value, path: &Path) -> Result<AllocationMode, 
     }
 }
 
-/// So many as a count says; one where it is 0 or missing.
+/// As many as a count says; one if it is 0 or missing.
 fn counted(count: Option<u64>) -> AllocationMode
     ensures { result ≡ fields.counted count }
 {

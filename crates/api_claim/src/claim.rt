@@ -21,7 +21,7 @@ struct Devices {
 
 impl ResourceClaim {
     /// Reads a ResourceClaim of the API reference of `resource.k8s.io/v1`. Its fields, in the order
-    /// in which they are looked at; where there are several requests, each of the three parts about
+    /// in which they are looked at; if there are several requests, each of the three parts about
     /// them is read over all of them before the next:
     ///
     /// - `metadata`, with the errors of `ObjectMeta::read`; labels are read and not kept
@@ -43,7 +43,7 @@ impl ResourceClaim {
     ///   `request/subrequest` (Unknown), and `matchAttribute`, a name with its domain (TooLong,
     ///   BadName)
     ///
-    /// `status`, and fields that this project doesn't know, as `config`, are not looked at. Memory
+    /// `status`, and fields that this project doesn't know, such as `config`, are not looked at. Memory
     /// may be returned at any point.
     pub fn read(alloc: Global, value: &Value) -> Result<ResourceClaim, FieldError>
         ensures { Reads result (fields.claim_of (view value.now)) }

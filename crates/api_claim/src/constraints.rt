@@ -17,7 +17,7 @@ use std::alloc::Global;
 /// The most constraints of a claim (API reference of `resource.k8s.io/v1`).
 const CONSTRAINTS_MOST: usize = 32;
 
-/// The constraints of a spec's devices, whose requests have these names; none where they are
+/// The constraints of a spec's devices, whose requests have these names; none if they are
 /// missing.
 pub(crate) fn read_constraints(
     alloc: Global,
@@ -72,7 +72,7 @@ fn read_constraint(
     })
 }
 
-/// The requests that a constraint names; none where they are missing.
+/// The requests that a constraint names; none if they are missing.
 fn read_requests(
     alloc: Global,
     constraint: &Value,

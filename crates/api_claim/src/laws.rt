@@ -21,7 +21,7 @@ use object_fields::{labels_are_names, metadata_keeps_limits, names_are_new};
 
 /// Each claim that is read keeps the limits and name rules of the API reference of
 /// `resource.k8s.io/v1`, and each status that is read has 1 to 32 results and a version of 64 bits,
-/// where it has one.
+/// if it has one.
 pub fn limits_are_kept()
     ensures claim { (d : Data) (claim : ResourceClaim) → claim_of d ≡ Ok claim → ClaimKept claim }
     ensures status { (d : Data) (status : ClaimStatus) → status_of d ≡ Ok status → StatusKept status }

@@ -157,7 +157,7 @@ pub(crate) fn all_names(alloc: Global, requests: &[DeviceRequest]) -> Result<Seq
     Ok(names)
 }
 
-/// Puts the names of one request behind those before.
+/// Appends the names of one request.
 fn add_names(
     alloc: Global,
     names: &mut Seq<Text>,

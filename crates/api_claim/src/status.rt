@@ -201,7 +201,7 @@ fn is_text(value: &Value, want: &str) -> bool
     }
 }
 
-/// The one item of the list of that name; None where there are more.
+/// The one item of the list of that name; None unless it is a list of exactly one item.
 fn only_of<'a>(object: &'a Value, name: &str) -> Option<&'a Value>
     ensures { option_map (λ v. view v.now) result ≡ fields.only_of name.now (view object.now) }
 {

@@ -69,7 +69,7 @@ pub struct DeviceAsk {
 /// How many devices are asked for.
 #[derive(Clone, Copy, Debug, PartialEq, Eq)]
 pub enum AllocationMode {
-    /// So many, from 1 to 2^31-1.
+    /// This many, from 1 to 2^31-1.
     ExactCount(u64),
     /// All that the class and the selectors admit.
     All,

@@ -1,4 +1,4 @@
--- What is read of classes and pods keeps their limits, where metadata and lists keep theirs.
+-- What is read of classes and pods keeps their limits, if metadata and lists keep theirs.
 use Rattle.std.proofs.Common.{◌≡◌, ℕ, ◌≤◌, List, [], ◌∷◌, length, Option, Some, None, Result, Ok, Err, codes, lit≤, refl, subst}
 use Rattle.serde_json.specs.Data.{Data}
 use Rattle.object_fields.specs.Fields.{object_at, optional_at, ◌>>=◌}

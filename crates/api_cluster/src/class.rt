@@ -15,7 +15,7 @@ impl DeviceClass {
     /// above 32), which both may be missing. Of each selector it reads `cel.expression`, which is
     /// any text (Missing, then WrongType, at the selector, at `cel` and at `expression`).
     ///
-    /// Fields that this project doesn't know, as `config`, are not looked at. Memory may be returned
+    /// Fields that this project doesn't know, such as `config`, are not looked at. Memory may be returned
     /// at any point.
     pub fn read(alloc: Global, value: &Value) -> Result<DeviceClass, FieldError>
         ensures { Reads result (fields.class_of (view value.now)) }

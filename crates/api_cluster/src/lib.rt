@@ -1,4 +1,4 @@
-//! Nodes, DeviceClasses and Pods, as far as their fields say where devices may go.
+//! Nodes, DeviceClasses and Pods: the fields that decide where devices may go.
 #![tactic(auto)]
 
 mod class;

@@ -24,11 +24,11 @@ impl Pod {
     ///
     /// A `nodeName` that isn't missing, null or the empty text is NotSupported, since a pod is bound
     /// by the scheduling of this project alone. Each entry of `resourceClaims` (Missing, WrongType)
-    /// has no `resourceClaimTemplateName` (NotSupported where one is set, since nothing here makes
+    /// has no `resourceClaimTemplateName` (NotSupported if one is set, since nothing here makes
     /// claims from templates), and a `name` and a `resourceClaimName`, which are any texts (Missing,
     /// WrongType), in this order.
     ///
-    /// Fields that this project doesn't know, as a pod's containers, are not looked at. Memory may
+    /// Fields that this project doesn't know, such as a pod's containers, are not looked at. Memory may
     /// be returned at any point.
     pub fn read(alloc: Global, value: &Value) -> Result<Pod, FieldError>
         ensures { Reads result (fields.pod_of (view value.now)) }

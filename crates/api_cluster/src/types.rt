@@ -6,14 +6,14 @@ use object_fields::Key;
 use std::alloc::{AllocError, Global};
 use std::marker::Model;
 
-/// A Node of `v1`: what says which devices it sees.
+/// A Node of `v1`: what decides which devices it sees.
 ///
 /// Its name is a DNS subdomain of at most 253 bytes; contracts see the record of its fields.
 #[derive(Drop)]
 pub struct Node {
     /// `metadata.name`.
     pub name: Text,
-    /// `metadata.resourceVersion`, from 0 to 2^64-1, where it is given.
+    /// `metadata.resourceVersion`, from 0 to 2^64-1, if it is set.
     pub version: Option<u64>,
     /// `metadata.labels`, by their keys.
     pub labels: Table<Text, Text>,
@@ -27,7 +27,7 @@ pub struct Node {
 pub struct DeviceClass {
     /// `metadata.name`.
     pub name: Text,
-    /// `metadata.resourceVersion`, from 0 to 2^64-1, where it is given.
+    /// `metadata.resourceVersion`, from 0 to 2^64-1, if it is set.
     pub version: Option<u64>,
     /// `spec.selectors`: the text of each `cel.expression`, at most 32, as they were written.
     pub selectors: Seq<Text>,
@@ -41,7 +41,7 @@ pub struct DeviceClass {
 pub struct Pod {
     /// `metadata.namespace` and `metadata.name`.
     pub key: Key,
-    /// `metadata.resourceVersion`, from 0 to 2^64-1, where it is given.
+    /// `metadata.resourceVersion`, from 0 to 2^64-1, if it is set.
     pub version: Option<u64>,
     /// `spec.resourceClaims`, at most 32.
     pub claims: Seq<PodResourceClaim>,

@@ -68,7 +68,7 @@ fn lengths(alloc: Global, item: Record) -> Result<String, AllocError>
     }
 }
 
-/// The same of the record that a claim of a uid of so many bytes is gone.
+/// The same of the record that a claim of a uid of `len` bytes is gone.
 fn long_uid(alloc: Global, len: usize) -> Result<String, AllocError> {
     let mut chars = String::new(alloc);
     for _at in 0..len {

@@ -16,7 +16,7 @@ const PICKS: u64 = 8;
 const MOMENTS_BEFORE: usize = 2;
 
 /// The least and the most number of records in what a crash at a moment may leave, by each pick, or
-/// `broken` where that isn't a journal.
+/// `broken` if that isn't a journal.
 fn at_moment(alloc: Global, disk: &MemDisk, at: usize) -> Result<String, AllocError>
     requires { at < length (moments_of disk.now) }
 {

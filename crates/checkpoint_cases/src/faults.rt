@@ -6,9 +6,9 @@ use crate::runs::run_appends;
 use ckpt_journal::Record;
 use std::alloc::{AllocError, Global};
 
-/// What becomes of a list of appends in which the disk's call of this number fails: `start` where the
-/// journal was not begun, `all` where all records were appended, and else the number of records on
-/// opening the disk again, with a `?` where the next append was not refused as Closed.
+/// What becomes of a list of appends in which the disk's call of this number fails: `start` if the
+/// journal was not begun, `all` if all records were appended, and otherwise the number of records on
+/// opening the disk again, with a `?` if the next append was not refused as Closed.
 fn with_fault(alloc: Global, items: &[Record], number: u64) -> Result<String, AllocError>
     requires { AllByRecursion ReadsBack items.now }
 {

@@ -2,7 +2,7 @@ ghost use Rattle.std.specs.Prelude.{◌<◌};
 
 use std::alloc::{AllocError, Global};
 
-/// The number of a hexadecimal digit; 0 where it is none.
+/// The number of a hexadecimal digit; 0 if it is none.
 fn digit(byte: u8) -> u8
     ensures { result < 16 }
 {

@@ -13,7 +13,7 @@ pub struct Run {
     pub begun: bool,
     /// The first error.
     pub error: Option<JournalError>,
-    /// Whether the append behind that error was refused as Closed.
+    /// Whether the append after that error was refused as Closed.
     pub closed: bool,
 }
 

@@ -77,7 +77,7 @@ module _ (es : List Record) (end : ℕ) (c : Content) (s : Settled es end c) (ho
       let gap_is : gapped (end + 1) n places ≡ map Some (front es ++ s.gate ∷ []) ++ (gap ++ rest) = (λ i. front_is i ++ gap ++ rest) ∙ append_assoc _ gap rest in
       leaves_from (Has es) (blurred (end + 1) n c.sure) _ gap_is (behind_gate es s.gate (gap ++ rest) s.fits s.shut)
 
--- the block is behind the gate, and all is sure
+-- the block is after the gate, and all is sure
 pub staged : (es : List Record) (item : Record) (end : ℕ) (bytes : List ℕ) (x y z : Option Content) → IfSome x (Settled es end) → bytes ≡ block item ++ 0 ∷ []
     → y ≡ option_map (written (end + 1) bytes) x → z ≡ option_map synced y → IfSome z (Staged es item end)
 staged es item end bytes None y z s is w k = subst (λ (o : Option Content). IfSome o (Staged es item end)) (sym (k ∙ ap (option_map synced) w)) tt
@@ -97,7 +97,7 @@ staged es item end bytes (Some c) y z s is w k = subst (λ (o : Option Content).
     front_is : take (end + 1) c.bytes ≡ front es ++ s.gate ∷ []
     front_is = ap (λ (l : List ℕ). take (end + 1) l) (s.bytes ∙ sym (append_assoc (front es) (s.gate ∷ []) s.tail)) ∙ take_at (front es ++ s.gate ∷ []) s.tail (end + 1) (omega (arith, s.place, length-append (front es) (s.gate ∷ [])))
 
--- a staged block behind any gate counts or it doesn't
+-- a staged block after any gate counts or it doesn't
 any_gate : (es : List Record) (item : Record) (gate : ℕ) (tail : List ℕ) → AllByRecursion Fits es → Fits item → IsBeforeOrAfter es item (front es ++ gate ∷ (block item ++ 0 ∷ tail))
 any_gate es item gate tail fits this = elim (cases_eq gate 90) [
   | inl is ↦ inr (ap (λ (g : ℕ). records (front es ++ g ∷ (block item ++ 0 ∷ tail))) is ∙ ap records (sym (front-more es item (0 ∷ tail))) ∙ read_front (es ++ item ∷ []) 0 tail (one_more Fits es item fits this) (omega arith))

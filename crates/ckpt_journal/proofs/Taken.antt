@@ -105,7 +105,7 @@ starts bytes rest same is =
     same_front header bytes 0 same ∙ ap (λ (n : ℕ). header ++ drop n bytes) length-header
     ∙ ap (λ (l : List ℕ). header ++ l) (sym is) ∙ ap (λ (l : List ℕ). l ++ rest) (sym (append-nil header))
 
--- one block more, behind an open gate
+-- one block more, after an open gate
 pub goes_on : (es : List Record) (e : Record) (bytes rest after : List ℕ) → bytes ≡ front es ++ rest → 0 < length rest → get_or rest 0 0 ≡ 90 → Taken e after (drop 1 rest) → bytes ≡ front (es ++ e ∷ []) ++ after
 goes_on es e bytes [] after parts more open_gate taken = absurd (omega arith)
 goes_on es e bytes (gate ∷ behind) after parts more open_gate taken =
@@ -147,7 +147,7 @@ pub fault_header : (bytes : List ℕ) (at : ℕ) → differs_at 0 header bytes �
 unfolding records
 fault_header bytes at is = ap (behind_header bytes) is
 
--- the block behind the open gate of the rest
+-- the block after the open gate of the rest
 pub next_taken : (es : List Record) (e : Record) (bytes rest after : List ℕ) → bytes ≡ front es ++ rest → IsBytes bytes → block_at (drop 1 rest) ≡ Some (e, after) → Taken e after (drop 1 rest)
 next_taken es e bytes rest after parts small is = block_taken e after (drop 1 rest) (bytes_drop 1 rest (λ i. behind i)) is
   where

@@ -48,7 +48,7 @@ body r = kind_byte r ∷ fields_bytes r
 unfoldable pub block : Record → List ℕ
 block r = to_be_bytes w32 (length (body r)) ++ body r
 
--- records behind open gates, each of them 5a
+-- records after open gates, each of them 5a
 abbrev pub blocks : List Record → List ℕ
 blocks [] = []
 blocks (r ∷ rs) = 90 ∷ block r ++ blocks rs
@@ -76,7 +76,7 @@ is_long (Prepared c) = is_long_claim c
 is_long (Leaving uid) = is_long_text uid
 is_long (Gone uid) = is_long_text uid
 
--- the record is too long, or with it behind the closed gate at this offset the file would pass 67,108,864 bytes
+-- the record is too long, or with it after the closed gate at this offset the file would exceed 67,108,864 bytes
 abbrev pub is_full : ℕ → Record → Bool
 is_full gate r = is_long r || nat_lt 67108864 (gate + length (block r) + 2)
 

@@ -6,7 +6,7 @@ use Rattle.object_fields.specs.Keys.{device_text, key_text}
 use Rattle.object_fields.specs.declared.key.Key.{Key}
 use Rattle.object_fields.specs.declared.key.DeviceId.{DeviceId}
 
--- the offset of the first slash, where the first of these bytes has this offset
+-- the offset of the first slash, if the first of these bytes has this offset
 abbrev pub first_slash_from : ℕ → List ℕ → Option ℕ
 first_slash_from at [] = None
 first_slash_from at (b ∷ bs) = if b == 47 then Some at else first_slash_from (at + 1) bs
@@ -22,7 +22,7 @@ abbrev pub by_first : {K : Type 0} → (List ℕ → List ℕ → Option K) → 
 by_first make text None = make [] text
 by_first make text (Some at) = if at == 0 then None else make (take at text) (drop (at + 1) text)
 
--- the parts of a device's text: the driver ends at the first slash, and the device begins behind the last
+-- the parts of a device's text: the driver ends at the first slash, and the device begins after the last
 abbrev pub by_both : {D : Type 0} → (List ℕ → List ℕ → List ℕ → Option D) → List ℕ → Option ℕ → Option ℕ → Option D
 by_both make text None last = None
 by_both make text (Some first) None = None

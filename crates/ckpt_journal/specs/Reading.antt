@@ -31,16 +31,16 @@ read_raw reading x = option_map (λ a. (a, x.1)) (reading x.0)
 unfoldable pub name_at : {A : Type 0} → (List ℕ → Option A) → List ℕ → Option (A × List ℕ)
 name_at reading bytes = option_and_then (read_raw reading) (raw_at bytes)
 
--- so many of these, put behind those read before
+-- this many of these, appended to those read before
 abbrev pub names_from : {A : Type 0} → (List ℕ → Option A) → ℕ → List A → List ℕ → Option (List A × List ℕ)
 names_from reading zero before bytes = Some (before, bytes)
 names_from reading (suc n) before bytes = option_and_then (λ x. names_from reading n (before ++ x.0 ∷ []) x.1) (name_at reading bytes)
 
--- a count, and so many of these
+-- a count, and that many of these
 unfoldable pub names_at : {A : Type 0} → (List ℕ → Option A) → List ℕ → Option (List A × List ℕ)
 names_at reading bytes = option_and_then (λ x. names_from reading x.0 [] x.1) (count_at bytes)
 
--- the devices of a claim, behind its other fields
+-- the devices of a claim, after its other fields
 abbrev pub claim_with : List ℕ → Key → List Key × List ℕ → Option (Claim × List ℕ)
 claim_with uid key pods = option_map (λ x. (record { uid = uid; key = key; pods = pods.0; devices = x.0 }, x.1)) (names_at device_read pods.1)
 
@@ -75,11 +75,11 @@ abbrev pub with_rest : List ℕ → Option Record → Option (Record × List ℕ
 with_rest rest None = None
 with_rest rest (Some r) = Some (r, rest)
 
--- n bytes of body, and behind them the next gate
+-- n bytes of body, and after them the next gate
 unfoldable pub body_at : ℕ → List ℕ → Option (Record × List ℕ)
 body_at n bytes = if nat_le (length bytes) n then None else with_rest (drop n bytes) (record_of (take n bytes))
 
--- the record behind a gate, and the bytes from the next gate on
+-- the record after a gate, and the bytes from the next gate on
 unfoldable pub block_at : List ℕ → Option (Record × List ℕ)
 block_at bytes = if nat_lt (length bytes) 4 then None else body_at (from_be_bytes w32 (take 4 bytes)) (drop 4 bytes)
 
@@ -91,7 +91,7 @@ abbrev pub if_block : ℕ → (List ℕ → Result (List Record) ℕ) → Option
 if_block left next None = Err left
 if_block left next (Some x) = with_front x.0 (next x.1)
 
--- The records of bytes that begin with a gate, at most so many. An error says how many bytes there are
+-- The records of bytes that begin with a gate, at most this many. An error says how many bytes there are
 -- from its gate on.
 abbrev pub records_from : ℕ → List ℕ → Result (List Record) ℕ
 records_from _ [] = Err 0
@@ -112,7 +112,7 @@ abbrev pub behind_header : List ℕ → Option ℕ → Result (List Record) ℕ
 behind_header bytes (Some at) = Err at
 behind_header bytes None = placed (length bytes) (records_from (length bytes) (drop 16 bytes))
 
--- the records up to the first closed gate, or the offset where the bytes are no journal
+-- the records up to the first closed gate, or the offset at which the bytes are no journal
 unfoldable pub records : List ℕ → Result (List Record) ℕ
 records bytes = behind_header bytes (differs_at 0 header bytes)
 

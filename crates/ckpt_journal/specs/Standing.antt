@@ -37,7 +37,7 @@ pub record Settled (rs : List Record) (end : ℕ) (c : Content) : Type 0 where
   pub fits : AllByRecursion Fits rs
   pub sure : IsTrue c.honest → c.sure ≡ exactly c.bytes
 
--- the same, with one more record behind the closed gate, and a closed gate behind that
+-- the same, with one more record after the closed gate, and a closed gate after that
 pub record Staged (rs : List Record) (item : Record) (end : ℕ) (c : Content) : Type 0 where
   pub gate : ℕ
   pub tail : List ℕ
@@ -51,7 +51,7 @@ abbrev pub IsSettled : List Record → ℕ → Content → Type 0
 IsSettled rs end c =
     (end < length c.bytes) × (get_or c.bytes end 90 ≢ 90) × (take end c.bytes ≡ front rs) × AllByRecursion Fits rs × (IsTrue c.honest → c.sure ≡ exactly c.bytes)
 
--- the bytes are the header, these records behind open gates, a closed gate, and anything
+-- the bytes are the header, these records after open gates, a closed gate, and anything
 pub record IsSpelled (rs : List Record) (bytes : List ℕ) : Type 0 where
   pub gate : ℕ
   pub tail : List ℕ

@@ -49,7 +49,7 @@ fn take_names<T: Named + Drop>(alloc: Global, bytes: &[u8]) -> Result<(Seq<T>, &
     take_each(alloc, count, rest)
 }
 
-/// So many names at the start, and what follows them.
+/// `count` names at the start, and what follows them.
 fn take_each<T: Named + Drop>(
     alloc: Global,
     count: usize,
@@ -87,7 +87,7 @@ fn take_claim(alloc: Global, bytes: &[u8]) -> Result<(Claim, &[u8]), Unread>
     ))
 }
 
-/// The fields of a claim, with nothing behind them.
+/// The fields of a claim, with nothing after them.
 fn whole_claim(alloc: Global, bytes: &[u8]) -> Result<Claim, Unread>
     ensures { Reads result (claim_alone bytes.now) }
 {
@@ -99,7 +99,7 @@ fn whole_claim(alloc: Global, bytes: &[u8]) -> Result<Claim, Unread>
     }
 }
 
-/// A uid, with nothing behind it.
+/// A uid, with nothing after it.
 fn whole_uid(alloc: Global, bytes: &[u8]) -> Result<Text, Unread>
     ensures { Reads result (uid_alone bytes.now) }
 {

@@ -14,7 +14,7 @@ pub enum JournalError {
     #[error("the disk failed")]
     DiskFault,
     /// The bytes of the disk are no journal. The offset is that of the first byte of the header that
-    /// is wrong or missing, of the first gate where it is missing, or of the open gate whose record is
+    /// is wrong or missing, of the first gate if it is missing, or of the open gate whose record is
     /// cut, has no next gate, or isn't one.
     #[error("not a journal at byte {0}")]
     NotAJournal(u64),
@@ -58,7 +58,7 @@ impl<T: Drop> From<AllocFailed<T>> for JournalError {
 /// Why bytes were not read as a record.
 #[derive(Clone, Copy, Drop)]
 pub enum Unread {
-    /// They aren't one.
+    /// The bytes are no record.
     NoRecord,
     /// Memory ran out.
     Memory,

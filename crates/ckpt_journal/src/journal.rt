@@ -130,7 +130,7 @@ impl<D: Disk> Journal<D> {
     }
 
     /// States what an open journal that has not ended keeps: its records, which whatever a crash leaves
-    /// has, and the offset of the first closed gate behind them.
+    /// has, and the offset of the first closed gate after them.
     pub fn keeps(&self)
         ensures kept { has_ended self.now ≡ false → IfSome (D.content (disk_of self.now)) (Keeps (recorded (D.content (disk_of self.now)))) }
         ensures place { has_ended self.now ≡ false → IfSome (D.content (disk_of self.now)) (λ c. place_of self.now ≡ length (front (recorded (Some c)))) }

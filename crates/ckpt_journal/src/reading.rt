@@ -38,7 +38,7 @@ fn take_body(alloc: Global, len: usize, bytes: &[u8]) -> Result<(Record, &[u8]),
     Ok((read_body(alloc, body)?, rest))
 }
 
-/// The record behind a gate, and what follows it from the next gate on.
+/// The record after a gate, and what follows it from the next gate on.
 #[tactic(auto, unfolding(crate::specs::Reading::block_at))]
 fn take_block(alloc: Global, bytes: &[u8]) -> Result<(Record, &[u8]), Unread>
     ensures { Gives (λ x. (x.0, x.1.now)) result (block_at bytes.now) }
@@ -66,7 +66,7 @@ pub fn read_records(alloc: Global, bytes: &[u8]) -> Result<(u64, Vec<Record>), J
     read_blocks(alloc, bytes)
 }
 
-/// The same behind a header.
+/// The same, after a header.
 fn read_blocks(alloc: Global, bytes: &[u8]) -> Result<(u64, Vec<Record>), JournalError>
     requires { differs_at 0 header bytes.now ≡ None }
     ensures exact { Returns (λ x. x.1.items) result (records bytes.now) }

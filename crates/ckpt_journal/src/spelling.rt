@@ -170,7 +170,7 @@ fn framed(alloc: Global, body: &[u8]) -> Result<Vec<u8>, AllocError>
     Ok(bytes)
 }
 
-/// What is written behind the closed gate at the offset `gate`: a record and the next gate, closed.
+/// What is written after the closed gate at the offset `gate`: a record and the next gate, closed.
 ///
 /// The error is `Full` only if a text or a count of the record is over 65,535 or the file would exceed
 /// 67,108,864 bytes, and if so the result is not `Ok`. It is `Memory` only if memory runs out.

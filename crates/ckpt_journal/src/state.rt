@@ -4,7 +4,7 @@ ghost use Rattle.ckpt_journal.specs.Standing.{recorded, IsSettled};
 
 use dra_ports::Disk;
 
-/// A journal that is open. It owns its disk, so nothing else acts on that.
+/// A journal that is open. It owns its disk, so nothing else acts on it.
 #[derive(Drop)]
 pub struct Journal<D: Disk> {
     pub(crate) disk: D,

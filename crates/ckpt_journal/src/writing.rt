@@ -10,7 +10,7 @@ use crate::JournalError;
 use crate::spelling::{EMPTY, OPEN};
 use dra_ports::{Disk, PortError};
 
-/// Writes a block behind the closed gate at the offset `end`, and makes it stable. Any crash meanwhile
+/// Writes a block after the closed gate at the offset `end`, and makes it stable. Any crash meanwhile
 /// leaves the records from before.
 pub fn stage<D: Disk>(disk: &mut D, end: u64, bytes: &[u8]) -> Result<(), PortError>
     requires within { IfSome (D.content disk.old) (λ c. end < length c.bytes) }
@@ -28,7 +28,7 @@ pub fn stage<D: Disk>(disk: &mut D, end: u64, bytes: &[u8]) -> Result<(), PortEr
     Ok(())
 }
 
-/// Opens the gate at the offset `end`, behind which a block is staged, and makes that stable. Any crash
+/// Opens the gate at the offset `end`, after which a block is staged, and makes that stable. Any crash
 /// meanwhile leaves the records from before, or those and the staged one.
 pub fn open_gate<D: Disk>(disk: &mut D, end: u64) -> Result<(), PortError>
     requires { IfSome (D.content disk.old) (λ c. end < length c.bytes) }
@@ -44,7 +44,7 @@ pub fn open_gate<D: Disk>(disk: &mut D, end: u64) -> Result<(), PortError>
     Ok(())
 }
 
-/// Appends a block behind the closed gate at the offset `end`, in two steps, each of them stable before
+/// Appends a block after the closed gate at the offset `end`, in two steps, each of them stable before
 /// the next.
 pub fn write<D: Disk>(disk: &mut D, end: u64, bytes: &[u8]) -> Result<(), PortError>
     requires within { IfSome (D.content disk.old) (λ c. end < length c.bytes) }

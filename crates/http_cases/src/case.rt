@@ -3,7 +3,7 @@ use crate::spelling::from_text;
 use crate::writing::reply;
 use std::alloc::{AllocError, Global};
 
-/// A text up to its first space, and what is behind that.
+/// A text up to its first space, and what follows it.
 fn cut_word(text: &str) -> (&str, &str) {
     text.split_once(' ').unwrap_or((text, ""))
 }

@@ -18,7 +18,7 @@ pub fn word(error: WireError) -> Result<&'static str, AllocError> {
     }
 }
 
-/// Prints a request: its method, its target, its body in brackets, and `last` where it ends the
+/// Prints a request: its method, its target, its body in brackets, and `last` if it ends the
 /// connection.
 fn push_request(alloc: Global, text: &mut String, request: &Request) -> Result<(), AllocError> {
     let target = to_text(alloc, request.target.as_str().as_bytes())?;
@@ -80,7 +80,7 @@ fn requests(alloc: Global, bytes: &[u8], piece: usize, failing: u64) -> Result<S
     Ok(text)
 }
 
-/// The same in pieces of this size, where it differs from what is given.
+/// The same in pieces of this size, if it differs from what is passed in.
 fn push_other(
     alloc: Global,
     bytes: &[u8],
@@ -96,7 +96,7 @@ fn push_other(
     Ok(())
 }
 
-/// The requests of bytes in one piece, and in pieces of 1, 2 and 7 bytes where that differs. More than
+/// The requests of bytes in one piece, and in pieces of 1, 2 and 7 bytes if that differs. More than
 /// 100,000 bytes are read in one piece alone.
 pub fn read(alloc: Global, bytes: &[u8]) -> Result<String, AllocError> {
     let mut text = requests(alloc, bytes, 65_536, 0)?;

@@ -1,6 +1,6 @@
 use std::alloc::{AllocError, Global};
 
-/// The number of a hexadecimal digit; 0 where it is none.
+/// The number of a hexadecimal digit; 0 if it is none.
 fn digit(byte: u8) -> u8 {
     match byte {
         b'0'..=b'9' => byte.saturating_sub(b'0'),
@@ -116,7 +116,7 @@ fn push_byte(alloc: Global, text: &mut String, byte: u8) -> Result<(), AllocErro
     }
 }
 
-/// The text that spells bytes; the number of them where they are more than 200.
+/// The text that spells bytes; the number of them if they are more than 200.
 pub fn to_text(alloc: Global, bytes: &[u8]) -> Result<String, AllocError> {
     if bytes.len() > 200 {
         return format!(in alloc; "{} bytes", bytes.len());

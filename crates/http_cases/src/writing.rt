@@ -30,7 +30,7 @@ fn both(alloc: Global, reply: &Reply) -> Result<String, AllocError> {
     Ok(text)
 }
 
-/// What is written for a reply of this status and type with this body, and what comes of it where the
+/// What is written for a reply of this status and type with this body, and the result if the
 /// write fails.
 pub fn reply(alloc: Global, code: u16, json: bool, body: Vec<u8>) -> Result<String, AllocError> {
     match StatusCode::from_u16(code) {

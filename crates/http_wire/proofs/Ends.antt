@@ -1,4 +1,4 @@
--- What was found where a head ends, or where the bytes do.
+-- What was found when a head ends, or the bytes do.
 use Rattle.std.proofs.Common.{ℕ, ◌≤◌, ◌<◌, ◌≡◌, ◌∙◌, Bool, true, false, inl, inr, true≢false, List, [], ◌∷◌, ◌++◌, length, take, drop, refl, sym, ap, subst, arith, append-nil}
 use Rattle.std.specs.Prelude.{None}
 use Rattle.std.proofs.lemmas.List.{take_all}
@@ -111,6 +111,6 @@ undone_by bytes scan Start e h not all few = inr (inl (open_is bytes scan h (not
 undone_by bytes scan StartReturn e h not all few = inr (inl (open_is bytes scan h (not_before scan.place StartReturn e refl) not all few))
 undone_by bytes scan Done e h not all few = absurd (not e)
 
--- where a read fails
+-- if a read fails
 pub undone_is : (bytes : List ℕ) (scan : Scan) → IsBehind (take scan.count bytes) scan → (scan.place ≡ Done → ⊥) → length bytes ≤ scan.count → length bytes ≤ 16384 → IsUndone bytes
 undone_is bytes scan h not all few = undone_by bytes scan scan.place refl h not all few

@@ -29,7 +29,7 @@ through_cons b bs = refl
 none_one : (b : ℕ) → through_empty (b ∷ []) ≡ None
 none_one b = through_cons b [] ∙ ap (λ (t : Bool). cond t (Some (1 + 0)) (next (through_empty []))) (and_false (eqb b 10)) ∙ ap next none_at_all
 
--- the bytes behind empty lines
+-- the bytes after empty lines
 
 none_nothing : through_empty (behind_empty []) ≡ None
 unfolding behind_empty through_empty
@@ -126,7 +126,7 @@ lines_then bytes front lines rest h =
 pub ends_then : (bytes front lines rest : List ℕ) → Fronted bytes front lines rest → through_empty (behind_empty bytes) ≡ Some (length lines)
 ends_then bytes front lines rest h = ap through_empty (lines_then bytes front lines rest h) ∙ through_more lines rest (length lines) h.head.ends
 
--- there is none where as many bytes as a head may have contain none
+-- there is none if as many bytes as a head may have contain none
 pub no_head_there : (bytes front lines rest : List ℕ) (most : ℕ) → length front ≤ most → Fronted bytes front lines rest → HasNoHead (take most bytes) → ⊥
 no_head_there bytes front lines rest most few h none =
     let cut : take most bytes ≡ front ++ take (most - length front) rest =

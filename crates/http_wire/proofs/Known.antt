@@ -1,4 +1,4 @@
--- What remains of a source, where it is known, and what was taken of it.
+-- What remains of a source, if it is known, and what was taken of it.
 use Rattle.std.proofs.Common.{ℕ, ◌≡◌, ◌∙◌, List, [], ◌++◌, refl, sym, ap, subst, append_assoc, append-nil}
 use Rattle.std.specs.Prelude.{Option, None, Some, Result, Ok, Err, IsErrAnd}
 use Rattle.std.specs.Io.KnownBytes.{Consumes}
@@ -43,7 +43,7 @@ begins_all P old mid left left_now kept p = record {
 pub lost_all : (old mid : List ℕ) (left left_now : Option (List ℕ)) → Kept old mid left left_now → ConsumesFront (remaining old left) left_now
 lost_all old mid left left_now kept = (mid, consumes_more (remaining old left) (remaining mid left_now) left_now [] mid kept (consumes_all mid left_now))
 
--- a piece that came behind the bytes ahead
+-- a piece that was appended to the bytes ahead
 pub joined_kept : (ahead ahead_now piece : List ℕ) (left left_now : Option (List ℕ)) → ahead_now ≡ ahead ++ piece → Consumes left left_now piece → Consumes (remaining ahead left) (remaining ahead_now left_now) []
 joined_kept ahead ahead_now piece None left_now e p = tt
 joined_kept ahead ahead_now piece (Some xs) None e p = absurd p

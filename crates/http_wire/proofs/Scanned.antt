@@ -1,4 +1,4 @@
--- What is known of a head behind each byte.
+-- What is known of a head after each byte.
 use Rattle.std.proofs.Common.{ℕ, ◌+◌, ◌≤◌, ◌<◌, ◌≡◌, ◌∙◌, Bool, true, false, cond, eqb, List, [], ◌∷◌, ◌++◌, length, take, drop, get_or, refl, sym, ap, subst, arith, append_assoc}
 use Rattle.std.specs.Prelude.{Option, None, Some}
 use Rattle.std.proofs.Math.Seq.{drop-length}
@@ -36,7 +36,7 @@ pub stays_one_return : behind_empty (13 ∷ []) ≡ 13 ∷ []
 unfolding behind_empty
 stays_one_return = refl
 
--- the first empty line behind a line
+-- the first empty line after a line
 
 shift_none : (end : Option ℕ) → end ≡ shift 0 end
 shift_none None = refl

@@ -26,7 +26,7 @@ is_number value = nat_lt 0 (length value) && list_all is_ascii_digit value
 abbrev pub all_are : List ℕ → List (List ℕ) → Bool
 all_are value values = list_all (λ other. bytes_eq other value) values
 
--- the number that decimal digits are, behind those that are this number
+-- the number that decimal digits write, after those of this number
 abbrev pub number_after : ℕ → List ℕ → ℕ
 number_after n [] = n
 number_after n (b ∷ bs) = number_after (n * 10 + (b - 48)) bs

@@ -1,4 +1,4 @@
--- How bytes of the source come behind those ahead.
+-- How bytes of the source are appended to those ahead.
 use Rattle.std.specs.Prelude.{ℕ, ◌≡◌, ◌<◌, Bool, List, [], ◌++◌, Option, Result, Ok, Err, MatchBool, length}
 use Rattle.std.specs.Io.KnownBytes.{Consumes, IsAtEnd}
 use Rattle.dra_ports.specs.declared.error.PortError.{PortError}
@@ -6,7 +6,7 @@ use Rattle.dra_ports.specs.declared.error.PortError.TheVariants as port
 use Rattle.dra_ports.specs.Fronts.{ConsumesFront}
 use Rattle.http_wire.specs.Reader.{remaining}
 
--- a piece of so many bytes came behind those ahead; none means that none is left
+-- a piece of `count` bytes was appended to those ahead; 0 means that none is left
 pub record Joined (ahead ahead_now : List ℕ) (left left_now : Option (List ℕ)) (count : ℕ) : Type 0 where
   pub piece : List ℕ
   pub joined : ahead_now ≡ ahead ++ piece
@@ -20,7 +20,7 @@ ReadsPiece ahead ahead_now left left_now (Ok count) = Joined ahead ahead_now lef
 ReadsPiece ahead ahead_now left left_now (Err port.Failed) = (ahead_now ≡ ahead) × Consumes left left_now []
 ReadsPiece ahead ahead_now left left_now (Err port.Memory) = (ahead_now ≡ ahead) × ConsumesFront left left_now
 
--- a piece came behind the bytes ahead, or none is left
+-- a piece was appended to the bytes ahead, or none is left
 pub record Filled (ahead ahead_now : List ℕ) (left left_now : Option (List ℕ)) (more : Bool) : Type 0 where
   pub piece : List ℕ
   pub joined : ahead_now ≡ ahead ++ piece
@@ -32,7 +32,7 @@ Fills ahead ahead_now left left_now (Ok more) = Filled ahead ahead_now left left
 Fills ahead ahead_now left left_now (Err port.Failed) = (ahead_now ≡ ahead) × Consumes left left_now []
 Fills ahead ahead_now left left_now (Err port.Memory) = (ahead_now ≡ ahead) × ConsumesFront left left_now
 
--- whether something is ahead, where no byte was gone over
+-- whether something is ahead; no byte was gone over
 pub record Ready (ahead ahead_now : List ℕ) (left left_now : Option (List ℕ)) (more : Bool) : Type 0 where
   pub kept : Consumes (remaining ahead left) (remaining ahead_now left_now) []
   pub some : MatchBool more (0 < length ahead_now) ((ahead_now ≡ []) × IsAtEnd left_now)

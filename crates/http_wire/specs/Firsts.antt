@@ -8,7 +8,7 @@ abbrev pub first_of : List (List ℕ) → Option (List ℕ)
 first_of [] = None
 first_of (value ∷ values) = Some value
 
--- the number of digits behind those that are a number, or one more than a body may have where it is greater
+-- the number that digits write after those of this number, capped at one more than a body may have
 abbrev pub number_within : ℕ → List ℕ → ℕ
 number_within n digits = min (number_after n digits) (body_most + 1)
 

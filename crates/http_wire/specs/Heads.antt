@@ -1,22 +1,22 @@
 -- Where a head is in bytes (RFC 9112, sections 2.1 and 2.2): lines that end with LF, where a CR before
--- the LF belongs to the end, up to the first empty one behind one that isn't empty.
+-- the LF belongs to the end, up to the first empty one after one that isn't empty.
 use Rattle.std.specs.Prelude.{ℕ, ◌≡◌, ◌≤◌, ◌<◌, ◌+◌, ◌==◌, ◌&&◌, ◌||◌, nat_lt, Bool, false, List, [], ◌∷◌, Option, None, Some, option_map, length, take, count_by, if◌then◌else◌}
 
 abbrev pub begins_with_lf : List ℕ → Bool
 begins_with_lf [] = false
 begins_with_lf (b ∷ bs) = b == 10
 
--- how long the empty line is that bytes begin with, LF or CR LF; 0 where they begin with none
+-- how long the empty line is that bytes begin with, LF or CR LF; 0 if they begin with none
 abbrev pub empty_line : List ℕ → ℕ
 empty_line [] = 0
 empty_line (b ∷ bs) = if b == 10 then 1 else if b == 13 && begins_with_lf bs then 2 else 0
 
--- the bytes behind the empty lines that they begin with
+-- the bytes after the empty lines that they begin with
 unfoldable pub behind_empty : List ℕ → List ℕ
 behind_empty [] = []
 behind_empty (b ∷ bs) = if b == 10 || (b == 13 && begins_with_lf bs) then behind_empty bs else b ∷ bs
 
--- how many bytes there are up to the end of the first empty line behind a line
+-- how many bytes there are up to the end of the first empty line after a line
 unfoldable pub through_empty : List ℕ → Option ℕ
 through_empty [] = None
 through_empty (b ∷ bs) = if b == 10 && nat_lt 0 (empty_line bs) then Some (1 + empty_line bs) else option_map (λ n. 1 + n) (through_empty bs)

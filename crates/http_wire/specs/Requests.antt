@@ -107,13 +107,13 @@ Lie bytes (m ∷ ms) ending = (text rest : List ℕ) × (bytes ≡ text ++ rest)
 abbrev pub Follow : Message → List ℕ → List Message → Ending → Type 0
 Follow m rest ms ending = MatchBool m.last ((ms ≡ []) × (ending ≡ Closed)) (Lie rest ms ending)
 
--- a request, and behind it these
+-- a request, and after it these
 pub record IsFirst (m : Message) (rest : List ℕ) (ms : List Message) (ending : Ending) : Type 0 where
   pub others : List Message
   pub first : ms ≡ m ∷ others
   pub follow : Follow m rest others ending
 
--- the bytes are these requests in order, one behind another, and none of them ends the connection
+-- the bytes are these requests in order, one after another, and none of them ends the connection
 abbrev pub AreRequests : List ℕ → List Message → Type 0
 AreRequests bytes [] = bytes ≡ []
 AreRequests bytes (m ∷ ms) = (text rest : List ℕ) × (bytes ≡ text ++ rest) × IsRequest text m × (m.last ≡ false) × AreRequests rest ms

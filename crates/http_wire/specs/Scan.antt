@@ -39,13 +39,13 @@ begins = record { place = Before; count = 0; blank = 0 }
 abbrev pub shift : ℕ → Option ℕ → Option ℕ
 shift n end = option_map (λ m. n + m) end
 
--- Empty lines alone were gone over, and then these bytes, which may begin another: whatever follows, it is
+-- Only empty lines were gone over, and then these bytes, which may begin another: whatever follows, it is
 -- what follows these bytes.
 pub record BehindEmpty (front lines pending : List ℕ) : Type 0 where
   pub lines_are : lines ≡ pending
   pub goes_on : (more : List ℕ) → behind_empty (front ++ more) ≡ behind_empty (pending ++ more)
 
--- These lines were gone over behind the empty ones, none of them empty, and the last bytes of them may
+-- These lines were gone over after the empty ones, none of them empty, and the last bytes of them may
 -- belong to an empty line: whatever follows, it ends where what follows those bytes does.
 pub record InLines (front lines pending : List ℕ) : Type 0 where
   pub lines_are : (more : List ℕ) → behind_empty (front ++ more) ≡ lines ++ more

@@ -53,7 +53,7 @@ pub record IsPart (ahead : List ℕ) (left left_now : Option (List ℕ)) (long :
   pub consumed : Consumes (remaining ahead left) left_now part
   pub short : length part < long
 
--- the bytes were taken, so many
+-- the bytes were taken, `long` of them
 pub record IsTaken (ahead ahead_now : List ℕ) (left left_now : Option (List ℕ)) (body : List ℕ) (long : ℕ) : Type 0 where
   pub consumed : Consumes (remaining ahead left) (remaining ahead_now left_now) body
   pub long_is : length body ≡ long

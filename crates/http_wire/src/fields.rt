@@ -76,7 +76,7 @@ fn is_number(value: &[u8]) -> bool
     true
 }
 
-/// The number of decimal digits, or one more than a body may have where it is greater.
+/// The number that decimal digits write, capped at one more than a body may have.
 fn number_within(digits: &[u8]) -> usize
     ensures { result ≡ number_within 0 digits.now }
 {

@@ -38,7 +38,7 @@ pub fn read_head(alloc: Global, lines: &[u8]) -> Result<Head, WireError>
     say_parts(alloc, &request)
 }
 
-/// Whether a parse is complete, of so many bytes.
+/// Whether a parse is complete, of `len` bytes.
 fn is_whole(parsed: httparse::Result<usize>, len: usize) -> bool
     ensures { result ≡ is_whole parsed len }
 {

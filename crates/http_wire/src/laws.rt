@@ -1,7 +1,7 @@
 ghost use Rattle.std.specs.Prelude.{◌≡◌, ◌∷◌, ◌++◌, [], List, ℕ, false};
 ghost use Rattle.http_wire.specs.Requests.{AreRequests, Ending, IsFirst, IsRequest, Lie, Message};
 
-/// The requests of bytes lie in them in order, one behind another, up to an ending.
+/// The requests of bytes lie in them in order, one after another, up to an ending.
 ///
 /// Bytes have one list of requests and one ending (`one`), and a request that the bytes begin with is
 /// the first of them, followed by those of the bytes after it (`first`): so a reader that takes the

@@ -1,4 +1,4 @@
-//! Requests of HTTP/1.1 and HTTP/1.0 from a source of bytes, one behind another, and replies to a
+//! Requests of HTTP/1.1 and HTTP/1.0 from a source of bytes, one after another, and replies to a
 //! sink: what a server of one connection reads and writes, apart from what its replies say.
 #![tactic(auto)]
 

@@ -94,7 +94,7 @@ impl RequestReader {
         }
     }
 
-    /// Takes so many bytes.
+    /// Takes a body of `length` bytes.
     fn take_body<S: Source>(
         &mut self,
         alloc: Global,
@@ -114,7 +114,7 @@ impl RequestReader {
         Ok(body)
     }
 
-    /// Takes bytes ahead into a body, up to so many in all.
+    /// Takes bytes ahead into a body, up to `long` bytes in all.
     fn take_piece(&mut self, body: &mut Vec<u8>, long: usize) -> Result<(), AllocError>
         requires { length body.old.items ≤ long }
         ensures took { OnOk result (body.new.items ≡ body.old.items ++ take (long - length body.old.items) self.old) }
@@ -139,7 +139,7 @@ fn at_end(place: Place) -> Result<Option<Scan>, WireError>
     Err(WireError::EndedEarly)
 }
 
-/// What the head says that was found, if it hasn't too many lines.
+/// What the head that was found says, if it hasn't too many lines.
 fn head_of(alloc: Global, ahead: &[u8], scan: Scan) -> Result<Head, WireError>
     requires found { Found ahead.now scan }
     ensures says { SaysOf (take scan.count ahead.now) result }

@@ -9,8 +9,8 @@ use std::marker::Model;
 /// How many bytes are read at once.
 const PIECE: usize = 4096;
 
-/// Reads requests from a source, one behind another. What contracts see of it are the bytes that it
-/// has taken of the source and that belong to no request so far.
+/// Reads requests from a source, one after another. What contracts see of it are the bytes that it
+/// has taken from the source and that belong to no request so far.
 #[derive(Drop)]
 pub struct RequestReader {
     bytes: Vec<u8>,
@@ -45,7 +45,7 @@ impl RequestReader {
         &self.bytes[self.next..]
     }
 
-    /// Skips so many of the bytes ahead.
+    /// Skips the first `count` of the bytes ahead.
     pub(crate) fn advance(&mut self, count: usize)
         requires { count ≤ length self.old }
         ensures { self.new ≡ drop count self.old }
@@ -53,7 +53,7 @@ impl RequestReader {
         self.next += count;
     }
 
-    /// Takes a piece of the source behind the bytes ahead. Whether it has one.
+    /// Takes a piece of the source after the bytes ahead. Returns whether it has one.
     pub(crate) fn fill<S: Source>(&mut self, alloc: Global, from: &mut S) -> Result<bool, PortError>
         ensures fills { Fills self.old self.new (S.left from.old) (S.left from.new) result }
         ensures cause { HasCause (S.faults from.old) (S.faults from.new) result }
@@ -63,7 +63,7 @@ impl RequestReader {
         Ok(count > 0)
     }
 
-    /// Takes a piece of the source, where nothing is ahead. Whether something is ahead then.
+    /// Takes a piece of the source if nothing is ahead. Returns whether something is ahead then.
     pub(crate) fn has_more<S: Source>(
         &mut self,
         alloc: Global,
@@ -78,7 +78,7 @@ impl RequestReader {
         self.fill(alloc, from)
     }
 
-    /// Forgets the bytes before those ahead.
+    /// Drops the bytes before those ahead.
     fn move_to_front(&mut self, alloc: Global) -> Result<(), AllocError>
         ensures same { self.new ≡ self.old }
     {
@@ -92,7 +92,7 @@ impl RequestReader {
         Ok(())
     }
 
-    /// Reads a piece of the source behind the bytes ahead. How many it has.
+    /// Reads a piece of the source after the bytes ahead. Returns its length.
     fn read_piece<S: Source>(&mut self, from: &mut S) -> Result<usize, PortError>
         ensures reads { ReadsPiece self.old self.new (S.left from.old) (S.left from.new) result }
         ensures cause { HasCause (S.faults from.old) (S.faults from.new) result }

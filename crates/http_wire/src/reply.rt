@@ -13,7 +13,7 @@ use std::alloc::{AllocError, Global};
 pub struct Reply {
     /// The status, from 100 to 999.
     pub status: StatusCode,
-    /// Whether the body is `application/json`; else it is `text/plain`.
+    /// Whether the body is `application/json`; otherwise it is `text/plain`.
     pub json: bool,
     /// The body.
     pub body: Vec<u8>,
@@ -51,7 +51,7 @@ fn reply_text(alloc: Global, reply: &Reply) -> Result<Vec<u8>, AllocError>
     Ok(bytes)
 }
 
-/// The bytes of a reply up to its body, which has so many.
+/// The bytes of a reply up to its body, which has `long` bytes.
 fn head_text(
     alloc: Global,
     code: &str,

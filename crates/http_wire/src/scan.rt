@@ -6,17 +6,17 @@ ghost use Rattle.http_wire.specs.declared.scan.Place.TheVariants.{Before, Done};
 /// Where in a head the next byte is.
 #[derive(Clone, Copy, Debug, PartialEq, Eq, Drop)]
 pub enum Place {
-    /// At the beginning of a line, behind empty lines alone.
+    /// At the beginning of a line, after nothing but empty lines.
     Before,
-    /// Behind the CR that begins such a line.
+    /// After the CR that begins such a line.
     BeforeReturn,
     /// In a line that isn't empty.
     Inside,
-    /// At the beginning of a line behind one that isn't empty.
+    /// At the beginning of a line after one that isn't empty.
     Start,
-    /// Behind the CR that begins such a line.
+    /// After the CR that begins such a line.
     StartReturn,
-    /// Behind the head.
+    /// After the head.
     Done,
 }
 
@@ -45,7 +45,7 @@ impl Scan {
         }
     }
 
-    /// What is known behind one byte more.
+    /// What is known after one more byte.
     fn after(self, byte: u8) -> Scan
         requires { self.count < head_most }
         ensures { result ≡ scan_after self byte }
@@ -104,7 +104,7 @@ pub fn is_done(place: Place) -> bool
     }
 }
 
-/// Whether empty lines alone were gone over.
+/// Whether only empty lines were gone over.
 pub fn is_before(place: Place) -> bool
     ensures { MatchBool result (place ≡ Before) (place ≡ Before → ⊥) }
 {

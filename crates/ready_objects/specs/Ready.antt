@@ -54,7 +54,7 @@ requests_path = Member (codes "spec") ∷ Member (codes "devices") ∷ Member (c
 abbrev pub selectors_path : List Step → List Step
 selectors_path path = path ++ Member (codes "selectors") ∷ []
 
--- of each subrequest, behind those before
+-- of each subrequest, after those before
 abbrev pub options_from : List Step → ℕ → List (List (List ℕ)) → List DeviceSubRequest → Result (List (List (List ℕ))) FieldError
 options_from path n before [] = Ok before
 options_from path n before (r ∷ rs) =
@@ -69,7 +69,7 @@ abbrev pub kind_texts : List Step → RequestKind → Result (List (List (List �
 kind_texts path (Exactly r) = only_texts (path ++ Member (codes "exactly") ∷ []) r.ask.selectors
 kind_texts path (FirstAvailable rs) = options_from (path ++ Member (codes "firstAvailable") ∷ []) 0 [] rs
 
--- of each request, behind those before
+-- of each request, after those before
 abbrev pub requests_from : ℕ → List (List (List (List ℕ))) → List DeviceRequest → Result (List (List (List (List ℕ)))) FieldError
 requests_from n before [] = Ok before
 requests_from n before (r ∷ rs) = kind_texts (requests_path ++ Place n ∷ []) r.kind >>= λ ts. requests_from (n + 1) (before ++ ts ∷ []) rs

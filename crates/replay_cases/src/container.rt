@@ -5,7 +5,7 @@ use crate::scripts::{Scripts, copies};
 use crate::varied::{Varied, run_each, run_varied};
 use std::alloc::{AllocError, Global};
 
-/// A text up to its first space, and what is behind that.
+/// A text up to its first space, and what follows it.
 fn cut_word(text: &str) -> (&str, &str) {
     text.split_once(' ').unwrap_or((text, ""))
 }
@@ -119,7 +119,7 @@ fn run_case(
     }
 }
 
-/// Runs each line of a script behind another script.
+/// Runs each line of a script after another script.
 fn run_lines(
     alloc: Global,
     text: &str,

@@ -25,7 +25,7 @@ enum Left {
     Unread,
 }
 
-/// Reads what is left in an input, and says how many bytes that are. None where a read fails.
+/// Reads what is left in an input, and says how many bytes that are. None if a read fails.
 fn read_on(alloc: Global, input: &mut Input) -> Result<Option<usize>, AllocError> {
     match read_all(alloc, input) {
         Ok(rest) => Ok(Some(rest.len())),
@@ -34,7 +34,7 @@ fn read_on(alloc: Global, input: &mut Input) -> Result<Option<usize>, AllocError
     }
 }
 
-/// Reads what is left in an input, once more where that fails.
+/// Reads what is left in an input, once more if that fails.
 fn left_in(alloc: Global, input: &mut Input) -> Result<Left, AllocError> {
     if let Some(count) = read_on(alloc, input)? {
         return Ok(Left::Read(count));
@@ -54,7 +54,7 @@ fn left_text(alloc: Global, left: Left) -> Result<String, AllocError> {
     }
 }
 
-/// No history may have room for so many entries.
+/// No history may have room for this many entries.
 const ENTRIES_BOUND: u64 = 281_474_976_710_656;
 
 /// Runs a script. A read returns at least one byte and a write takes at least one.

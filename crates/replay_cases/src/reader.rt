@@ -28,7 +28,7 @@ impl<'a> Reader<'a> {
         Some(line)
     }
 
-    /// The next bytes, so many, and goes over the line end behind them. None where there are fewer.
+    /// The next `count` bytes; skips the line end after them. None if there are fewer.
     pub fn next_bytes(&mut self, count: usize) -> Option<&'a [u8]> {
         if self.bytes.len() < count {
             return None;

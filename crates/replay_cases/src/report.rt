@@ -17,7 +17,7 @@ impl Report {
         }
     }
 
-    /// Adds an outcome, and prints those before it where it is another.
+    /// Adds an outcome, and prints those before it if it differs.
     pub fn add(
         &mut self,
         alloc: Global,

@@ -26,7 +26,7 @@ fn called(alloc: Global, name: &str) -> Result<String, AllocError> {
 }
 
 /// What a connective has before its first side, what two sides of it are together, and whether the
-/// left one stops it; `none` where the operator is no connective.
+/// left one stops it; `none` if the operator is no connective.
 fn joined(alloc: Global, input: &Value) -> Result<String, CaseError> {
     let left = side(text_at(input, 1)?)?;
     let right = side(text_at(input, 2)?)?;
@@ -66,7 +66,7 @@ fn no_properties(alloc: Global) -> Result<String, AllocError> {
     format!(in alloc; "{attributes} {capacity}")
 }
 
-/// The driver of a device with no attributes and no capacities, or `none` where a limit is broken.
+/// The driver of a device with no attributes and no capacities, or `none` if a limit is broken.
 fn device(alloc: Global, driver: &str) -> Result<String, AllocError> {
     let driver = Text::from_str(alloc, driver)?;
     match DeviceEnv::checked(driver, Table::new(alloc), Table::new(alloc)) {

@@ -66,7 +66,7 @@ fn push_command(alloc: Global, command: &Command, text: &mut String) -> Result<(
     }
 }
 
-/// The name of an object that is taken away, behind its kind and its namespace where it has one.
+/// The name of an object that is deleted, after its kind and its namespace if it has one.
 fn push_target(target: &Target, text: &mut String) -> Result<(), AllocError> {
     match target {
         Target::Slice(name) => write!(text, "delete ResourceSlice {name}"),
@@ -77,7 +77,7 @@ fn push_target(target: &Target, text: &mut String) -> Result<(), AllocError> {
     }
 }
 
-/// The object's name, behind its kind and its namespace where it has one.
+/// The object's name, after its kind and its namespace if it has one.
 fn push_object(object: &Object, text: &mut String) -> Result<(), AllocError> {
     match object {
         Object::Slice(slice) => write!(text, "apply ResourceSlice {}", slice.name),

@@ -32,7 +32,7 @@ fn texts_of(alloc: Global, value: &Value, path: &Path) -> Result<Seq<Text>, Fiel
     read_items(alloc, list(alloc, value, path, "f")?, path)
 }
 
-/// The texts, with a `;` behind each.
+/// The texts, with a `;` after each.
 pub fn joined(alloc: Global, answer: Result<Seq<Text>, FieldError>) -> Result<String, AllocError> {
     match answer {
         Ok(texts) => texts_text(alloc, texts.as_slice()),

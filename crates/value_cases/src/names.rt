@@ -91,7 +91,7 @@ fn steps_text(alloc: Global, path: &Path) -> Result<String, AllocError> {
 }
 
 /// The numbers, the pre-release and the build metadata of a version of Semantic Versioning 2.0.0, or
-/// `none` where the text is none.
+/// `none` if the text is none.
 fn version(alloc: Global, text: &str) -> Result<String, AllocError> {
     match semver::Version::parse(alloc, text) {
         Ok(version) => version_text(alloc, &version),

@@ -4,7 +4,7 @@ use Rattle.object_fields.specs.Lists.{alone, each, each_from}
 use Rattle.api_claim.specs.Constraints.{known_at}
 use Rattle.api_claim.proofs.constraints.read_each_request.Given as goal
 
--- the items that are left, behind those read, are all items
+-- the items that are left, after those read, are all items
 abbrev pub invariant-loop-place : goal.invariant-loop-place
 invariant-loop-place l =
     each_from (alone (known_at l.names)) l.path l.place l.requests (items_view (drop l.place l.values)) ≡ each (known_at l.names) l.path (items_view l.values)
