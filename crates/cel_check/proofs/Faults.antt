@@ -1,4 +1,4 @@
--- A fault is a tree's first by the rules exactly where it is found in place of a type.
+-- A fault is a tree's first by the rules if and only if it is found instead of a type.
 use Rattle.std.proofs.Common.{◌≡◌, ℕ, List, [], ◌∷◌, ◌++◌, Bool, true, false, ◌&&◌, ◌||◌, ◌⊎◌, inl, inr, ⊎_elim, refl, ap, sym, ◌∙◌, subst, if◌then◌else◌}
 use Rattle.std.specs.Prelude.{Option, Some, None, Result, Ok, Err, codes, is_some}
 use Rattle.std.specs.List.{list_all}
@@ -367,7 +367,7 @@ shown : (b : Bool) (t : Ast) → b ≡ false → (if b then None else Some t) �
 shown true t e = absurd cc
 shown false t e = refl
 
--- a call of a name other than `has`, behind its arguments
+-- a call of a name other than `has`, after its arguments
 called_back : (names : Names) (span : Span) (word : List ℕ) (ts : Asts) (given : Arguments) (c : Option Called) (z : Fault) → is_has (called_of word) ≡ false → called_of word ≡ c
     → HaveTypes names ts given → called_type span c given ≡ Err z → HasFault names (Node span (Call word ts)) z
 called_back names span word ts given (Some (called.Function g)) z n c hs e =
@@ -377,7 +377,7 @@ called_back names span word ts given (Some (called.Comprehension m)) z n c hs e 
 called_back names span word ts given None z n c hs e = subst (HasFault names (Node span (Call word ts))) (err_inj e) (rule.call_name c hs)
 called_back names span word ts given (Some called.Has) z n c hs e = let x : true ≡ false = sym (ap is_has c) ∙ n in absurd cc
 
--- a method, behind its object
+-- a method, after its object
 method_back : Sound → (names : Names) (span : Span) (t : Ast) (word : List ℕ) (k : CelType) (ts : Asts) (z : Fault) → is_bind t word ≡ false → HasType names t k
     → ((y : Fault) → types_of names ts ≡ Err y → HaveFault names ts y)
     → ((m : Comprehension) → called_of word ≡ Some (called.Comprehension m) → elements span (element_type k) (λ s. comprehension_of names span m s ts) ≡ Err z → HasFault names (Node span (Method t word ts)) z)
@@ -412,7 +412,7 @@ alone_back : (names : Names) (span : Span) (t : Ast) (word : List ℕ) (k : CelT
 alone_back names span t word k m z b h c None l e = subst (HasFault names (Node span (Method t word End))) (err_inj e) (rule.range b c h l)
 alone_back names span t word k m z b h c (Some s) l e = subst (HasFault names (Node span (Method t word End))) (err_inj e) (rule.variable b c h l refl)
 
--- the bodies of a comprehension, behind its variable
+-- the bodies of a comprehension, after its variable
 bodies_of : Sound → (names : Names) (span : Span) (t : Ast) (word : List ℕ) (k : CelType) (m : Comprehension) (s : Scalar) (x : Ast) (ts : Asts) (z : Fault) → is_bind t word ≡ false → HasType names t k
     → called_of word ≡ Some (called.Comprehension m) → element_type k ≡ Some s → ((ns : Names) (y : Fault) → types_of ns ts ≡ Err y → HaveFault ns ts y) → (o : Option (List ℕ)) → variable_of x ≡ o
     → with_variable span o (λ name. types_of ((name, kind.Scalar s) ∷ names) ts >>= λ bodies. comprehension_type span m s bodies) ≡ Err z → HasFault names (Node span (Method t word (More x ts))) z
@@ -431,7 +431,7 @@ over_back : Sound → (names : Names) (span : Span) (t : Ast) (word : List ℕ) 
 over_back w names span t word k m x ts z b h c arguments None l e = subst (HasFault names (Node span (Method t word (More x ts)))) (err_inj e) (rule.range b c h l)
 over_back w names span t word k m x ts z b h c arguments (Some s) l e = bodies_of w names span t word k m s x ts z b h c l arguments (variable_of x) refl e
 
--- `cel.bind`, behind its variable
+-- `cel.bind`, after its variable
 named_back : (names : Names) (span : Span) (t : Ast) (word : List ℕ) → is_bind t word ≡ true → (x : Ast) (ts : Asts) (z : Fault)
     → ((place : Span) (n : List ℕ) → bound_of names span n ts ≡ Err z → HasFault names (Node span (Method t word (More (Node place (Ident n)) ts))) z)
     → (o : Option (List ℕ)) → variable_of x ≡ o → with_variable span o (λ name. bound_of names span name ts) ≡ Err z → HasFault names (Node span (Method t word (More x ts))) z
@@ -515,7 +515,7 @@ mutual
       (λ p. absurd (ok_err p.2))
       (then_err (values_of names [] es) (λ values. Ok (map_type (keys_type es) values)) z e)
 
-  -- what `has` is at fault with
+  -- the faults of `has`
   has_back : Sound → (names : Names) (span : Span) (word : List ℕ) → called_of word ≡ Some called.Has → (ts : Asts) (z : Fault) → has_of names span ts ≡ Err z → HasFault names (Node span (Call word ts)) z
   has_back w names span word c End z e = subst (HasFault names (Node span (Call word End))) (err_inj e) (rule.has_form c refl)
   has_back w names span word c (More t (More u ts)) z e = subst (HasFault names (Node span (Call word (More t (More u ts))))) (err_inj e) (rule.has_form c refl)
@@ -549,7 +549,7 @@ mutual
   has_form_back w names span place word c (ListOf ts) z e = subst (HasFault names _) (err_inj e) (rule.has_form c refl)
   has_form_back w names span place word c (MapOf es) z e = subst (HasFault names _) (err_inj e) (rule.has_form c refl)
 
-  -- a comprehension, behind its range
+  -- a comprehension, after its range
   range_back : Sound → (names : Names) (span : Span) (t : Ast) (word : List ℕ) (k : CelType) (m : Comprehension) (z : Fault) → is_bind t word ≡ false → HasType names t k
       → called_of word ≡ Some (called.Comprehension m) → (ts : Asts) → elements span (element_type k) (λ s. comprehension_of names span m s ts) ≡ Err z → HasFault names (Node span (Method t word ts)) z
   range_back w names span t word k m z b h c End e = alone_back names span t word k m z b h c (element_type k) refl e

@@ -1,4 +1,4 @@
--- What was found of the front of a list, with what is found of the rest.
+-- What was found in a prefix of a list, with what is found in the rest.
 use Rattle.std.proofs.Common.{◌≡◌, ℕ, ◌+◌, ◌<◌, ◌≤◌, List, [], ◌∷◌, ◌++◌, Bool, true, false, ◌&&◌, if◌then◌else◌, length, drop, take, get_or, map, arith, Box, Global, refl, ap, sym, ◌∙◌}
 use Rattle.std.proofs.lemmas.List.{drop_more, take_more, drop_all, map-append}
 use Rattle.std.specs.Prelude.{Option, Some, None, Result, Ok, Err, is_some}
@@ -54,7 +54,7 @@ given_end (arguments.One k) = refl
 given_end (arguments.Two k l) = refl
 given_end arguments.Many = refl
 
--- the list of trees from a place on
+-- the list of trees from an index on
 pub rest_at : (xs : List Tree) (i : ℕ) (t : Tree) → t ≡ get_or xs i t → i < length xs → asts_of (map tree_view (drop i xs)) ≡ More (tree_view t) (asts_of (map tree_view (drop (i + 1) xs)))
 rest_at xs i t e h = ap (λ (ys : List Tree). asts_of (map tree_view ys)) (drop_more xs i t h ∙ ap (λ u. u ∷ drop (i + 1) xs) (sym e))
 
@@ -167,7 +167,7 @@ key_not : (span : Span) (earlier : List Constant) (o : Option Constant) → is_o
 key_not span earlier None e = refl
 key_not span earlier (Some c) e = key_was_not span c (is_some (key_type c) && list_all (beside c) earlier) e
 
--- what a map literal's values are behind the entries before the place
+-- the values of a map literal after the entries before the index
 abbrev pub values_from : Names → List Entry → ℕ → Result (Option Scalar) Fault
 values_from names xs i = values_of names (literals (map entry_view (take i xs))) (entries_of (map entry_view (drop i xs)))
 

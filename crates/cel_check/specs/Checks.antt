@@ -1,4 +1,4 @@
--- What the check answers.
+-- What the check returns.
 use Rattle.std.specs.Prelude.{◌≡◌, [], false, if◌then◌else◌, Result, Ok, Err}
 use Rattle.cel_tree.specs.declared.types.Scalar.TheVariants as scalar
 use Rattle.cel_tree.specs.declared.types.CelType.{CelType}

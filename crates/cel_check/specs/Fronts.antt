@@ -1,4 +1,4 @@
--- What was found of the front of a list, and one more.
+-- What was found in a prefix of a list, and one more.
 use Rattle.std.specs.Prelude.{Option, Some, None}
 use Rattle.cel_tree.specs.declared.types.Scalar.{Scalar}
 use Rattle.cel_tree.specs.declared.types.CelType.{CelType}

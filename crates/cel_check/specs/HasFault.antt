@@ -1,4 +1,4 @@
--- Which fault of a tree is the first, by rules: of what stands further to the left before the rest, and
+-- Which fault of a tree is the first, by rules: of what is further to the left before the rest, and
 -- of operands before their operation.
 use Rattle.std.specs.Prelude.{◌≡◌, ℕ, List, [], ◌∷◌, ◌++◌, Bool, true, false, ◌&&◌, ◌||◌, Option, Some, None, codes, is_some, if◌then◌else◌}
 use Rattle.std.specs.List.{list_all}

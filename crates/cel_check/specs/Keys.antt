@@ -3,7 +3,7 @@ use Rattle.std.specs.Prelude.{List, [], ◌∷◌, Option, Some, None}
 use Rattle.cel_tree.specs.Ast.{Constant, Ast}
 use Rattle.cel_tree.specs.Typing.{literal_of}
 
--- a literal in front of others
+-- a literal before others
 abbrev pub in_front : Option Constant → List Constant → List Constant
 in_front (Some c) cs = c ∷ cs
 in_front None cs = cs

@@ -8,7 +8,7 @@ use Rattle.cel_tree.specs.Calls.{called_of}
 use Rattle.cel_tree.specs.Faults.{◌>>=◌, method_called_type}
 use Rattle.cel_tree.specs.Typing.{Names, list_type, map_type, keys_type, by_comprehension, comprehension_in, over, comprehension_of, types_of, items_of, values_of}
 
--- a method that isn't `cel.bind`, behind its object
+-- a method that isn't `cel.bind`, after its object
 abbrev pub method_of : Names → Span → List ℕ → CelType → Asts → Result CelType Fault
 method_of names span word object ts =
     by_comprehension (comprehension_in (called_of word))

@@ -14,23 +14,23 @@ use crate::typing::type_of;
 use cel_tree::{CelType, Checked, Fault, Scalar, Span, Tree, types_are_found};
 use thiserror::Error;
 
-/// Why a tree is no selector. Its places are offsets into the text in bytes.
+/// Why a tree is no selector. Its spans are byte offsets into the text.
 #[derive(Clone, Copy, Debug, PartialEq, Eq, Drop, Error)]
 pub enum CheckError {
-    /// The place of a variable, a function or a member of `device` that there isn't.
+    /// The span of a variable, a function or a member of `device` that there isn't.
     #[error("no such name at bytes {} to {}", .0.start, .0.end)]
     NoSuchName(Span),
-    /// The place of a form or call that has no row for its operands' types.
+    /// The span of a form or call that has no row for its operands' types.
     #[error("no such overload at bytes {} to {}", .0.start, .0.end)]
     NoOverload(Span),
-    /// The type of the whole tree, where it is neither bool nor dyn.
+    /// The type of the whole tree, if it is neither bool nor dyn.
     #[error("a selector is a bool, and this is of type {0}")]
     NotBool(CelType),
-    /// The place of a call that the profile leaves out of the language, or of a list or map that
-    /// would stand in another.
+    /// The span of a call that the profile leaves out of the language, or of a list or map that
+    /// would be inside another.
     #[error("the selector language leaves out what stands at bytes {} to {}", .0.start, .0.end)]
     NotSupported(Span),
-    /// Memory ran out. The check takes none, so it never answers this.
+    /// Out of memory. The check allocates nothing, so it never returns this.
     #[error("out of memory")]
     Memory,
 }
@@ -46,8 +46,8 @@ fn error_of(fault: Fault) -> CheckError
 }
 
 /// The tree with its type, which is bool or dyn. Otherwise its first fault from the left, operands
-/// before their operation: `NotSupported`, `NoSuchName` or `NoOverload`; where there is none,
-/// `NotBool` with the type of the whole tree. Takes no memory.
+/// before their operation: `NotSupported`, `NoSuchName` or `NoOverload`; if there is none,
+/// `NotBool` with the type of the whole tree. Allocates nothing.
 pub fn check(tree: Tree) -> Result<Checked, CheckError>
     ensures exact { result ≡ checked_of (tree_view tree) }
     ensures typed { IfOk result (λ c. HasType [] c.tree c.kind) }

@@ -31,7 +31,7 @@ pub fn key_type(literal: &Literal) -> Option<KeyType>
     }
 }
 
-/// Whether a literal is beside the key of each entry before the place.
+/// Whether a literal is beside each key of the entries that is a literal.
 fn is_fresh(entries: &[Entry], literal: &Literal) -> bool
     ensures { result ≡ list_all (beside (constant_view literal.now)) (literals (map entry_view entries.now)) }
 {
@@ -45,7 +45,7 @@ fn is_fresh(entries: &[Entry], literal: &Literal) -> bool
     true
 }
 
-/// Whether the key of the entry at the place is a literal of one of the types of keys, and beside
+/// Whether the key of the entry at the index is a literal of one of the types of keys, and beside
 /// each key before it.
 pub fn is_key(entries: &[Entry], at: usize, key: &Tree) -> bool
     requires { at ≤ length entries.now }

@@ -8,7 +8,7 @@ ghost use Rattle.cel_check.specs.HasFault.{HasFault};
 
 use cel_tree::types_are_found;
 
-/// A fault is the first of a tree by the rules if and only if it is found in place of a type.
+/// A fault is the first of a tree by the rules if and only if it is found instead of a type.
 pub fn first_faults_are_found()
     ensures found { (names : Names) (t : Ast) (f : Fault) → HasFault names t f → type_of names t ≡ Err f }
     ensures sound { (names : Names) (t : Ast) (f : Fault) → type_of names t ≡ Err f → HasFault names t f }

@@ -37,7 +37,7 @@ fn is_ident(tree: &Tree, name: &str) -> bool
     }
 }
 
-/// Whether the tree is `device`, where no bound name hides it.
+/// Whether the tree is `device`, and no bound name hides it.
 pub fn is_device(tree: &Tree, scope: &Scope) -> bool
     ensures { result ≡ is_device (names_of scope.now) (tree_view tree.now) }
 {

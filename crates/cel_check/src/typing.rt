@@ -108,7 +108,7 @@ fn has<'x>(span: Span, arguments: &'x [Tree], scope: &'x Scope<'x>) -> Result<Ce
     }
 }
 
-/// `object.function(arguments)`, where it isn't `cel.bind`, behind its object.
+/// `object.function(arguments)`, where it isn't `cel.bind`, after its object.
 #[cycle(typing)]
 fn method<'x>(
     span: Span,
@@ -131,7 +131,7 @@ fn method<'x>(
     }
 }
 
-/// `range.all(x, ..)` and the like, behind the range.
+/// `range.all(x, ..)` and the like, after the range.
 #[cycle(typing)]
 fn comprehension<'x>(
     span: Span,
@@ -176,7 +176,7 @@ fn bind<'x>(span: Span, arguments: &'x [Tree], scope: &'x Scope<'x>) -> Result<C
     }
 }
 
-/// The types of the trees from a place on.
+/// The types of the trees from an index on.
 #[cycle(typing)]
 fn types_of<'x>(trees: &'x [Tree], from: usize, scope: &'x Scope<'x>) -> Result<Arguments, Fault>
     requires { from ≤ length trees.now }
@@ -224,7 +224,7 @@ fn map<'x>(entries: &'x [Entry], scope: &'x Scope<'x>) -> Result<CelType, Fault>
     Ok(CelType::Map(keys_type(entries), found.unwrap_or(Scalar::Dyn)))
 }
 
-/// One more type behind the others.
+/// One more type after the others.
 fn with_last(given: Arguments, kind: CelType) -> Arguments
     ensures { result ≡ with_last given kind }
 {

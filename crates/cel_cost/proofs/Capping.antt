@@ -12,7 +12,7 @@ use Rattle.cel_tree.specs.Estimate.{Bounds, bounds, weight_by, number_by, weighi
 use Rattle.cel_tree.specs.Types.{any}
 use Rattle.cel_cost.specs.Capped.{cap, capped}
 
--- what a type says doesn't pass the greatest number
+-- what a type decides doesn't pass the greatest number
 weight_is : (k : CelType) (w : ℕ) → weight_by k (cap w) ≡ cap (weight_by k w)
 weight_is (kind.Scalar scalar.Int) w = refl
 weight_is (kind.Scalar scalar.Bool) w = refl

@@ -21,7 +21,7 @@ pub struct Bounds {
 
 impl Bounds {
     /// The bounds of a value of the type, whose weight and number are those given where the type
-    /// alone doesn't say them.
+    /// alone doesn't decide them.
     pub fn new(kind: CelType, weight: u64, number: u64, steps: u64) -> Bounds
         ensures { seen result ≡ bounds kind weight number steps }
     {
@@ -33,7 +33,7 @@ impl Bounds {
         }
     }
 
-    /// What stands where there is no expression.
+    /// The bounds used where there is no expression.
     #[tactic(auto, unfolding(cel_tree::specs::Estimate::nothing, crate::specs::Capped::capped))]
     pub fn nothing() -> Bounds
         ensures { seen result ≡ capped nothing }

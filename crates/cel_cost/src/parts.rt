@@ -36,7 +36,7 @@ impl Parts {
         }
     }
 
-    /// The parts with one more in front.
+    /// The parts with one more before the others.
     pub fn behind(self, first: Bounds) -> Parts
         ensures { (x : Estimated) → (xs : List Estimated) → self ≡ parts_of xs → seen first ≡ capped x
             → result ≡ parts_of (x ∷ xs) }
@@ -164,7 +164,7 @@ pub fn comprehension_bounds(
     Bounds::new(kind, weight, range.number, steps)
 }
 
-/// The weight of what a comprehension gives: of `filter` at most the range, of `map` one and for each
+/// The weight of the value of a comprehension: of `filter` at most the range, of `map` one and for each
 /// element its last body.
 fn gathered_weight(comprehension: Comprehension, range: Bounds, bodies: Parts) -> u64
     ensures { (x : Estimated) → (xs : List Estimated) → seen range ≡ capped x → bodies ≡ parts_of xs

@@ -18,7 +18,7 @@ use cel_tree::{
 };
 
 /// The most steps that the evaluation of the tree takes, or the greatest number of 64 bits where they
-/// are more. Takes no memory.
+/// are more. Allocates nothing.
 pub fn estimate(tree: &Checked) -> u64
     ensures { result ≡ Estimate tree.now.tree }
 {
@@ -136,7 +136,7 @@ fn bind_of<'x>(arguments: &'x Vec<Tree>, scope: &'x Scope<'x>) -> Bounds
     bind_bounds(value, bounds_of(&arguments[2], &inner))
 }
 
-/// The parts of the trees behind the first few.
+/// The parts of the trees after the first few.
 #[cycle(bounds)]
 fn parts_of<'x>(trees: &'x Vec<Tree>, first: usize, scope: &'x Scope<'x>) -> Parts
     ensures { (env : Names) → names scope.now ≡ capped_names env

@@ -133,7 +133,7 @@ with-name-steps device names c xs [] t name e h v = absurd (omega arith)
 with-name-steps device names c xs (x ∷ ts) t name e h v =
     ap (λ (o : Option (List ℕ)). behind_variable o (λ n. comprehended_steps c (all_turns device names n (x ∷ ts)) xs)) (ap (λ (u : Tree). variable_of (tree_view u)) (sym e) ∙ v)
 
--- as many bodies as arguments behind the variable
+-- as many bodies as arguments after the variable
 pub no-bodies : (device : Device) (names : Bindings) (name : List ℕ) (c : Comprehension) (xs : List Single) (ts : List Tree) →
     (length ts ≡ 2 → ⊥) → (length ts ≡ 3 → c ≡ form.Map → ⊥) → comprehended c (bodies device names name ts) xs ≡ Err NoOverload
 no-bodies device names name form.All xs [] m n = refl

@@ -102,12 +102,12 @@ pub fold-least : (c : Connective) (side : Result Bool EvalError) (old new start 
 fold-least c side old new start k stop least rose =
     let up : new ≡ old + 2 + k = counted side (old + 2) new k (not-memory (is_memory side) (decides c side) stop) rose in omega (arith, least, up)
 
--- an error other than want of memory decides nothing
+-- an error other than out of memory decides nothing
 undecided : (c : Connective) (f : EvalError) → is_memory {A = Bool} (Err f) ≡ false → (is_memory {A = Bool} (Err f) || decides c (Err f)) ≡ true → ⊥
 undecided connective.And f m stop = let e : true ≡ false = sym stop ∙ ap (λ (b : Bool). b || false) m in absurd (cc)
 undecided connective.Or f m stop = let e : true ≡ false = sym stop ∙ ap (λ (b : Bool). b || false) m in absurd (cc)
 
--- a side behind which nothing more is looked at
+-- a side after which nothing more is looked at
 pub fold-stop : (c : Connective) (test : Turn) (xs : List Single) (i : ℕ) (x : Single) (side : Result Bool EvalError) (start old new total : ℕ) →
     x ≡ get_or xs i x → i < length xs → (is_memory side || decides c side) ≡ true → Gives side (holds test.means x) → Counts side (old + 2) new (test.steps x) → start ≤ old →
     old + folded_steps c test (drop i xs) ≡ start + total → Counts side start new total

@@ -1,4 +1,4 @@
--- What was gathered of the front of a list, with what is read of the rest.
+-- What was gathered of a prefix of a list, with what is read of the rest.
 use Rattle.std.proofs.Common.{◌≡◌, ℕ, ◌+◌, ◌<◌, ◌≤◌, List, [], ◌∷◌, ◌++◌, length, drop, get_or, map, arith, refl, ap, sym, ◌∙◌, append_assoc}
 use Rattle.std.proofs.lemmas.List.{drop_more}
 use Rattle.std.specs.Prelude.{Option, Result, Ok, Err}
@@ -23,7 +23,7 @@ use Rattle.cel_meaning.specs.Cost.{cost, each_steps, items_steps, entries_steps}
 use Rattle.cel_eval.specs.Answers.{Counts}
 use Rattle.cel_eval.proofs.Stops.{counts-behind, counts-from, failed}
 
--- items in front of those that are read
+-- items before those that are read
 abbrev pub behind_all : {A : Type 0} → List A → Result (List A) EvalError → Result (List A) EvalError
 behind_all xs rest = rest >>= λ ys. Ok (xs ++ ys)
 
@@ -31,7 +31,7 @@ behind-more : {A : Type 0} (xs : List A) (x : A) (r : Result (List A) EvalError)
 behind-more xs x (Ok ys) = ap Ok (append_assoc xs (x ∷ []) ys)
 behind-more xs x (Err e) = refl
 
--- the list of trees, or of entries, from a place on
+-- the list of trees, or of entries, from an index on
 pub rest_at : (xs : List Tree) (i : ℕ) (t : Tree) → t ≡ get_or xs i t → i < length xs → asts_of (map tree_view (drop i xs)) ≡ More (tree_view t) (asts_of (map tree_view (drop (i + 1) xs)))
 rest_at xs i t e h = ap (λ (ys : List Tree). asts_of (map tree_view ys)) (drop_more xs i t h ∙ ap (λ u. u ∷ drop (i + 1) xs) (sym e))
 

@@ -51,7 +51,7 @@ method-room device names form t word word' ts ts' x e b m f a =
     method-steps-are device names form t word (asts_of (map tree_view ts)) x e b m
     ∙ (λ i. cost device names t + method_steps device names x (sym f i) (asts_of (map tree_view (sym a i))))
 
--- ---- an operation on two values behind both
+-- ---- an operation on two values after both
 
 pub index-count : (device : Device) (names : Bindings) (form : Form) (t u t' u' : Ast) (x : Value) (old mid new : ℕ) → form ≡ Index t u → t' ≡ t → u' ≡ u →
     means device names t' ≡ Ok x → mid ≡ old + 1 + cost device names t' → new ≡ mid + cost device names u' → new ≡ old + (1 + within device names form)
@@ -62,7 +62,7 @@ index-count device names form t u t' u' x old mid new e f g m rose again =
     ∙ ap (λ (r : Result Value EvalError). cost device names t' + behind r (λ y. cost device names u')) m in
     omega arith
 
--- ---- `&&` and `||` behind a side that doesn't decide
+-- ---- `&&` and `||` after a side that doesn't decide
 
 pub connect-arm : (device : Device) (names : Bindings) (form : Form) (o : BinaryOp) (t u t' u' : Ast) (c : Connective) (left right : Result Bool EvalError) (result : Result Value EvalError) →
     form ≡ Binary o t u → connective_of o ≡ Some c → t' ≡ t → u' ≡ u → (is_memory left || decides c left) ≡ false →

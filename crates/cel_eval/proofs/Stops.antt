@@ -1,4 +1,4 @@
--- Answers and counts that memory may stop.
+-- Results and counts of an evaluation that may run out of memory.
 use Rattle.std.proofs.Common.{◌≡◌, ℕ, ◌+◌, ◌≤◌, Bool, true, false, refl, sym, ap, subst, arith}
 use Rattle.std.specs.Prelude.{Result, Ok, Err, ◌||◌}
 use Rattle.cel_value.specs.declared.value.Value.{Value}
@@ -41,7 +41,7 @@ gives-itself (Err e) = unless-memory e refl
 pub gives-equal : {A : Type 0} (r m : Result A EvalError) → m ≡ r → Gives r m
 gives-equal {A = A} r m h = subst (λ (n : Result A EvalError). Gives r n) (sym h) (gives-itself r)
 
--- what isn't want of memory is what there is to return
+-- a result that isn't out of memory is what there is to return
 pub given : {A : Type 0} (r m : Result A EvalError) → is_memory r ≡ false → Gives r m → m ≡ r
 given (Ok x) m n g = g
 given (Err NoKey) m n g = g
@@ -62,7 +62,7 @@ counted (Err OutOfRange) old new steps n g = g
 counted (Err BadConversion) old new steps n g = g
 counted (Err Memory) old new steps n g = absurd (cc)
 
--- a side behind which the evaluation goes on
+-- a side after which the evaluation goes on
 pub not-memory : (a b : Bool) → (a || b) ≡ false → a ≡ false
 not-memory false b h = refl
 not-memory true b h = h
@@ -100,7 +100,7 @@ join-count c left (Err OutOfRange) old mid new j k total e f h = counts-are _ ol
 join-count c left (Err BadConversion) old mid new j k total e f h = counts-are _ old new total (omega (arith, h))
 join-count c left (Err Memory) old mid new j k total e f h = (omega (arith, e, h.0), omega (arith, e, f, h.1))
 
--- ---- on behind a value, or an error
+-- ---- on after a value, or an error
 
 abbrev pub failed : (A : Type 0) → EvalError → Result A EvalError
 failed A e = Err e
@@ -137,7 +137,7 @@ counts-after (Err Memory) old mid new j k total e f h = (omega (arith, e, h.0), 
 pub counts-equal : {A : Type 0} (r : Result A EvalError) (old new j k : ℕ) → k ≡ j → Counts r old new j → Counts r old new k
 counts-equal {A = A} r old new j k e h = subst (λ (n : ℕ). Counts r old new n) (sym e) h
 
--- an error behind what was counted before
+-- an error after what was counted before
 pub counts-from : {A : Type 0} (r : Result A EvalError) (start old new k total : ℕ) → start ≤ old → old + k ≡ start + total → Counts r old new k → Counts r start new total
 counts-from (Ok x) start old new k total least e h = omega (arith, e, h)
 counts-from (Err NoKey) start old new k total least e h = omega (arith, e, h)

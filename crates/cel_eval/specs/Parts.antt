@@ -18,7 +18,7 @@ use Rattle.cel_meaning.specs.Steps.{Turn, behind, weights}
 use Rattle.cel_meaning.specs.Meaning.{Bindings, by_comprehension, bound_to, means, each, comprehension_means, bodies_of, method_on}
 use Rattle.cel_meaning.specs.Cost.{cost, each_steps, comprehension_steps, turns}
 
--- a method that isn't `cel.bind`, behind its object
+-- a method that isn't `cel.bind`, after its object
 abbrev pub method_means : Device → Bindings → Value → List ℕ → Asts → Result Value EvalError
 method_means device names x name ts = by_comprehension (comprehension_in (called_of name))
     (λ c. elements_of device x >>= λ xs. comprehension_means device names c xs ts)
@@ -36,7 +36,7 @@ body device names name t = λ x. means device (bound_to name x names) t
 abbrev pub turn : Device → Bindings → List ℕ → Ast → Turn
 turn device names name t = record { means = body device names name t; steps = λ x. cost device (bound_to name x names) t }
 
--- the bodies behind the variable of a comprehension
+-- the bodies after the variable of a comprehension
 abbrev pub bodies : Device → Bindings → List ℕ → List Tree → List Body
 bodies device names name ts = bodies_of device names name (asts_of (map tree_view (drop 1 ts)))
 

@@ -221,7 +221,7 @@ fn has_member<'x>(
     }
 }
 
-/// `object.function(arguments)`, where it isn't `cel.bind`, behind its object.
+/// `object.function(arguments)`, where it isn't `cel.bind`, after its object.
 #[cycle(evaluate)]
 fn method<'x>(
     alloc: Global,
@@ -454,7 +454,7 @@ fn gather<'x>(
     Ok(gathered)
 }
 
-/// What becomes of an element, where it is kept.
+/// What becomes of an element, if it is kept.
 #[cycle(evaluate)]
 fn make<'x>(
     alloc: Global,

@@ -29,14 +29,14 @@ pub fn map_value(table: Result<Table<Key, Single>, EvalError>) -> Result<Value, 
     Ok(Value::Map(table?))
 }
 
-/// Whether there is one item exactly.
+/// Whether there is exactly one item.
 pub fn is_one(items: Result<Seq<Single>, EvalError>) -> Result<Value, EvalError>
     ensures { result ≡ are_one items }
 {
     Ok(Value::bool(items?.as_slice().len() == 1))
 }
 
-/// A call by what its name stands for: a function, or else nothing.
+/// A call by what its name refers to: a function, or else nothing.
 pub fn called_on(
     alloc: Global,
     device: &DeviceEnv,

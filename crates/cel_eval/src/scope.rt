@@ -10,7 +10,7 @@ use cel_value::{EvalError, Value};
 use dra_values::Duplicate;
 use std::alloc::Global;
 
-/// The names that are bound with their values, the innermost first. Takes no memory of its own.
+/// The names that are bound with their values, the innermost first. Allocates nothing of its own.
 #[derive(Clone, Copy)]
 pub enum Scope<'a> {
     Top,
@@ -47,7 +47,7 @@ impl<'a> Scope<'a> {
         }
     }
 
-    /// Whether the tree is `device`, where no bound name hides it.
+    /// Whether the tree is `device`, and no bound name hides it.
     pub fn is_device(&self, tree: &Tree) -> bool
         ensures { result ≡ is_device (bindings self.now) (tree_view tree.now) }
     {

@@ -16,12 +16,12 @@ use cel_tree::{Checked, types_are_found};
 use cel_value::{DeviceEnv, EvalError, Value};
 use std::alloc::Global;
 
-/// What a checked expression of the selector language means on a device, and how many steps that takes.
+/// The value of a checked expression of the selector language on a device, and how many steps that takes.
 ///
 /// The value has the expression's type. The count rises by the steps of what is evaluated, which are at
-/// most the estimate. An error is the first that the evaluation comes to from the left, but for those
-/// that `&&`, `||`, `all` and `exists` pass over; NoOverload comes only where a part of the expression
-/// is of a type with dyn in it. Memory comes only where memory runs out, and then the count rises by at
+/// most the estimate. An error is the first that the evaluation comes to from the left, except for those
+/// that `&&`, `||`, `all` and `exists` pass over; NoOverload is returned only if a part of the expression
+/// is of a type with dyn in it. Memory is returned only when out of memory, and then the count rises by at
 /// most the steps.
 pub fn eval(
     alloc: Global,

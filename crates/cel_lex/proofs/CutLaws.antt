@@ -38,7 +38,7 @@ word_starts : (c : ℕ) → is_word_start c ≡ true → is_word c ≡ true
 unfolding is_word is_word_start
 word_starts c e = grind (arith, nat_tests)
 
--- n bytes at the front, if any, of which the last is ASCII
+-- a prefix of n bytes, if any, of which the last is ASCII
 abbrev pub IsCutOrNone : List ℕ → ℕ → Type 0
 IsCutOrNone bs n = (n ≡ 0) ⊎ IsCut bs n
 

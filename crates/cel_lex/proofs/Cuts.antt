@@ -5,7 +5,7 @@ use Rattle.std.proofs.lemmas.List.{length-drop, get_or-drop, take_all}
 use Rattle.std.proofs.lemmas.List.Sums.{prefix_len-le-length, prefix_len_passes}
 use Rattle.cel_lex.specs.Bytes.{begins}
 
--- n bytes at the front, of which the last is ASCII
+-- a prefix of n bytes, of which the last is ASCII
 pub record IsCut (bs : List ℕ) (n : ℕ) : Type 0 where
   pub some : 0 < n
   pub within : n ≤ length bs
@@ -37,7 +37,7 @@ IsCut-behind bs n m h cut =
       last = subst (λ (b : ℕ). b < 128) (get_or-drop n bs (m - 1) 0 ∙ ap (λ i. get_or bs i 0) at) cut.last;
     }
 
--- a slice from a place on is what follows it
+-- a slice from an offset on is what follows it
 pub slice_rest : (src : List ℕ) (at : ℕ) → take (length src - at) (drop at src) ≡ drop at src
 slice_rest src at = take_all _ _ (simp length-drop (omega arith))
 

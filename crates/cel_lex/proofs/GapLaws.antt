@@ -6,7 +6,7 @@ use Rattle.std.proofs.lemmas.Bool.Decides.{nat_tests}
 use Rattle.cel_lex.specs.Bytes.{begins, begins_comment, is_blank, is_line_end}
 use Rattle.cel_lex.specs.Gap.{gap_of, gap_from, line_of, comment_of}
 
--- the gap is read as far as `at`, where no blank stands
+-- the gap is read as far as `at`, where there is no blank
 pub record GapAt (text : List ℕ) (at : ℕ) : Type 0 where
   pub within : at ≤ length text
   pub rest : gap_of text ≡ at + gap_of (drop at text)
@@ -27,7 +27,7 @@ slash_line_end = refl
 one_plus : (n : ℕ) → 1 + n ≡ suc n
 one_plus n = omega arith
 
--- what follows the run at the front
+-- what follows the run at the start
 abbrev pub behind_run : (ℕ → Bool) → List ℕ → List ℕ
 behind_run p [] = []
 behind_run p (c ∷ cs) = if p c then behind_run p cs else c ∷ cs

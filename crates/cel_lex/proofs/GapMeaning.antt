@@ -42,7 +42,7 @@ line_more c cs false e in_line in_gap more =
     let r = in_line (omega arith) in
     rw n (record { line = c ∷ r.line; mark = r.mark; rest = r.rest; is = ap (λ (t : List ℕ). c ∷ t) r.is; inside = one_more c r.line e r.inside; ends = r.ends; gap = r.gap })
 
--- a line that begins with a slash behind another
+-- a line that begins with a slash after another
 opened : (d : ℕ) (xs line : List ℕ) (mark : ℕ) (rest : List ℕ) → d ≡ 47 → d ∷ xs ≡ line ++ mark ∷ rest → list_all (λ x. not (is_line_end x)) line ≡ true → is_line_end mark ≡ true → IsGap rest → IsGap (47 ∷ d ∷ xs)
 opened d xs [] mark rest e is all ends gap =
     let same : mark ≡ 47 = cc in
@@ -80,6 +80,6 @@ front_means true [] more = absurd (omega arith)
 front_means true (c ∷ cs) more = line_more c cs (is_line_end c) refl (front_means true cs) (front_means false cs) more
 front_means false (c ∷ cs) more = gap_more c cs (is_blank c) (c == 47 && begins_with 47 cs) refl refl (front_means false cs) (front_means true cs) more
 
--- what stands before a token is a gap
+-- what is before a token is a gap
 pub gap_means : (bs : List ℕ) → gap_of bs < length bs → IsGap (take (gap_of bs) bs)
 gap_means bs more = front_means false bs more

@@ -19,7 +19,7 @@ no_gap_by c cs true d e h x y = rw (e, one_plus) x
 no_gap_by c cs false true e h x y = rw (e, h, one_plus) y
 no_gap_by c cs false false e h x y = rw (e, h) (rw (e, h) refl)
 
--- behind a gap there is no gap
+-- after a gap there is no gap
 no_gap : (inside : Bool) (bs : List ℕ) → gap_of (drop (gap_from inside bs) bs) ≡ 0
 no_gap false [] = refl
 no_gap true [] = refl
@@ -88,7 +88,7 @@ by_rest src at start due (c ∷ cs) there g = by_cut src at start c due cs (cut_
 abbrev RestStep : Place → Type 0
 RestStep p = rest_of p ≡ first_of (next_of p) (rest_of (after p (next_of p)))
 
--- what is left is the next token and what is left behind it, or the fault, or nothing
+-- what is left is the next token and what is left after it, or the error, or nothing
 step_by : (src : List ℕ) (at : ℕ) (due failed : Bool) → RestStep (record { source = src; at = at; due = due; failed = failed })
 step_by src at due true = refl
 step_by src at due false =
@@ -124,6 +124,6 @@ next_end p start f s within =
     let from : next_from p (start_of p) (drop (start_of p) p.source) ≡ End = subst (λ (i : ℕ). next_from p i (drop i p.source) ≡ End) s there in
     rw f from
 
--- where the next token begins, by the gap in the slice from a place on
+-- where the next token begins, by the gap in the slice from an offset on
 pub start_is : (src bytes : List ℕ) (at gap : ℕ) → bytes ≡ src → gap ≡ gap_of (take (length bytes - at) (drop at bytes)) → at + gap ≡ at + gap_of (drop at src)
 start_is src bytes at gap e h = ap (λ (g : ℕ). at + g) (h ∙ ap gap_of (slice_rest bytes at) ∙ ap (λ (bs : List ℕ). gap_of (drop at bs)) e)

@@ -13,7 +13,7 @@ use Rattle.cel_lex.specs.declared.part.Part.{Part}
 use Rattle.cel_lex.specs.declared.part.Part.TheVariants.{Close, Plain, Escaped, Wrong, Cut}
 use Rattle.cel_lex.specs.declared.token.LexError.{LexError}
 
--- quotes behind a prefix: their mark is ASCII, and they are a cut of what follows the prefix
+-- quotes after a prefix: their mark is ASCII, and they are a cut of what follows the prefix
 pub record IsOpening (bs : List ℕ) (before : ℕ) (q : Quotes) : Type 0 where
   pub ascii : q.mark < 128
   pub within : before < q.len

@@ -131,7 +131,7 @@ encode_some c = omega (arith, length-encode c, (len_utf8_bounds c).0)
 slice_front : (src : List ℕ) (n : ℕ) → slice_range src 0 n ≡ take n src
 slice_front src n = let whole : n - 0 ≡ n = omega arith in ap (λ (m : ℕ). take m src) whole
 
--- what was left is a piece of the text and what is left behind it
+-- what was left is a piece of the text and what is left after it
 pub front_of : (q : Quotes) (src old front rest : List ℕ) (n : ℕ) → spells q 0 src ≡ old → spells q 0 src ≡ take n src ++ spells q 0 (drop n src) → front ≡ slice_range src 0 n → rest ≡ drop n src → old ≡ front ++ spells q 0 rest
 front_of q src old front rest n was run f r =
     sym was ∙ run ∙ ap (λ (t : List ℕ). t ++ spells q 0 (drop n src)) (sym (f ∙ slice_front src n)) ∙ ap (λ (t : List ℕ). front ++ spells q 0 t) (sym r)
@@ -147,6 +147,6 @@ nothing_spelled p (inl e) c later = rw e refl
 nothing_spelled p (inr (inl e)) c later = rw e refl
 nothing_spelled p (inr (inr e)) c later = rw e refl
 
--- at the closing quotes and at a fault nothing more is spelled
+-- at the closing quotes and at an error nothing more is spelled
 pub over_at : (q : Quotes) (src bytes old : List ℕ) (p : Part) → bytes ≡ src → p ≡ part_of q bytes → (p ≡ Close) ⊎ ((p ≡ Wrong) ⊎ (p ≡ Cut)) → spells q 0 src ≡ old → old ≡ []
 over_at q src bytes old p e h ends was = sym was ∙ spells-none q src p (h ∙ ap (part_of q) e) (nothing_spelled p ends)

@@ -17,7 +17,7 @@ use Rattle.cel_lex.specs.declared.part.Part.{Part}
 use Rattle.cel_lex.specs.declared.part.Part.TheVariants.{Close, Plain, Escaped, Wrong, Cut}
 use Rattle.cel_lex.specs.declared.token.LexError.TheVariants.{BadEscape, Unclosed}
 
--- an escape stands behind a backslash in these bytes, and its last byte is ASCII
+-- an escape follows a backslash in these bytes, and its last byte is ASCII
 pub record IsEscape (cs : List ℕ) (e : Escape) : Type 0 where
   pub some : 1 < e.len
   pub within : e.len ≤ 1 + length cs
@@ -110,7 +110,7 @@ spells-skip q zero bs = refl
 spells-skip q (suc n) [] = refl
 spells-skip q (suc n) (c ∷ cs) = spells-skip q n cs
 
--- what an escaped part says of the bytes behind its backslash
+-- what an escaped part implies of the bytes after its backslash
 from_escape : (e : Escape) (cs : List ℕ) (o : Option Escape) → escape_of cs ≡ o → part_of_escape o ≡ Escaped e → IsEscape cs e
 from_escape e cs None h q = cc
 from_escape e cs (Some x) h q = let same : Some x ≡ Some e = cc in escape_fits cs e (h ∙ same)

@@ -3,7 +3,7 @@ use Rattle.std.specs.Prelude.{◌≡◌, ℕ, ◌+◌, List, [], ◌∷◌, ◌+
 use Rattle.std.specs.List.{prefix_len, list_all}
 use Rattle.cel_lex.specs.Bytes.{is_blank, is_line_end, begins_with}
 
--- how many bytes at the front are blanks and comments; the truth value says that a comment is open, which ends with its line
+-- how many bytes at the start are blanks and comments; the truth value says that a comment is open, which ends with its line
 abbrev pub gap_from : Bool → List ℕ → ℕ
 gap_from inside [] = 0
 gap_from true (c ∷ cs) = 1 + gap_from (not (is_line_end c)) cs
@@ -15,7 +15,7 @@ gap_from false (c ∷ cs) =
 abbrev pub gap_of : List ℕ → ℕ
 gap_of bs = gap_from false bs
 
--- how many bytes a comment at the front and the blanks behind it have
+-- how many bytes a comment at the start and the blanks after it have
 abbrev pub line_of : List ℕ → ℕ
 line_of bs = prefix_len (λ c. not (is_line_end c)) bs
 

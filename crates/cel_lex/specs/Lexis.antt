@@ -1,4 +1,4 @@
--- The token at the front of a text.
+-- The token at the start of a text.
 use Rattle.std.specs.Prelude.{ℕ, ◌+◌, ◌-◌, List, [], ◌∷◌, drop, take, if◌then◌else◌, ◌==◌, ◌||◌, ◌&&◌, Bool, true, false, Option, Some, None, is_some, unwrap_or, Result, Ok, Err, codes}
 use Rattle.std.specs.List.{prefix_len, list_any}
 use Rattle.std.specs.Char.{is_ascii_digit}
@@ -38,7 +38,7 @@ keyword_of word =
 abbrev pub word_kind : List ℕ → TokenKind
 word_kind word = unwrap_or (keyword_of word) (if is_reserved word then kind.Reserved else kind.Ident)
 
--- the value of a whole number at the front fits in 64 bits
+-- the value of a whole number at the start fits in 64 bits
 unfoldable pub fits : TokenKind → ℕ → List ℕ → Bool
 fits kind.Int n bs = is_some (int_of (take n bs))
 fits kind.Uint n bs = is_some (whole_of (take (n - 1) bs))
@@ -54,7 +54,7 @@ abbrev pub is_int : TokenKind → Bool
 is_int kind.Int = true
 is_int k = false
 
--- a minus before a number of this form: it belongs to a whole number
+-- a minus before a number of this kind: it belongs to a whole number
 abbrev pub signed_form : Form → Form
 signed_form f = if is_int f.kind then record { kind = kind.Int; len = 1 + f.len } else record { kind = kind.Minus; len = 1 }
 
@@ -112,7 +112,7 @@ abbrev pub longer : Option TokenKind → Option Form → Option Form
 longer None other = other
 longer (Some k) other = Some (record { kind = k; len = 2 })
 
--- an operator or a bracket at the front, the longer first
+-- an operator or a bracket at the start, the longer first
 unfoldable pub mark_of : List ℕ → Option Form
 mark_of [] = None
 mark_of (c ∷ []) = mark_form 1 (single_of c)
@@ -133,7 +133,7 @@ begins_number bs = begins is_ascii_digit bs || (begins_with 46 bs && begins is_a
 abbrev pub begins_signed : List ℕ → Bool
 begins_signed bs = begins_with 45 bs && begins is_ascii_digit (drop 1 bs)
 
--- the token that a text begins with that is no string: a word, a number with its sign where an operand is due, or a mark
+-- the token that a text begins with that is no string: a word, a number with its sign where an operand is expected, or a mark
 unfoldable pub cut_plain : Bool → ℕ → List ℕ → Result Cut LexError
 cut_plain due from bs =
     if begins is_word_start bs then cut_as from (word_form bs)
@@ -149,7 +149,7 @@ cut_opened due from bs (Some q) = cut_string q (string_end q from (from + q.len)
 unfoldable pub cut_of : Bool → ℕ → List ℕ → Result Cut LexError
 cut_of due from bs = cut_opened due from bs (opening_of bs)
 
--- an operand is due after a token of this kind: an operator, `in`, an opening bracket, `,`, `?` or `:`
+-- an operand is expected after a token of this kind: an operator, `in`, an opening bracket, `,`, `?` or `:`
 abbrev pub due_after : TokenKind → Bool
 due_after kind.OrOr = true
 due_after kind.AndAnd = true

@@ -11,7 +11,7 @@ use Rattle.cel_lex.specs.declared.part.Part.TheVariants.{Close, Plain, Escaped, 
 use Rattle.cel_lex.specs.declared.token.LexError.{LexError}
 use Rattle.cel_lex.specs.declared.token.LexError.TheVariants.{BadEscape, Unclosed}
 
--- the quotes at the front of a text, of which `before` bytes of a prefix are read
+-- the quotes at the start of a text, of which `before` bytes of a prefix are read
 abbrev pub quotes_of : Bool → Bool → ℕ → List ℕ → Option Quotes
 quotes_of bytes raw before [] = None
 quotes_of bytes raw before (q ∷ cs) =
@@ -34,7 +34,8 @@ opening_of bs =
     then (if begins is_raw_mark (drop 1 bs) then quotes_of true true 2 (drop 2 bs) else quotes_of true false 1 (drop 1 bs))
     else (if begins is_raw_mark bs then quotes_of false true 1 (drop 1 bs) else quotes_of false false 0 bs)
 
--- the character that a letter or a mark behind a backslash stands for: `\a \b \f \n \r \t \v \\ \? \" \' \``
+-- the character that a letter or a mark after a backslash means: `\a \b \f
+-- \r \t \v \\ \? \" \' \``
 abbrev pub named : ℕ → Option ℕ
 named c =
     if c == 97 then Some 7
@@ -47,7 +48,7 @@ named c =
     else (if c == 92 || c == 63 || c == 34 || c == 39 || c == 96 then Some c
     else None)))))))
 
--- the escape of a number in its `count` digits, of which `before` bytes stand before: a Unicode scalar value
+-- the escape of a number in its `count` digits, which follow `before` bytes: a Unicode scalar value
 abbrev pub scalar_escape : ℕ → Option ℕ → Option Escape
 scalar_escape len None = None
 scalar_escape len (Some n) = if all_scalars (n ∷ []) then Some (record { character = n; len = len }) else None
@@ -77,15 +78,15 @@ abbrev pub part_of_escape : Option Escape → Part
 part_of_escape None = Wrong
 part_of_escape (Some e) = Escaped e
 
--- how many quotes stand on either side
+-- how many quotes there are on either side
 abbrev pub count_of : Quotes → ℕ
 count_of q = if q.triple then 3 else 1
 
--- the closing quotes stand at the front
+-- the text begins with the closing quotes
 abbrev pub closes : Quotes → List ℕ → Bool
 closes q bs = begins_with q.mark bs && (not q.triple || (begins_with q.mark (drop 1 bs) && begins_with q.mark (drop 2 bs)))
 
--- what stands at the front of what follows the opening quotes
+-- what is at the start of what follows the opening quotes
 unfoldable pub part_of : Quotes → List ℕ → Part
 part_of q [] = Cut
 part_of q (c ∷ cs) =
@@ -110,7 +111,7 @@ end_of_part q from at (Escaped e) later = later
 end_of_part q from at Wrong later = Err (BadEscape at)
 end_of_part q from at Cut later = Err (Unclosed from)
 
--- where the string ends that begins at `from`, read on from `at`, where `left` bytes still belong to an escape; or the fault that is met first
+-- where the string ends that begins at `from`, read on from `at`, where `left` bytes still belong to an escape; or the first error
 abbrev pub string_end : Quotes → ℕ → ℕ → ℕ → List ℕ → Result ℕ LexError
 string_end q from at left [] = Err (Unclosed from)
 string_end q from at (suc n) (c ∷ cs) = string_end q from (at + 1) n cs
@@ -134,10 +135,10 @@ abbrev pub content_in : Option Quotes → List ℕ → List ℕ
 content_in None bs = []
 content_in (Some q) bs = spells q 0 (drop q.len bs)
 
--- the bytes that the text of a string spells: what stands between its quotes, with a character in UTF-8 for each escape
+-- the bytes that the text of a string spells: what is between its quotes, with a character in UTF-8 for each escape
 abbrev pub content_of : List ℕ → List ℕ
 content_of bs = content_in (opening_of bs) bs
 
--- a byte that may not stand for itself in a string with this quote: the quote, a backslash, a line end
+-- a byte that may not be literal in a string with this quote: the quote, a backslash, a line end
 unfoldable pub is_special : ℕ → ℕ → Bool
 is_special mark c = c == mark || c == 92 || is_line_end c

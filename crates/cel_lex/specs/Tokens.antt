@@ -18,7 +18,7 @@ pub record Lexeme : Type 0 where
 abbrev pub lexeme : Token → Lexeme
 lexeme t = record { kind = t.kind; start = t.span.start; end = t.span.end; text = t.text.now }
 
--- the tokens of a text from the left, up to its end or the first place where none can be read, and why
+-- the tokens of a text from the left, up to its end or the first offset where none can be read, and why
 pub record Lexed : Type 0 where
   pub tokens : List Lexeme
   pub error : Option LexError
@@ -37,7 +37,7 @@ abbrev pub after_gap : ℕ → Lexed → Lexed → Lexed
 after_gap zero here later = here
 after_gap (suc n) here later = later
 
--- the tokens of these bytes, which stand at `at` in the source, where `left` bytes still belong to a token or a gap, and whether an operand is due
+-- the tokens of these bytes, which are at offset `at` in the source, where `left` bytes still belong to a token or a gap, and whether an operand is expected
 abbrev pub lex_from : ℕ → ℕ → Bool → List ℕ → Lexed
 lex_from at left due [] = nothing
 lex_from at (suc n) due (c ∷ cs) = lex_from (at + 1) n due cs
@@ -46,15 +46,15 @@ lex_from at zero due (c ∷ cs) =
     (with_cut at (c ∷ cs) (cut_of due at (c ∷ cs)) (λ cut. lex_from (at + 1) (cut.end - at - 1) (due_after cut.kind) cs))
     (lex_from (at + 1) (gap_of (c ∷ cs) - 1) due cs)
 
--- the tokens of a text: at its start an operand is due
+-- the tokens of a text: at its start an operand is expected
 abbrev pub lex_of : List ℕ → Lexed
 lex_of text = lex_from 0 0 true text
 
--- what is still to be read from a place; after a fault there is nothing
+-- what is still to be read from a reader's state; after an error there is nothing
 abbrev pub rest_of : Place → Lexed
 rest_of p = if p.failed then nothing else lex_from p.at 0 p.due (drop p.at p.source)
 
--- a token at its place with its text, the first fault, or the end
+-- a token at its offset with its text, the first error, or the end
 pub data Next : Type 0 where
   Read : Lexeme → Next
   Fault : LexError → Next
@@ -73,14 +73,14 @@ abbrev pub next_from : Place → ℕ → List ℕ → Next
 next_from p from [] = End
 next_from p from (c ∷ cs) = read_cut p.source from (cut_of p.due from (c ∷ cs))
 
--- where the next token begins: behind blanks and comments
+-- where the next token begins: after blanks and comments
 abbrev pub start_of : Place → ℕ
 start_of p = p.at + gap_of (drop p.at p.source)
 
 abbrev pub next_of : Place → Next
 next_of p = if p.failed then End else next_from p (start_of p) (drop (start_of p) p.source)
 
--- where the reader stands after it
+-- the reader's state after it
 abbrev pub after : Place → Next → Place
 after p (Read t) = record p { at = t.end; due = due_after t.kind }
 after p (Fault e) = record p { failed = true }
@@ -98,7 +98,7 @@ IfRead (Read t) P = P t
 IfRead (Fault e) P = Unit {0}
 IfRead End P = Unit {0}
 
--- a token that is read at a place is the slice of the source at its span, which has a byte or more and begins at the place or behind it; only blanks and comments stand between
+-- a token that is read at an offset is the slice of the source at its span, which has a byte or more and begins at the offset or after it; only blanks and comments are between
 pub record IsBorrowed (p : Place) (t : Lexeme) : Type 0 where
   pub slice : t.text ≡ slice_range p.source t.start t.end
   pub onward : p.at ≤ t.start

@@ -10,14 +10,14 @@ use crate::part::string_end;
 use crate::quotes::{Quotes, opening};
 use crate::token::{LexError, TokenKind};
 
-/// A token at a place: what it is, and the offset of the byte after its last.
+/// A token at an offset: what it is, and the offset of the byte after its last.
 #[derive(Clone, Copy)]
 pub struct Cut {
     pub kind: TokenKind,
     pub end: usize,
 }
 
-/// The token that begins at `from`; `due` says whether an operand is due there.
+/// The token that begins at `from`; `due` says whether an operand is expected there.
 #[tactic(auto, unfolding(crate::specs::Lexis::cut_of))]
 pub fn cut_at(source: &[u8], from: usize, due: bool) -> Result<Cut, LexError>
     requires { from < length source.now }
@@ -45,7 +45,7 @@ fn string_kind(quotes: Quotes) -> TokenKind
     }
 }
 
-/// The token at the front of a text that begins at `from` and with no string.
+/// The token at the start of a text that begins at `from` and with no string.
 #[tactic(auto, unfolding(crate::specs::Lexis::cut_plain))]
 fn cut_plain(text: &[u8], from: usize, due: bool) -> Result<Cut, LexError>
     requires { from + length text.now < 2 ^ 64 }
@@ -84,7 +84,7 @@ fn begins_word(text: &[u8]) -> bool
     }
 }
 
-/// Whether a minus and a digit stand at the front.
+/// Whether the text begins with a minus and a digit.
 fn begins_signed(text: &[u8]) -> bool
     ensures { result ≡ begins_signed text.now }
 {
@@ -222,7 +222,7 @@ fn is_long_word(word: &[u8]) -> bool
         || word == b"namespace".as_slice()
 }
 
-/// The operator or bracket at the front, the longer first.
+/// The operator or bracket at the start of the text, the longer first.
 #[tactic(auto, unfolding(crate::specs::Lexis::mark_of))]
 fn mark(text: &[u8]) -> Option<Form>
     ensures exact { result ≡ mark_of text.now }
@@ -289,7 +289,7 @@ fn bracket(byte: u8) -> Option<TokenKind>
     }
 }
 
-/// Whether an operand is due behind a token: an operator, `in`, an opening bracket, `,`, `?`
+/// Whether an operand is expected after a token: an operator, `in`, an opening bracket, `,`, `?`
 /// or `:`.
 pub fn due_after(kind: TokenKind) -> bool
     ensures { result ≡ due_after kind }

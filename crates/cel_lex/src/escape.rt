@@ -30,7 +30,7 @@ pub fn read_escape(text: &[u8]) -> Option<Escape>
     }
 }
 
-/// The character that one letter or mark stands for behind a backslash.
+/// The character that one letter or mark means after a backslash.
 fn named(byte: u8) -> Option<char>
     ensures { result ≡ named byte }
 {
@@ -47,7 +47,7 @@ fn named(byte: u8) -> Option<char>
     }
 }
 
-/// The escape of a number in `count` digits, which stand behind `before` bytes.
+/// The escape of a number in `count` digits, which follow `before` bytes.
 fn coded(radix: u32, count: usize, before: usize, text: &[u8]) -> Option<Escape>
     requires low { 2 ≤ radix }
     requires high { radix ≤ 16 }

@@ -6,7 +6,7 @@ ghost use Rattle.cel_lex.specs.Gap.{gap_of, comment_of};
 use crate::bytes::{is_blank, is_line_end};
 
 #[tactic(auto, using(crate::proofs::GapLaws::gap_laws))]
-/// How many bytes at the front are blanks and comments.
+/// How many bytes at the start of the text are blanks and comments.
 pub fn gap_len(text: &[u8]) -> usize
     ensures count { result ≡ gap_of text.now }
     ensures within { result ≤ length text.now }
@@ -24,7 +24,7 @@ fn begins_comment(text: &[u8]) -> bool
     matches!(text, [b'/', b'/', ..])
 }
 
-/// How many bytes the comment at the front and the blanks behind it have.
+/// How many bytes the comment at the start of the text and the blanks after it have.
 fn comment_len(text: &[u8]) -> usize
     ensures count { result ≡ comment_of text.now }
     ensures within { result ≤ length text.now }
@@ -33,7 +33,7 @@ fn comment_len(text: &[u8]) -> usize
     line + blank_len(&text[line..])
 }
 
-/// How many blanks stand at the front.
+/// How many blanks the text begins with.
 fn blank_len(text: &[u8]) -> usize
     ensures count { result ≡ prefix_len is_blank text.now }
     ensures within { result ≤ length text.now }
@@ -41,7 +41,7 @@ fn blank_len(text: &[u8]) -> usize
     text.iter().take_while(|byte| is_blank(**byte)).count()
 }
 
-/// How many bytes stand before the first line end.
+/// How many bytes are before the first line end.
 fn line_len(text: &[u8]) -> usize
     ensures count { result ≡ prefix_len (λ c. not (is_line_end c)) text.now }
     ensures within { result ≤ length text.now }

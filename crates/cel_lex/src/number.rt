@@ -6,7 +6,7 @@ ghost use Rattle.cel_lex.specs.Numbers.{number_of, number_form, begins_hex, whol
 use crate::bytes::{begins_digit, begins_with};
 use crate::token::TokenKind;
 
-/// What kind of token stands at the front of a text, and how many bytes it has.
+/// What kind of token is at the start of a text, and how many bytes it has.
 #[derive(Clone, Copy)]
 pub struct Form {
     pub kind: TokenKind,
@@ -83,7 +83,7 @@ fn begins_hex(text: &[u8]) -> bool
     }
 }
 
-/// What kind of number stands at the front, and how many bytes it has.
+/// What kind of number is at the start of the text, and how many bytes it has.
 #[tactic(auto, unfolding(crate::specs::Numbers::number_form))]
 pub fn number_form(text: &[u8]) -> Form
     ensures exact { result ≡ number_form text.now }

@@ -6,17 +6,17 @@ use crate::escape::{Escape, read_escape};
 use crate::quotes::{Quotes, count};
 use crate::token::LexError;
 
-/// What stands at a place in the content of a string.
+/// What is at an offset in the content of a string.
 #[derive(Clone, Copy)]
 pub enum Part {
     /// The closing quotes.
     Close,
-    /// A byte that stands for itself.
+    /// A literal byte.
     Plain,
     Escaped(Escape),
     /// A backslash that begins no escape.
     Wrong,
-    /// A line end where none may stand, or the end of the text.
+    /// A line end where none is allowed, or the end of the text.
     Cut,
 }
 

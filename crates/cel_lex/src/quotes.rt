@@ -3,8 +3,8 @@ ghost use Rattle.cel_lex.specs.Strings.{quotes_of, opening_of, count_of};
 
 use crate::bytes::is_quote;
 
-/// How a string begins: its quote, whether three of them stand on either side, and how many bytes
-/// stand before its content.
+/// How a string begins: its quote, whether there are three of them on either side, and how many bytes
+/// come before its content.
 #[derive(Clone, Copy)]
 pub struct Quotes {
     pub mark: u8,
@@ -14,7 +14,7 @@ pub struct Quotes {
     pub len: usize,
 }
 
-/// How the string at the front begins.
+/// How the string at the start of the text begins.
 #[tactic(auto, unfolding(crate::specs::Strings::opening_of))]
 pub fn opening(text: &[u8]) -> Option<Quotes>
     ensures exact { result ≡ opening_of text.now }
@@ -57,7 +57,7 @@ fn quotes_after(bytes: bool, raw: bool, before: usize, text: &[u8]) -> Option<Qu
     }
 }
 
-/// How many quotes stand on either side.
+/// How many quotes there are on either side.
 pub fn count(quotes: Quotes) -> usize
     ensures { result ≡ count_of quotes }
 {

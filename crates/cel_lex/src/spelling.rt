@@ -9,14 +9,14 @@ use crate::part::{Part, part_at};
 use crate::quotes::{Quotes, opening};
 use std::marker::Model;
 
-/// A piece of what a string spells: text that stands for itself, or the character of an escape.
+/// A piece of what a string spells: literal text, or the character of an escape.
 #[derive(Clone, Copy, Debug)]
 pub enum Piece<'a> {
     Plain(&'a str),
     Escaped(char),
 }
 
-/// Reads what the text of a string token spells, from the left, with no memory.
+/// Reads what the text of a string token spells, from the left, and allocates nothing.
 #[derive(Drop)]
 pub struct Spelling<'a> {
     rest: &'a str,
@@ -35,8 +35,8 @@ impl<'a> Model for Spelling<'a> {
 }
 
 impl<'a> Spelling<'a> {
-    /// Stands at the start of what a string spells. A text that does not begin as a string spells
-    /// nothing, and one that has a fault spells what stands before it.
+    /// Starts at the beginning of what a string spells. A text that does not begin as a string spells
+    /// nothing, and one that has an error spells what is before the error.
     pub fn of(text: &'a str) -> Spelling<'a>
         ensures { result ≡ content_of text.now }
     {
@@ -87,7 +87,7 @@ impl<'a> Spelling<'a> {
     }
 }
 
-/// How many bytes at the front stand for themselves in any string with this quote.
+/// How many bytes at the start of the text are literal in any string with this quote.
 fn plain_len(mark: u8, text: &[u8]) -> usize
     ensures count { result ≡ prefix_len (λ c. not (is_special mark c)) text.now }
     ensures within { result ≤ length text.now }

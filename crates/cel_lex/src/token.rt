@@ -55,7 +55,7 @@ pub enum TokenKind {
     RightBrace,
 }
 
-/// What stands between blanks and comments. `text` is the slice of the source at `span`.
+/// A piece of the source between blanks and comments. `text` is the slice of the source at `span`.
 #[derive(Clone, Copy, Debug)]
 pub struct Token<'a> {
     pub kind: TokenKind,
@@ -73,7 +73,7 @@ pub enum LexError {
     #[error("the backslash at byte {0} begins no escape")]
     BadEscape(usize),
     /// The string that begins at this offset has no closing quotes, or a line end before them
-    /// where none may stand.
+    /// where none is allowed.
     #[error("the string that begins at byte {0} is not closed")]
     Unclosed(usize),
     /// The whole number that begins at this offset is past 64 bits.

@@ -27,7 +27,7 @@ impl<'a> Model for Tokens<'a> {
 }
 
 impl<'a> Tokens<'a> {
-    /// Stands at the start of a text.
+    /// Starts at the beginning of a text.
     pub fn of(text: &'a str) -> Tokens<'a>
         ensures start { result ≡ record { source = text.now; at = 0; due = true; failed = false } }
         ensures whole { rest_of result ≡ lex_of text.now }
@@ -40,9 +40,9 @@ impl<'a> Tokens<'a> {
         }
     }
 
-    /// The next token, or why none can be read: the fault that is met first from the left. None at
-    /// the end of the text, and after a fault. A minus directly before a whole number belongs to
-    /// it where an operand is due.
+    /// The next token, or why none can be read: the first error from the left. None at
+    /// the end of the text, and after an error. A minus directly before a whole number belongs to
+    /// it where an operand is expected.
     pub fn next(&mut self) -> Option<Result<Token<'a>, LexError>>
         ensures exact { seen result ≡ next_of self.old }
         ensures moves { self.new ≡ after self.old (next_of self.old) }

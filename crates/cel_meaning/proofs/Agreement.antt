@@ -10,7 +10,7 @@ use Rattle.cel_meaning.specs.Meaning.{Bindings, look_up, is_device, named}
 use Rattle.cel_meaning.specs.HasKind.{HasKind, Agree, unbound, bound}
 use Rattle.cel_meaning.proofs.Every.{some_inj, none_some}
 
--- a name has a type exactly where it has a value, which is of that type
+-- a name has a type if and only if it has a value, which is of that type
 pub data Both (R : CelType → Value → Type 0) : Option CelType → Option Value → Type 0 where
   neither : Both R None None
   both : {k : CelType} {v : Value} → R k v → Both R (Some k) (Some v)

@@ -102,9 +102,9 @@ call_fixed f given m e = ap is_fixed (sym (some_inj (call_is f given m e))) ∙ 
 method_fixed : (f : Function) (k : CelType) (given : Arguments) (m : CelType) → method_type f k given ≡ Some m → is_fixed m ≡ true
 method_fixed f k given m e = ap is_fixed (sym (some_inj (method_is f k given m e))) ∙ result_fixed f
 
--- ---- what each form says of its values
+-- ---- what each form implies of its values
 
--- an answer within bounds
+-- a result within bounds
 abbrev pub Bounded : Device → Bounds → Result Value EvalError → Type 0
 Bounded d b r = IfOk r (AtMost d b.weight b.number)
 

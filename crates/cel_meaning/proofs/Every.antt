@@ -1,4 +1,4 @@
--- Facts of each element of a list, and of answers that are values.
+-- Facts of each element of a list, and of results that are values.
 use Rattle.std.proofs.Common.{◌≡◌, ℕ, zero, suc, List, [], ◌∷◌, ◌++◌, map, Bool, true, false, cond, Option, Some, None, slice_get, IfOk, Result, Ok, Err, subst, if◌then◌else◌}
 use Rattle.std.specs.Map.{lookup}
 use Rattle.cel_value.specs.declared.error.EvalError.{EvalError}
@@ -50,7 +50,7 @@ every_lookup P Q f no_more test x e = none_some e
 every_lookup P Q f (first {x = y} {xs = es} p ps) test x e =
     pick Q (test y.0) y.1 x (lookup test es) (f y p) (every_lookup P Q f ps test x) e
 
--- a choice of two answers
+-- a choice of two results
 pub either : {A : Type 0} (Q : A → Type 0) (b : Bool) (r s : Result A EvalError) → IfOk r Q → IfOk s Q → IfOk (if b then r else s) Q
 either Q true r s p q = p
 either Q false r s p q = q

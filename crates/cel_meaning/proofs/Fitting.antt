@@ -29,7 +29,7 @@ pub agreed : {d : Device} {names : Names} {bindings : Bindings} → Fit d names 
 agreed no_name = unbound
 agreed (fitting h fit) = bound h.kind (agreed fit)
 
--- a name has bounds exactly where it has a value
+-- a name has bounds if and only if it has a value
 data Both (d : Device) : Option Bounds → Option Value → Type 0 where
   neither : Both d None None
   both : {b : Bounds} {v : Value} → Within d b v → Both d (Some b) (Some v)
@@ -57,7 +57,7 @@ both_none (both h) = refl
 pub same_device : {d : Device} {names : Names} {bindings : Bindings} → Fit d names bindings → (t : Ast) → is_device names t ≡ meaning.is_device bindings t
 same_device fit t = ap (λ (b : Bool). is_ident (codes "device") t && b) (both_none (found_both (codes "device") fit))
 
--- the two facts that the induction takes
+-- the two facts that the induction needs
 pub record Known (d : Device) : Type 0 where
   pub limited : Limited d
   pub typed : (names : Names) (t : Ast) (k : CelType) → HasType (kinds names) t k → (bounds_of names t).kind ≡ k

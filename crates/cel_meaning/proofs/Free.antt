@@ -62,7 +62,7 @@ or_true true b e f g = f refl
 or_true false true e f g = g refl
 or_true false false e f g = absurd (cc)
 
--- ---- an operand of the type that is wanted
+-- ---- an operand of the expected type
 
 or_not : (a b : Bool) → (a || b) ≡ true → not b ≡ true → a ≡ true
 or_not true b e f = refl

@@ -110,7 +110,7 @@ three_bodies span k l n m (arguments.One o) e = err_ok e
 three_bodies span k l n m (arguments.Two o p) e = err_ok e
 three_bodies span k l n m arguments.Many e = err_ok e
 
--- what a comprehension with one test gives
+-- the result of a comprehension with one test
 tested_result : Scalar → Comprehension → CelType
 tested_result e All = bool
 tested_result e Exists = bool

@@ -1,4 +1,4 @@
--- What comprehensions and literals give is within its bounds of weight and number.
+-- The values of comprehensions and literals are within their bounds of weight and number.
 use Rattle.std.proofs.Common.{◌≡◌, ℕ, zero, suc, ◌+◌, ◌*◌, ◌≤◌, List, [], ◌∷◌, length, sum_by, Bool, true, false, Option, Some, None, IfSome, IfOk, Result, Ok, sym, ap, refl, arith, if◌then◌else◌}
 use Rattle.std.proofs.lemmas.List.Sums.{sum_by-cons}
 use Rattle.std.proofs.Math.Nat.{mul-zero, mul-suc}
@@ -81,7 +81,7 @@ list_most d w n make xs u m h p q =
 
 -- ---- comprehensions
 
--- bodies within their bounds, where the variable's value is as P says
+-- bodies within their bounds, if P holds for the variable's value
 pub data Bodies (d : Device) (P : Single → Type 0) : List Body → List Bounds → Type 0 where
   no_body : Bodies d P [] []
   body : {f : Body} {fs : List Body} {b : Bounds} {bs : List Bounds} → ((x : Single) → P x → IfOk (f x) (AtMost d b.weight b.number)) → Bodies d P fs bs → Bodies d P (f ∷ fs) (b ∷ bs)

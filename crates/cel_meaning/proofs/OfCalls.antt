@@ -1,4 +1,4 @@
--- Each operation of two operands, and each function, gives values of the type that the tables say.
+-- Each operation of two operands, and each function, returns values of the type that the tables state.
 use Rattle.std.proofs.Common.{◌≡◌, ℕ, ℤ, pos, neg_ℤ, ◌+ℤ◌, ◌-ℤ◌, ◌*ℤ◌, List, [], ◌∷◌, Bool, true, false, not, Some, IfOk, Result, Ok, Err, refl, if◌then◌else◌, length, is_ok, is_some}
 use Rattle.std.specs.Prelude.{int_div, int_rem, int_le, ◌&&◌, ◌||◌}
 use Rattle.std.specs.Ordering.{int_cmp, int_eq, is_lt, is_le, is_gt, is_ge}
@@ -56,7 +56,7 @@ divided_kind f m n =
 arithmetic_kind : (f : ℤ → ℤ → Result Value EvalError) (x y : Value) → ((m n : ℤ) → IfOk (f m n) (HasKind int)) → IfOk (arithmetic f x y) (HasKind int)
 arithmetic_kind f x y g = after (HasKind int) (both_in both_ints x y) (λ p. f p.0 p.1) (λ p. g p.0 p.1)
 
--- the type that an operation gives, but for `+`
+-- the type that an operation returns, except `+`
 unfoldable pub binary_result : BinaryOp → CelType
 binary_result op.Or = bool
 binary_result op.And = bool
@@ -141,7 +141,7 @@ operation_kind d o k l m r s e h i = both_kind d o k l m r s e h i
 
 -- ---- functions
 
--- the type that a function gives
+-- the type that a function returns
 unfoldable pub result_of : Function → CelType
 result_of Size = int
 result_of StartsWith = bool

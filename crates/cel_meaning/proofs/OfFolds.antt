@@ -1,4 +1,4 @@
--- Comprehensions give values of the type that the tables say.
+-- Comprehensions return values of the type that the tables state.
 use Rattle.std.proofs.Common.{◌≡◌, List, [], ◌∷◌, Bool, true, false, Option, Some, None, IfSome, IfOk, Result, Ok, Err, subst, refl, if◌then◌else◌, length, ◌==◌}
 use Rattle.cel_tree.specs.declared.tree.Span.{Span}
 use Rattle.cel_tree.specs.declared.types.Scalar.{Scalar}
@@ -25,7 +25,7 @@ use Rattle.cel_meaning.specs.HasKind.{Every, no_more, first, IsOf, HasKind, of_s
 use Rattle.cel_meaning.proofs.Every.{on, after, either}
 use Rattle.cel_meaning.proofs.OfKind.{truths}
 
--- bodies whose values have these types, where the variable's value is of the scalar type
+-- bodies whose values have these types, if the variable's value is of the scalar type
 pub data Yield (e : Scalar) : List Body → Arguments → Type 0 where
   no_body : Yield e [] arguments.None
   body : {f : Body} {fs : List Body} (k : CelType) {given : Arguments} → ((x : Single) → IsOf e x → IfOk (f x) (HasKind k)) → Yield e fs given → Yield e (f ∷ fs) (with_first k given)

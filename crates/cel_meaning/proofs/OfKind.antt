@@ -1,4 +1,4 @@
--- Each operation gives values of the type that the tables say.
+-- Each operation returns values of the type that the tables state.
 use Rattle.std.proofs.Common.{◌≡◌, ◌==◌, rules, ℕ, ℤ, pos, negsuc, neg_ℤ, ◌+ℤ◌, List, [], ◌∷◌, ◌++◌, map, Bool, true, false, ◌&&◌, ◌||◌, Option, Some, None, slice_get, IfOk, Result, Ok, Err, subst, sym, ap, ◌∙◌, refl, if◌then◌else◌, option_map, codes, bytes_eq}
 use Rattle.std.specs.Map.{keys_of}
 use Rattle.std.specs.BTreeMap.{is_at}
@@ -138,7 +138,7 @@ add_kind m _ _ p q e = tt
 
 -- ---- parts
 
--- the type of what stands in a value
+-- the type of a part of a value
 unfoldable pub part_type : CelType → Option CelType
 part_type (kind.Scalar s) = None
 part_type (kind.List s) = Some (kind.Scalar s)

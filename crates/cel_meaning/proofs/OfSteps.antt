@@ -95,7 +95,7 @@ gathered_most make steps n no_more = omega arith
 gathered_most make steps n (first {x = x} {xs = xs} p ps) =
     omega (arith, p, gathered_most make steps n ps, behind_all (make x) (λ y. gathered_steps make steps xs) (gathered_steps make steps xs) (λ y. omega arith))
 
--- the bodies of a comprehension, where each element is as P says
+-- the bodies of a comprehension, if P holds for each element
 pub data Turns (P : Single → Type 0) : List Turn → List Bounds → Type 0 where
   no_turn : Turns P [] []
   turn : {f : Turn} {fs : List Turn} {b : Bounds} {bs : List Bounds} → ((x : Single) → P x → f.steps x ≤ b.steps) → Turns P fs bs → Turns P (f ∷ fs) (b ∷ bs)

@@ -1,4 +1,4 @@
--- What each operation gives is within its bounds of weight and number.
+-- The value of each operation is within its bounds of weight and number.
 use Rattle.std.proofs.Common.{◌≡◌, ℕ, ◌+◌, ◌≤◌, ℤ, pos, negsuc, ◌+ℤ◌, List, ◌++◌, map, length, sum_by, Bool, true, false, Option, Some, None, slice_get, IfOk, Result, Ok, Err, sym, ap, refl, arith, if◌then◌else◌, codes, bytes_eq}
 use Rattle.std.specs.Map.{keys_of}
 use Rattle.std.specs.BTreeMap.{is_at}

@@ -61,7 +61,7 @@ has_part names word f place t c u =
 call_parts : (names : Names) (word : List ℕ) (ts : Asts) (f : Function) → called_of word ≡ Some (called.Function f) → parts_without names (Call word ts) ≡ true → all_without names ts ≡ true
 call_parts names word ts f c u = subst (λ (x : Option Called). (if typing.is_has x then object_without names ts else all_without names ts) ≡ true) c u
 
--- what stands in a comprehension, where its range has that type
+-- the bodies of a comprehension, if its range has that type
 behind_range : Names → Result CelType Fault → Asts → Bool
 behind_range names r ts = with_type r (λ k. with_some (element_type k) (λ e. bodies_without names e ts))
 

@@ -33,7 +33,7 @@ pick_most : (b : Bool) (v x : Single) (o : Option Single) (m n : ℕ) → single
 pick_most true v x o m n p g e = omega (arith, p, ap single_weight (some_inj e))
 pick_most false v x o m n p g e = omega (arith, g e)
 
--- what stands at a key of a map
+-- the value at a key of a map
 pub lookup_most : (test : Key → Bool) (es : List (Key × Single)) (x : Single) → lookup test es ≡ Some x → single_weight x ≤ sum_by entry_weight es
 lookup_most test [] x e = none_some e
 lookup_most test (y ∷ es) x e =

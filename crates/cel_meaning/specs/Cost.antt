@@ -1,5 +1,5 @@
 -- How many steps the evaluation of an expression takes on a device under the names that are bound. It counts
--- what is evaluated: each tree is one step beside those of what it evaluates, and behind an error there is
+-- what is evaluated: each tree is one step beside those of what it evaluates, and after an error there is
 -- nothing. The table is this project's own.
 use Rattle.std.specs.Prelude.{ℕ, ◌+◌, List, [], ◌∷◌, Option, Some, None, if◌then◌else◌}
 use Rattle.cel_tree.specs.declared.calls.Comprehension.{Comprehension}
@@ -20,7 +20,7 @@ abbrev pub by_connective : Option Connective → (Connective → ℕ) → ℕ �
 by_connective (Some c) f other = f c
 by_connective None f other = other
 
--- behind the variable of a macro
+-- after the variable of a macro
 abbrev pub behind_variable : Option (List ℕ) → (List ℕ → ℕ) → ℕ
 behind_variable (Some name) f = f name
 behind_variable None f = 0
@@ -80,7 +80,7 @@ abbrev mutual
   has_form_steps device names (Member t name) = if is_device names t then 0 else cost device names t
   has_form_steps device names form = 0
 
-  -- `range.all(x, ..)` behind its range
+  -- `range.all(x, ..)` after its range
   pub comprehension_steps : Device → Bindings → Comprehension → List Single → Asts → ℕ
   comprehension_steps device names c xs End = 0
   comprehension_steps device names c xs (More x rest) = behind_variable (variable_of x) (λ name. comprehended_steps c (turns device names name rest) xs)

@@ -51,7 +51,7 @@ abbrev pub operation : Device → Option Connective → BinaryOp → Result Valu
 operation device (Some c) o left right = as_value (joined c (tested left) (tested right))
 operation device None o left right = left >>= λ x. right >>= λ y. binary_of device o x y
 
--- a function, by what its name stands for
+-- a function, by what its name refers to
 abbrev pub called_on : Device → Option Called → List Value → Result Value EvalError
 called_on device (Some (called.Function f)) given = call_of device f given
 called_on device (Some (called.Comprehension c)) given = Err NoOverload
@@ -135,7 +135,7 @@ abbrev mutual
   has_form device names (Member t name) = if is_device names t then Err NoOverload else (means device names t >>= λ x. has_of device x name)
   has_form device names form = Err NoOverload
 
-  -- `range.all(x, ..)`: the variable, and the bodies behind it
+  -- `range.all(x, ..)`: the variable, and the bodies after it
   pub comprehension_means : Device → Bindings → Comprehension → List Single → Asts → Result Value EvalError
   comprehension_means device names c xs End = Err NoOverload
   comprehension_means device names c xs (More x rest) = with_variable (variable_of x) (λ name. comprehended c (bodies_of device names name rest) xs)

@@ -1,4 +1,4 @@
--- Want of memory stops the whole evaluation.
+-- Out of memory stops the whole evaluation.
 use Rattle.std.specs.Prelude.{Bool, true, false, Result, Err}
 use Rattle.cel_value.specs.declared.error.EvalError.{EvalError}
 use Rattle.cel_value.specs.declared.error.EvalError.TheVariants.{Memory}
@@ -7,7 +7,7 @@ abbrev pub is_memory : {A : Type 0} → Result A EvalError → Bool
 is_memory (Err Memory) = true
 is_memory r = false
 
--- want of memory before all else
+-- out of memory before all else
 abbrev pub with_memory : {A : Type 0} → Result A EvalError → Result A EvalError → Result A EvalError
 with_memory (Err Memory) r = Err Memory
 with_memory s r = r

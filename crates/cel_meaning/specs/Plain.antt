@@ -18,7 +18,7 @@ is_plain (kind.Map k v) = not (is_dyn v)
 is_plain (kind.Domains f) = true
 is_plain (kind.Entries f) = true
 
--- on with a type, an element's type, a variable; false where there is none
+-- on with a type, an element's type, a variable; false if there is none
 abbrev pub with_type : Result CelType Fault → (CelType → Bool) → Bool
 with_type (Ok k) f = f k
 with_type (Err fault) f = false
@@ -76,7 +76,7 @@ abbrev mutual
   object_of names (Member t name) = is_without_dyn names t
   object_of names form = true
 
-  -- what stands behind the variable of a comprehension, whose type is that of an element
+  -- what follows the variable of a comprehension, whose type is that of an element
   pub bodies_without : Names → Scalar → Asts → Bool
   bodies_without names e End = true
   bodies_without names e (More x rest) = with_some (variable_of x) (λ name. all_without ((name, kind.Scalar e) ∷ names) rest)

@@ -1,4 +1,4 @@
--- The steps of what comes behind a value, and of the elements of a range.
+-- The steps of what comes after a value, and of the elements of a range.
 use Rattle.std.specs.Prelude.{ℕ, ◌+◌, sum_by, List, [], ◌∷◌, Bool, false, not, Result, Ok, Err, if◌then◌else◌}
 use Rattle.cel_tree.specs.declared.tree.BinaryOp.{BinaryOp}
 use Rattle.cel_tree.specs.declared.calls.Comprehension.{Comprehension}
@@ -12,7 +12,7 @@ use Rattle.cel_meaning.specs.declared.connective.Connective.{Connective}
 use Rattle.cel_meaning.specs.declared.connective.Connective.TheVariants as connective
 use Rattle.cel_meaning.specs.Folds.{Body, Maker, holds, by_filter, by_map, by_test_and_map}
 
--- what comes behind a value; nothing comes behind an error
+-- what comes after a value; nothing comes after an error
 abbrev pub behind : {A : Type 0} → Result A EvalError → (A → ℕ) → ℕ
 behind (Ok x) f = f x
 behind (Err e) f = 0
@@ -23,7 +23,7 @@ decides connective.And (Ok b) = not b
 decides connective.Or (Ok b) = b
 decides c (Err e) = false
 
--- what comes behind a side of `&&` or `||`: nothing behind one that decides alone
+-- what comes after a side of `&&` or `||`: nothing after one that decides alone
 abbrev pub unless_decided : Connective → Result Bool EvalError → ℕ → ℕ
 unless_decided c side n = if decides c side then 0 else n
 
@@ -41,12 +41,12 @@ pub record Turn : Type 0 where
   pub steps : Single → ℕ
 
 -- Each element takes two steps, and those of the bodies as far as they are evaluated. No element is looked
--- at behind one that decides an `all` or an `exists` alone.
+-- at after one that decides an `all` or an `exists` alone.
 abbrev pub folded_steps : Connective → Turn → List Single → ℕ
 folded_steps c test [] = 0
 folded_steps c test (x ∷ xs) = 2 + test.steps x + unless_decided c (holds test.means x) (folded_steps c test xs)
 
--- of `filter`, `map` and `exists_one`: none behind an error
+-- of `filter`, `map` and `exists_one`: none after an error
 abbrev pub gathered_steps : Maker → (Single → ℕ) → List Single → ℕ
 gathered_steps make steps [] = 0
 gathered_steps make steps (x ∷ xs) = 2 + steps x + behind (make x) (λ y. gathered_steps make steps xs)

@@ -35,7 +35,7 @@ impl Connective {
         }
     }
 
-    /// Whether nothing behind this side is evaluated: it decides alone, or memory ran out.
+    /// Whether nothing after this side is evaluated: it decides alone, or is out of memory.
     pub fn stops(self, side: Result<bool, EvalError>) -> bool
         ensures { result ≡ (is_memory side || decides self side) }
     {
@@ -45,8 +45,8 @@ impl Connective {
         }
     }
 
-    /// Both sides together, where the left one isn't want of memory. The left error is given before
-    /// the right one, but for want of memory.
+    /// Both sides together, where the left one isn't out of memory. The left error is returned rather
+    /// than the right one, unless the right one is out of memory.
     pub fn join(
         self,
         left: Result<bool, EvalError>,

@@ -16,7 +16,7 @@ ghost use Rattle.cel_meaning.specs.Plain.{is_without_dyn};
 use cel_cost::bounds_have_the_type;
 use cel_tree::types_are_found;
 
-/// A tree that has a type means values of that type alone, where the names that are bound have values
+/// A tree that has a type evaluates only to values of that type, if the names that are bound have values
 /// of their types.
 pub fn values_have_their_types()
     ensures { (device : Device) (names : Names) (bindings : Bindings) (t : Ast) (k : CelType) (v : Value) →
@@ -25,7 +25,7 @@ pub fn values_have_their_types()
     types_are_found();
 }
 
-/// A tree that has a type never means `NoOverload`, where no part of it has a type with dyn in it.
+/// A tree that has a type never evaluates to `NoOverload`, if no part of it has a type with dyn in it.
 pub fn no_overload_without_dyn()
     ensures { (device : Device) (names : Names) (bindings : Bindings) (t : Ast) (k : CelType) →
         Agree names bindings → type_of names t ≡ Ok k → is_without_dyn names t ≡ true → means device bindings t ≢ Err NoOverload }

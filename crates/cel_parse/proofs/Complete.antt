@@ -90,7 +90,7 @@ module _ (most : ℕ) (e : Span) where
   abbrev run : List Lexeme → State → Reading
   run = reading most e
 
-  -- the steps where an operand is due
+  -- the steps where an operand is expected
   want_by : (due : Due) (st : List Frame) (t : Lexeme) (c : TokenKind) (o : Option State) → t.kind ≡ c → want_at most c due st t ≡ o → step_of most (Want due) st t ≡ o
   want_by due st t c o h g = ap (λ (k : TokenKind). want_at most k due st t) h ∙ g
 
@@ -134,7 +134,7 @@ module _ (most : ℕ) (e : Span) where
   want_end_at due f st t b kind.RightBrace h = ap (λ (d : Bool). if d then ended most (f ∷ st) t else None) b
   want_end_at due f st t b k h = absurd h
 
-  -- the steps behind an expression
+  -- the steps after an expression
   have_by : (h : Hand) (st : List Frame) (t : Lexeme) (c : TokenKind) (o : Option State) → t.kind ≡ c → have_at most c h st t ≡ o → step_of most (Have h) st t ≡ o
   have_by h st t c o g i = ap (λ (k : TokenKind). have_at most k h st t) g ∙ i
 
@@ -158,7 +158,7 @@ module _ (most : ℕ) (e : Span) where
   asked_by p (frame.Test q ∷ st) h = absurd (omega arith)
   asked_by p (f ∷ st) h = refl
 
-  -- a closing bracket behind an expression in a frame that waits for one
+  -- a closing bracket after an expression in a frame that waits for one
   have_close_at : (p : Part) (f : Frame) (st : List Frame) (t : Lexeme) → binds 0 f ≡ false → (k : TokenKind) → Closer k →
       have_at most k (Whole p) (f ∷ st) t ≡ have_whole st (closed_frame most f p t.kind (place t))
   have_close_at p f st t b kind.RightParen h = ap (λ (d : Bool). closed most (if d then reduced most 0 (completed most f p) st else (p, f ∷ st)).0 (if d then reduced most 0 (completed most f p) st else (p, f ∷ st)).1 t) b

@@ -1,4 +1,4 @@
--- The tree of a text is the one that the grammar gives its tokens.
+-- The tree of a text is the one that the grammar assigns to its tokens.
 use Rattle.std.proofs.Common.{◌≡◌, ℕ, ◌≤◌, nat_lt, length, List, Bool, true, false, ◌||◌, Option, Some, None, is_some, refl, sym, ap, ◌∙◌, subst, if◌then◌else◌}
 use Rattle.cel_lex.specs.Tokens.{Lexeme, Lexed, lex_of}
 use Rattle.cel_tree.specs.declared.tree.Span.{Span}
@@ -33,7 +33,7 @@ pub text_has : (text : List ℕ) (t : Ast) → tree_of text ≡ Some t → Has 0
 unfolding tree_of
 text_has text t f = short_has (end_of text) (lex_of text) t (nat_lt 10240 (length text)) f
 
--- the grammar's tree is read, where it has at most 64 levels
+-- the grammar's tree is read, if it has at most 64 levels
 has_read : (e : Span) (ts : List Lexeme) (t : Ast) → Has 0 ts t → depth t ≤ 64 → tree_read (reading 64 e ts begun) ≡ Some t
 has_read e ts t h d = ap tree_read (read_whole 64 e ts t h ∙ ap Read (sym (fits 64 t (is_le (depth t) 64 d))))
 

@@ -129,7 +129,7 @@ module _ (most : ℕ) where
       put ts pre (o ∷ (us ++ k ∷ [])) (Node (over (place o) (place k)) (MapOf (entries_of l))) (map_part most (over (place o) (place k)) ps) st e (ap (map_part most (over (place o) (place k))) f ∙ cut_map most (over (place o) (place k)) l) s (map_literal o k eo h g)
   end_map ts pre us st o k l ps e f s eo h i g = tt
 
-  -- a comma behind an expression
+  -- a comma after an expression
   pub comma_goes : (before front : List Lexeme) (f : Frame) (st : List Frame) (t : Ast) (k : Lexeme) → Stacked most before (f ∷ st) → Has 0 front t → k.kind ≡ kind.Comma → Goes ((before ++ front) ++ k ∷ []) (want_next st (grown f (cut most t)))
   comma_goes before front f st t k (list_at {pre = pre} {us = us} o l s eo b) h ek =
       subst (λ (ps : Parts). At ((before ++ front) ++ k ∷ []) (Want Next, frame.Square (place o) ps ∷ st)) (sym (cuts_more most l t))
@@ -154,7 +154,7 @@ module _ (most : ℕ) where
   comma_goes before front f st t k (subscript_at o u s ha eo) h ek = tt
   comma_goes before front f st t k (map_at o l s eo b) h ek = tt
 
-  -- a closing bracket behind an expression
+  -- a closing bracket after an expression
   round_goes : (ts pre front : List Lexeme) (st : List Frame) (o k : Lexeme) (t : Ast) → ts ≡ pre ++ (o ∷ (front ++ k ∷ [])) → Stacked most pre st → o.kind ≡ kind.LeftParen → Has 0 front t →
       (i : TokenKind) → k.kind ≡ i → Goes ts (have_whole st (closed_round (cut most t) i))
   round_goes ts pre front st o k t e s eo h kind.RightParen g = put ts pre (o ∷ (front ++ k ∷ [])) t (cut most t) st e refl s (brackets o k eo h g)

@@ -1,4 +1,4 @@
--- Where an expression stops, and what the tokens behind it make of what was begun.
+-- Where an expression stops, and what the tokens after it make of what was begun.
 use Rattle.std.proofs.Common.{◌≡◌, ℕ, suc, ◌≤◌, ◌<◌, nat_le, ◌==◌, List, [], ◌∷◌, Bool, true, false, Option, Some, None, refl, ap, arith, if◌then◌else◌}
 use Rattle.std.proofs.lemmas.Bool.Decides.{nat_tests}
 use Rattle.cel_lex.specs.declared.token.TokenKind.{TokenKind}

@@ -1,4 +1,4 @@
--- What the parser answers.
+-- What the parser returns.
 use Rattle.std.specs.Prelude.{◌≡◌, ℕ, ◌≤◌, ◌<◌, List, [], ◌∷◌, ◌++◌, Result, Ok, Err}
 use Rattle.cel_lex.specs.Tokens.{Lexeme}
 use Rattle.cel_tree.specs.declared.tree.Span.{Span}
@@ -14,17 +14,17 @@ pub record Begins (ts : List Lexeme) : Type 0 where
   pub tree : Ast
   pub has : Has 0 (ts ++ rest) tree
 
--- the place of the first token, or of the end of the text
+-- the span of the first token, or of the end of the text
 abbrev pub first_place : Span → List Lexeme → Span
 first_place e [] = e
 first_place e (k ∷ ks) = place k
 
--- the front is no expression where nothing follows; else none begins with it and the token behind it
+-- the prefix is no expression if nothing follows; else none begins with it and the token after it
 abbrev pub GoesNot : List Lexeme → List Lexeme → Type 0
 GoesNot front [] = (t : Ast) → Has 0 front t → ⊥
 GoesNot front (k ∷ ks) = Begins (front ++ k ∷ []) → ⊥
 
--- The tokens are no expression, and this is the place of the first token such that none begins with the tokens up to and with it. The end of the text, at e, counts as a token.
+-- The tokens are no expression, and this is the span of the first token such that none begins with the tokens up to and with it. The end of the text, at e, counts as a token.
 pub record Unfit (e : Span) (ts : List Lexeme) (s : Span) : Type 0 where
   pub front : List Lexeme
   pub rest : List Lexeme
@@ -39,7 +39,7 @@ pub record HasTree (ts : List Lexeme) (Fits : ℕ → Type 0) : Type 0 where
   pub has : Has 0 ts tree
   pub fits : Fits (depth tree)
 
--- what is answered for the tokens of a text that ends at e; want of memory alone is free
+-- what may be returned for the tokens of a text that ends at e; out of memory alone has no condition
 abbrev pub Parsed : Span → List Lexeme → Result Tree ParseError → Type 0
 Parsed e ts (Ok t) = Has 0 ts (tree_view t) × (depth (tree_view t) ≤ 64)
 Parsed e ts (Err (Unexpected s)) = Unfit e ts s

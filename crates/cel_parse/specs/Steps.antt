@@ -121,7 +121,7 @@ alone p (f ∷ st) = None
 abbrev pub begun : State
 begun = (Want Expr, [])
 
--- what is read in the end, or the place of the first token that can't stand there
+-- what is read in the end, or the span of the first token that isn't allowed there
 pub data Reading : Type 0 where
   Read : Part → Reading
   Fault : Span → Reading

@@ -1,4 +1,4 @@
--- What is answered for a text, in the order in which it is looked at.
+-- What is returned for a text, in the order in which it is looked at.
 use Rattle.std.specs.Prelude.{◌≡◌, ℕ, ◌+◌, ◌-◌, nat_lt, List, [], ◌∷◌, ◌++◌, map, length, Bool, true, false, Option, Some, None, Result, Ok, Err, if◌then◌else◌, MatchOption, Vec}
 use Rattle.std.specs.Bool.{MatchBool}
 use Rattle.std.specs.declared.alloc.Global.{Global}
@@ -39,12 +39,12 @@ is_left_out before kind.Dot = is_leading before
 is_left_out before kind.LeftBrace = is_name before
 is_left_out before k = false
 
--- the place of the first token that is left out
+-- the span of the first token that is left out
 abbrev pub left_out : Option TokenKind → List Lexeme → Option Span
 left_out before [] = None
 left_out before (k ∷ ks) = if is_left_out before k.kind then Some (place k) else left_out (Some k.kind) ks
 
--- how many brackets stand open at a token, where so many stand open before it
+-- how many brackets are open at a token, where so many are open before it
 abbrev pub open_at : ℕ → TokenKind → ℕ
 open_at n kind.LeftParen = n + 1
 open_at n kind.LeftBracket = n + 1
@@ -54,12 +54,12 @@ open_at n kind.RightBracket = n - 1
 open_at n kind.RightBrace = n - 1
 open_at n k = n
 
--- more than 64 brackets stand open at one token
+-- more than 64 brackets are open at one token
 abbrev pub is_crowded : ℕ → List Lexeme → Bool
 is_crowded n [] = false
 is_crowded n (k ∷ ks) = if nat_lt 64 (open_at n k.kind) then true else is_crowded (open_at n k.kind) ks
 
--- the error, unless memory ran out
+-- the error, unless out of memory
 abbrev pub Fails : ParseError → Result Tree ParseError → Type 0
 Fails e (Ok t) = ⊥
 Fails e (Err Memory) = Unit {0}
@@ -81,7 +81,7 @@ Read text l r = MatchOption l.error (Scanned (end_of text) l.tokens r) (λ x. Fa
 abbrev pub Parses : List ℕ → Result Tree ParseError → Type 0
 Parses text r = MatchBool (nat_lt 10240 (length text)) (r ≡ Err Long) (Read text (lex_of text) r)
 
--- the tokens of a text, or their first error, unless memory ran out
+-- the tokens of a text, or their first error, unless out of memory
 abbrev pub Lexes : Lexed → Result (Vec Token Global) ParseError → Type 0
 Lexes l (Ok v) = l ≡ record { tokens = map lexeme v.items; error = None }
 Lexes l (Err (Lex x)) = l.error ≡ Some x

@@ -16,7 +16,7 @@ tree_read (steps.Read (part.Shallow t d)) = Some t
 tree_read (steps.Read part.Deep) = None
 tree_read (steps.Fault s) = None
 
--- the tree of tokens, where the text ends at e: nothing is left out, and at most 64 brackets stand open
+-- the tree of tokens, where the text ends at e: nothing is left out, and at most 64 brackets are open
 abbrev pub tree_in : Span → List Lexeme → Option Ast
 tree_in e ts = if is_some (left_out None ts) || is_crowded 0 ts then None else tree_read (steps.reading 64 e ts steps.begun)
 
@@ -27,7 +27,7 @@ tree_lexed e l = if is_some l.error then None else tree_in e l.tokens
 unfoldable pub tree_of : List ℕ → Option Ast
 tree_of text = if nat_lt 10240 (length text) then None else tree_lexed (end_of text) (lex_of text)
 
--- The answer tells the tree, or that there is none, unless memory ran out.
+-- The result is the tree, or an error if there is none, unless out of memory.
 abbrev pub Tells : Option Ast → Result Tree ParseError → Type 0
 Tells o (Ok t) = o ≡ Some (tree_view t)
 Tells o (Err Memory) = Unit {0}

@@ -111,7 +111,7 @@ pub fn conditional(
     Ok(Part::Shallow(Shown::new(tree), depth + 1))
 }
 
-/// `object.name`, where the name stands at the span.
+/// `object.name`, where the name is at the span.
 pub fn member(alloc: Global, object: Part, span: Span, name: Text) -> Result<Part, AllocError>
     ensures { IfOk result (λ p. p ≡ member_part 64 object span name) }
 {
@@ -128,7 +128,7 @@ pub fn member(alloc: Global, object: Part, span: Span, name: Text) -> Result<Par
     }
 }
 
-/// `object[index]`, where the bracket that closes it stands at the span.
+/// `object[index]`, where the bracket that closes it is at the span.
 pub fn index(alloc: Global, object: Part, index: Part, span: Span) -> Result<Part, AllocError>
     ensures { IfOk result (λ p. p ≡ index_part 64 object index span) }
 {
@@ -163,7 +163,7 @@ pub fn call(span: Span, function: Text, arguments: Parts) -> Part
     }
 }
 
-/// `object.function(arguments)`, where the bracket that closes it stands at the span.
+/// `object.function(arguments)`, where the bracket that closes it is at the span.
 pub fn method(
     alloc: Global,
     object: Part,

@@ -15,32 +15,32 @@ use cel_tree::{Span, Tree};
 use std::alloc::{AllocError, Global};
 use thiserror::Error;
 
-/// Why a text is no expression of the selector language. Its places are offsets into the text in
+/// Why a text is no expression of the selector language. Its offsets are into the text, in
 /// bytes.
 #[derive(Clone, Copy, Debug, PartialEq, Eq, Drop, Error)]
 pub enum ParseError {
-    /// The first place where no token can be read.
+    /// The first offset where no token can be read.
     #[error(transparent)]
     Lex(LexError),
-    /// The place of the first token such that no expression begins with the tokens up to and with
+    /// The span of the first token such that no expression begins with the tokens up to and with
     /// it. The end of the text counts as a token of empty span.
     #[error("no expression goes on with what stands at bytes {} to {}", .0.start, .0.end)]
     Unexpected(Span),
-    /// More than 64 brackets stand open, or the tree is more than 64 levels deep.
+    /// More than 64 brackets are open, or the tree is more than 64 levels deep.
     #[error("more than 64 levels deep")]
     Deep,
     /// More than 10,240 bytes.
     #[error("more than 10240 bytes long")]
     Long,
-    /// Memory ran out.
+    /// Out of memory.
     #[error("out of memory")]
     Memory,
-    /// The place of the first token that the profile leaves out of the language.
+    /// The span of the first token that the profile leaves out of the language.
     #[error("the selector language leaves out what stands at bytes {} to {}", .0.start, .0.end)]
     NotSupported(Span),
 }
 
-/// The tree of the tokens, or the place of the first that can't stand there; `end` is the place of
+/// The tree of the tokens, or the span of the first that isn't allowed there; `end` is the span of
 /// the end of the text.
 fn read(alloc: Global, tokens: &[Token], end: Span) -> Result<Result<Part, Span>, AllocError>
     ensures { IfOk result (λ r. reading_of r ≡ reading 64 end (map lexeme tokens.now) begun) }
@@ -59,8 +59,8 @@ fn read(alloc: Global, tokens: &[Token], end: Span) -> Result<Result<Part, Span>
     }
 }
 
-/// The tree that the grammar gives the tokens of a text, which ends at the offset. Deep where the
-/// tree is more than 64 levels deep, Unexpected where the tokens have none: at the first token such
+/// The tree that the grammar assigns to the tokens of a text, which ends at the offset. Deep if the
+/// tree is more than 64 levels deep, Unexpected if the tokens have none: at the first token such
 /// that no expression begins with the tokens up to and with it, or at the end of the text.
 #[tactic(auto, using(crate::proofs::Exact::parses))]
 pub fn parse_tokens(alloc: Global, tokens: &[Token], end: usize) -> Result<Tree, ParseError>
@@ -76,8 +76,8 @@ pub fn parse_tokens(alloc: Global, tokens: &[Token], end: usize) -> Result<Tree,
     }
 }
 
-/// The tree of a text is the one that the grammar gives its tokens, and a text that is short, of whose
-/// tokens none is left out and at most 64 brackets stand open, and whose tokens have a tree of at most
+/// The tree of a text is the one that the grammar assigns to its tokens, and a text that is short, of whose
+/// tokens none is left out and at most 64 brackets are open, and whose tokens have a tree of at most
 /// 64 levels, has that tree.
 pub fn trees_are_of_the_grammar()
     ensures tree { (text : List ℕ) (t : Ast) → tree_of text ≡ Some t → Has 0 (lex_of text).tokens t }

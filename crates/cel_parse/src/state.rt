@@ -8,7 +8,7 @@ use dra_values::Text;
 use std::alloc::{AllocError, Global};
 use std::marker::Model;
 
-/// What may stand where an operand is due.
+/// What may appear where an operand is expected.
 #[derive(Clone, Copy, Debug, PartialEq, Eq)]
 pub enum Due {
     /// An expression.
@@ -17,9 +17,9 @@ pub enum Due {
     Prefixed(UnaryOp),
     /// After a bracket that may be closed at once: an expression or the closing bracket.
     First,
-    /// After the comma behind an item: another item or the closing bracket.
+    /// After the comma that follows an item: another item or the closing bracket.
     Next,
-    /// After a comma that stands alone: the closing bracket.
+    /// After a comma that no item precedes: the closing bracket.
     Closing,
 }
 

@@ -11,7 +11,7 @@ use cel_tree::{BinaryOp, Kind, Span, UnaryOp};
 use dra_values::Text;
 use std::alloc::{AllocError, Global};
 
-/// What comes after a token; None where the token can't stand there.
+/// What comes after a token; None if the token isn't allowed there.
 pub fn step(
     alloc: Global,
     stack: &mut Stack,
@@ -27,7 +27,7 @@ pub fn step(
     }
 }
 
-/// The tree of the tokens; None where more tokens are due.
+/// The tree of the tokens; None if more tokens are expected.
 pub fn finish(alloc: Global, stack: &mut Stack, mode: Mode) -> Result<Option<Part>, AllocError>
     ensures { IfOk result (λ o. o ≡ finished 64 mode stack.old) }
 {
@@ -341,7 +341,7 @@ fn separate(stack: &mut Stack, part: Part) -> Result<Option<Mode>, AllocError>
     Ok(Some(Mode::Want(next)))
 }
 
-/// The frame with another item, and what is due after the comma behind it.
+/// The frame with another item, and what is expected after the comma that follows it.
 fn grow(frame: Frame, part: Part) -> Result<Option<(Frame, Due)>, AllocError>
     ensures { IfOk result (λ o. o ≡ grown frame part) }
 {

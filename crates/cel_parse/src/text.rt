@@ -12,15 +12,15 @@ use std::alloc::Global;
 /// The greatest length of a text, in bytes.
 pub const MOST_BYTES: usize = 10240;
 
-/// The most brackets that stand open at one token.
+/// The most brackets that are open at one token.
 const MOST_OPEN: usize = 64;
 
 /// The tree of an expression of the selector language, this project's profile of the CEL language
-/// definition. The errors come in this order: Long, where the text has more than 10,240 bytes; Lex,
-/// with the first place where no token can be read; NotSupported, at the first token that the
-/// profile leaves out; Deep, where more than 64 brackets of any kind stand open at one token;
+/// definition. The errors come in this order: Long, if the text has more than 10,240 bytes; Lex,
+/// with the first offset where no token can be read; NotSupported, at the first token that the
+/// profile leaves out; Deep, if more than 64 brackets of any kind are open at one token;
 /// Unexpected, at the first token such that no expression begins with the tokens up to and with it,
-/// or at the end of the text; Deep, where the tree is more than 64 levels deep.
+/// or at the end of the text; Deep, if the tree is more than 64 levels deep.
 #[tactic(auto, unfolding(crate::specs::Trees::tree_of))]
 pub fn parse(alloc: Global, text: &str) -> Result<Tree, ParseError>
     ensures answer { Parses text.now result }
@@ -91,7 +91,7 @@ fn is_left_out(before: Option<TokenKind>, kind: TokenKind) -> bool
     }
 }
 
-/// Whether a token stands where an operand is due.
+/// Whether a token is where an operand is expected.
 fn is_leading(before: Option<TokenKind>) -> bool
     ensures { result ≡ is_leading before }
 {
@@ -117,7 +117,7 @@ fn is_leading(before: Option<TokenKind>) -> bool
     }
 }
 
-/// Whether more than 64 brackets stand open at one token.
+/// Whether more than 64 brackets are open at one token.
 fn has_crowd(tokens: &[Token]) -> bool
     ensures { result ≡ is_crowded 0 (map lexeme tokens.now) }
 {

@@ -1,4 +1,4 @@
--- An expression without where it lies in memory: nodes with their places in the source.
+-- An expression without where it lies in memory: nodes with their spans in the source.
 use Rattle.std.specs.Prelude.{ℕ, ◌+◌, max, ℤ, List, [], ◌∷◌, Bool}
 use Rattle.cel_tree.specs.declared.tree.Span.{Span}
 use Rattle.cel_tree.specs.declared.tree.UnaryOp.{UnaryOp}
@@ -10,7 +10,7 @@ use Rattle.cel_tree.specs.declared.tree.Kind as kind
 use Rattle.cel_tree.specs.declared.tree.Tree.{Tree}
 use Rattle.cel_tree.specs.declared.tree.Entry.{Entry}
 
--- what a literal stands for
+-- the value of a literal
 pub data Constant : Type 0 where
   Null : Constant
   Truth : Bool → Constant

@@ -90,7 +90,7 @@ abbrev pub by_function : Option Function → Option Called → Option Called
 by_function (Some f) other = Some (called.Function f)
 by_function None other = other
 
--- what a name stands for in a call; None where there is no such function
+-- what a name refers to in a call; None if there is no such function
 abbrev pub called_of : List ℕ → Option Called
 called_of name =
     if bytes_eq name (codes "has") then Some called.Has

@@ -55,7 +55,7 @@ abbrev pub typed : Result CelType Fault → CelType
 typed (Ok k) = k
 typed (Err fault) = any
 
--- the weight of a value of the type where the type alone says it, or else the one given
+-- the weight of a value of the type where the type alone decides it, or else the one given
 abbrev pub weight_by : CelType → ℕ → ℕ
 weight_by (kind.Scalar scalar.Int) weight = 1
 weight_by (kind.Scalar scalar.Bool) weight = 1
@@ -81,7 +81,7 @@ abbrev pub bounds : CelType → ℕ → ℕ → ℕ → Bounds
 bounds k weight number steps =
     record { kind = k; weight = weight_by k weight; number = number_by k number; steps = steps }
 
--- what stands where there is no expression
+-- the bounds used where there is no expression
 unfoldable pub nothing : Bounds
 nothing = bounds any 1 0 1
 
@@ -122,7 +122,7 @@ weighing op.Divide weights = 0
 weighing op.Remainder weights = 0
 
 -- An operation takes one step, those of both operands, and the operands' weights where it may look at
--- all of them. What it gives is an int or a bool, or of `+` at most both together.
+-- all of them. Its value is an int or a bool, or of `+` at most both together.
 unfoldable pub binary_bounds : Span → BinaryOp → Bounds → Bounds → Bounds
 binary_bounds span o x y =
     bounds
@@ -140,7 +140,7 @@ conditional_bounds span test x y =
     (max x.number y.number)
     (1 + (test.steps + max x.steps y.steps))
 
--- the weight of what stands in a value: 257 of an attribute, or else at most that of the value
+-- the weight of a part of a value: 257 of an attribute, or else at most that of the value
 abbrev pub part_weight : CelType → ℕ → ℕ
 part_weight (kind.Scalar s) weight = weight
 part_weight (kind.List s) weight = weight
@@ -173,7 +173,7 @@ abbrev pub arguments_of : List Bounds → Arguments
 arguments_of [] = arguments.None
 arguments_of (x ∷ xs) = with_first x.kind (arguments_of xs)
 
--- A call takes one step, those of its operands, and their weights. What it gives is an int, a bool, a
+-- A call takes one step, those of its operands, and their weights. Its value is an int, a bool, a
 -- quantity or a version.
 unfoldable pub plain_bounds : Result CelType Fault → List Bounds → Bounds
 plain_bounds k xs = bounds (typed k) 1 0 (1 + (steps_of xs + weights_of xs))
@@ -209,7 +209,7 @@ abbrev pub last_weight : List Bounds → Option ℕ
 last_weight [] = None
 last_weight (x ∷ xs) = Some (unwrap_or (last_weight xs) x.weight)
 
--- the weight of what a comprehension gives: of `filter` at most the range, of `map` one and for each
+-- the weight of the value of a comprehension: of `filter` at most the range, of `map` one and for each
 -- element its last body
 abbrev pub gathered_weight : Comprehension → Bounds → List Bounds → ℕ
 gathered_weight All range bodies = 1
@@ -292,7 +292,7 @@ abbrev mutual
   each names End = []
   each names (More t ts) = bounds_of names t ∷ each names ts
 
-  -- what stands behind the variable of a comprehension, under its name
+  -- what follows the variable of a comprehension, under its name
   pub bodies_of : Names → Asts → List Bounds
   bodies_of names End = []
   bodies_of names (More x rest) = each names rest
@@ -319,6 +319,6 @@ abbrev pub most : ℕ
 most = 2 ^ 64 - 1
 
 -- The most steps of an expression, as far as 64 bits count. Sums and products that stop at this number
--- on the way give the same.
+-- on the way lead to the same estimate.
 abbrev pub Estimate : Ast → ℕ
 Estimate tree = min (bounds_of [] tree).steps most

@@ -89,7 +89,7 @@ same_facet f g = facet_rank f == facet_rank g
 abbrev pub comparable : Scalar → Scalar → Bool
 comparable s t = same_scalar s t || (is_dyn s || is_dyn t)
 
--- An overload for a scalar type takes an operand of that type and one of dyn.
+-- An overload for a scalar type accepts an operand of that type and one of dyn.
 abbrev pub takes : Scalar → Scalar → Bool
 takes wanted s = same_scalar wanted s || is_dyn s
 
@@ -103,7 +103,7 @@ accepts wanted (kind.Entries f) = false
 abbrev pub both_accept : Scalar → CelType → CelType → Bool
 both_accept wanted left right = accepts wanted left && accepts wanted right
 
--- the result of an overload that takes the operands
+-- the result of an overload that accepts the operands
 abbrev pub when : Bool → CelType → Option CelType
 when fits result = if fits then Some result else None
 
@@ -124,7 +124,7 @@ order_type left right = when (both_accept scalar.Int left right || (both_accept 
 abbrev pub arithmetic_type : CelType → CelType → Option CelType
 arithmetic_type left right = when (both_accept scalar.Int left right) int
 
--- `== !=`: one type that isn't one of those that `device` alone gives, or dyn with a scalar
+-- `== !=`: one type that isn't one of those that only `device` has, or dyn with a scalar
 abbrev pub equality_type : CelType → CelType → Option CelType
 equality_type (kind.Scalar s) (kind.Scalar t) = when (comparable s t) bool
 equality_type (kind.List s) (kind.List t) = when (same_scalar s t) bool

@@ -80,7 +80,7 @@ abbrev pub comprehension_in : Option Called → Option Comprehension
 comprehension_in (Some (called.Comprehension c)) = Some c
 comprehension_in c = None
 
--- one more type in front
+-- one more type before the others
 abbrev pub with_first : CelType → Arguments → Arguments
 with_first k arguments.None = arguments.One k
 with_first k (arguments.One l) = arguments.Two k l
@@ -188,7 +188,7 @@ abbrev mutual
   has_form names span (Member t name) = if is_device names t then Err (NoOverload span) else (type_of names t >>= λ k. has_type span k)
   has_form names span form = Err (NoOverload span)
 
-  -- `range.all(x, ..)`: the variable, and what stands behind it under that name
+  -- `range.all(x, ..)`: the variable, and what follows it under that name
   pub comprehension_of : Names → Span → Comprehension → Scalar → Asts → Result CelType Fault
   comprehension_of names span c e End = Err (NoOverload span)
   comprehension_of names span c e (More x rest) = with_variable span (variable_of x)
@@ -213,7 +213,7 @@ abbrev mutual
   items_of names End = Ok None
   items_of names (More t ts) = type_of names t >>= λ k. item_type (span_of t) k >>= λ s. items_of names ts >>= λ rest. Ok (Some (joined s rest))
 
-  -- the values of a map literal, behind the keys of those before
+  -- the values of a map literal, after the keys of those before
   pub values_of : Names → List Constant → Entries → Result (Option Scalar) Fault
   values_of names earlier NoEntry = Ok None
   values_of names earlier (Pair k t es) = key_of (span_of k) earlier (literal_of k) >>= λ c. type_of names t >>= λ l.

@@ -39,7 +39,7 @@ pub enum Comprehension {
     Map,
 }
 
-/// What the name of a call stands for.
+/// What the name of a call refers to.
 #[derive(Clone, Copy, Debug, PartialEq, Eq)]
 pub enum Called {
     /// The macro `has(object.name)`.
@@ -59,7 +59,7 @@ pub enum Arguments {
     Many,
 }
 
-/// What a name stands for in a call, as a function's or as a method's. None where there is no such
+/// What a name refers to in a call, as a function's or as a method's. None if there is no such
 /// function.
 pub fn called_of(name: &str) -> Option<Called>
     ensures { result ≡ called_of name.now }
@@ -211,7 +211,7 @@ fn version_function(name: &str) -> Option<Function>
     }
 }
 
-/// The type of `function(arguments)`. None where there is no such overload.
+/// The type of `function(arguments)`. None if there is no such overload.
 pub fn call_type(function: Function, arguments: Arguments) -> Option<CelType>
     ensures { result ≡ call_type function arguments }
 {
@@ -235,7 +235,7 @@ fn size_type(argument: CelType) -> Option<CelType>
     when(fits, CelType::INT)
 }
 
-/// The type of `object.function(arguments)`. None where there is no such overload.
+/// The type of `object.function(arguments)`. None if there is no such overload.
 pub fn method_type(function: Function, object: CelType, arguments: Arguments) -> Option<CelType>
     ensures { result ≡ method_type function object arguments }
 {

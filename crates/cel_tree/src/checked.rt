@@ -29,7 +29,7 @@ impl Model for Checked {
 }
 
 impl Checked {
-    /// The tree with its type, which it has where no name but `device` is in scope. Takes no memory.
+    /// The tree with its type, which it has where no name but `device` is in scope. Allocates nothing.
     pub fn of(tree: Tree, kind: CelType) -> Checked
         requires { HasType [] (tree_view tree) kind }
         ensures { result ≡ record { tree = tree_view tree; kind = kind } }

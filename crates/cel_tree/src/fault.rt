@@ -4,10 +4,10 @@ ghost use Rattle.cel_tree.specs.Faults.{item_type, row, list_of, mapped_type, co
 use crate::calls::{call_type, method_type};
 use crate::{Arguments, Called, CelType, Comprehension, Scalar, Span};
 
-/// Why a tree has no type, with the place of the node that is at fault.
+/// Why a tree has no type, with the span of the node that is at fault.
 #[derive(Clone, Copy, Debug, PartialEq, Eq)]
 pub enum Fault {
-    /// A function that the profile leaves out, or a list or map that would stand in another.
+    /// A function that the profile leaves out, or a list or map that would be inside another.
     NotSupported(Span),
     /// A variable, a function or a member of `device` that there isn't.
     NoSuchName(Span),
@@ -15,7 +15,7 @@ pub enum Fault {
     NoOverload(Span),
 }
 
-/// The type that a table gives, or the fault NoOverload.
+/// The type that a table returns, or the fault NoOverload.
 pub fn row(span: Span, given: Option<CelType>) -> Result<CelType, Fault>
     ensures { result ≡ row span given }
 {
@@ -37,7 +37,7 @@ pub fn item_type(span: Span, given: CelType) -> Result<Scalar, Fault>
     }
 }
 
-/// The type of the items of a list, one more in front of the others: dyn where they differ.
+/// The type of the items of a list, with one more before the others: dyn if they differ.
 pub fn joined(first: Scalar, rest: Option<Scalar>) -> Scalar
     ensures { result ≡ joined first rest }
 {
@@ -73,7 +73,7 @@ fn mapped_type(span: Span, bodies: Arguments) -> Result<CelType, Fault>
     }
 }
 
-/// The type of a comprehension over elements of the type, from the types of what stands behind its
+/// The type of a comprehension over elements of the type, from the types of what follows its
 /// variable: `all(x, test)`, `exists(x, test)` and `exists_one(x, test)` are bools, `filter(x, test)`
 /// is a list of elements, and `map(x, item)` and `map(x, test, item)` are lists of items.
 pub fn comprehension_type(

@@ -10,7 +10,7 @@ ghost use Rattle.cel_tree.specs.Ast.{Ast, Call, Method, ListOf, MapOf, tree_view
 ghost use Rattle.cel_tree.specs.Typing.{Names, type_of};
 ghost use Rattle.cel_tree.specs.HasType.{HasType};
 
-/// A tree has a type by the rules exactly where that type is found.
+/// A tree has a type by the rules if and only if that type is found.
 pub fn types_are_found()
     ensures found { (names : Names) (t : Ast) (k : CelType) → HasType names t k → type_of names t ≡ Ok k }
     ensures sound { (names : Names) (t : Ast) (k : CelType) → type_of names t ≡ Ok k → HasType names t k }

@@ -5,8 +5,8 @@ use crate::{BinaryOp, Entry, Kind, Span, Tree, UnaryOp};
 use dra_values::Text;
 use std::alloc::{AllocError, Global};
 
-/// The calls that make a node of the trees below it. Each fails for want of memory alone, and those
-/// that answer a `Tree` take none.
+/// The calls that make a node of the trees below it. Each fails only when out of memory, and those
+/// that return a `Tree` allocate nothing.
 impl Tree {
     pub fn new(span: Span, kind: Kind) -> Tree
         ensures { tree_view result ≡ Node span (kind_view kind) }

@@ -3,21 +3,21 @@ ghost use Rattle.cel_tree.specs.Types.{both_accept, when, unary_type, logic_type
 
 use crate::{BinaryOp, CelType, Facet, Scalar, UnaryOp};
 
-/// Whether an overload with two operands of the scalar type takes these.
+/// Whether an overload with two operands of the scalar type accepts these.
 pub fn both_accept(wanted: Scalar, left: CelType, right: CelType) -> bool
     ensures { result ≡ both_accept wanted left right }
 {
     wanted.accepts(left) && wanted.accepts(right)
 }
 
-/// The result, where the overload takes the operands.
+/// The result, if the overload accepts the operands.
 pub fn when(fits: bool, result_type: CelType) -> Option<CelType>
     ensures { result ≡ when fits result_type }
 {
     if fits { Some(result_type) } else { None }
 }
 
-/// The type of `!operand` or `-operand`. None where there is no such overload.
+/// The type of `!operand` or `-operand`. None if there is no such overload.
 pub fn unary_type(op: UnaryOp, operand: CelType) -> Option<CelType>
     ensures { result ≡ unary_type op operand }
 {
@@ -27,7 +27,7 @@ pub fn unary_type(op: UnaryOp, operand: CelType) -> Option<CelType>
     }
 }
 
-/// The type of an operation with two operands. None where there is no such overload.
+/// The type of an operation with two operands. None if there is no such overload.
 pub fn binary_type(op: BinaryOp, left: CelType, right: CelType) -> Option<CelType>
     ensures { result ≡ binary_type op left right }
 {
@@ -118,8 +118,8 @@ fn add_type(left: CelType, right: CelType) -> Option<CelType>
     }
 }
 
-/// The type of `test ? then : otherwise`: the type of both branches, or dyn where one of them is dyn
-/// and the other another scalar. None where there is no such overload.
+/// The type of `test ? then : otherwise`: the type of both branches, or dyn if one of them is dyn
+/// and the other another scalar. None if there is no such overload.
 pub fn conditional_type(test: CelType, then: CelType, otherwise: CelType) -> Option<CelType>
     ensures { result ≡ conditional_type test then otherwise }
 {
@@ -161,7 +161,7 @@ fn entry_type(facet: Facet) -> CelType
 }
 
 /// The type of `object.name` where the object isn't `device`: what the device has in a domain, an
-/// attribute or a capacity by its id, or what stands at a key of a map whose keys are texts. None
+/// attribute or a capacity by its id, or the value at a key of a map whose keys are texts. None
 /// for another object.
 pub fn member_type(object: CelType) -> Option<CelType>
     ensures { result ≡ member_type object }
@@ -174,7 +174,7 @@ pub fn member_type(object: CelType) -> Option<CelType>
     }
 }
 
-/// The type of `object[index]`. None where there is no such overload.
+/// The type of `object[index]`. None if there is no such overload.
 pub fn index_type(object: CelType, index: CelType) -> Option<CelType>
     ensures { result ≡ index_type object index }
 {
@@ -188,7 +188,7 @@ pub fn index_type(object: CelType, index: CelType) -> Option<CelType>
 }
 
 /// The type of a comprehension's variable over a range of the type: an item of a list, a key of a
-/// map, a domain, or an id. None where there is nothing to go over.
+/// map, a domain, or an id. None if there is nothing to go over.
 pub fn element_type(range: CelType) -> Option<Scalar>
     ensures { result ≡ element_type range }
 {

@@ -42,7 +42,7 @@ pub enum Literal {
     Text(Text),
 }
 
-/// An expression: a node with its place in the source. Brackets around an expression aren't in the
+/// An expression: a node with its span in the source. Brackets around an expression aren't in the
 /// span of its tree.
 #[derive(Drop)]
 #[cycle(tree)]

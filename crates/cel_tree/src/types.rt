@@ -82,7 +82,7 @@ impl Scalar {
         self.is(other) || self.is_dyn() || other.is_dyn()
     }
 
-    /// Whether an overload for this type takes an operand of the given one: this type, or `Dyn`.
+    /// Whether an overload for this type accepts an operand of the given one: this type, or `Dyn`.
     pub fn takes(self, given: Scalar) -> bool
         ensures { result ≡ takes self given }
     {

@@ -1,4 +1,4 @@
--- What stands in a device, in a list and in a map.
+-- Lookups in a device, in a list and in a map.
 use Rattle.std.specs.Prelude.{ℕ, ℤ, pos, negsuc, List, [], ◌∷◌, ◌++◌, map, Bool, is_some, option_map, slice_get, Option, Some, None, Result, Ok, Err, if◌then◌else◌, codes}
 use Rattle.std.specs.Str.{bytes_eq}
 use Rattle.std.specs.List.{list_any}
@@ -71,7 +71,7 @@ has_id d f domain id = is_some (at_name d f (full_name domain id))
 abbrev pub with_new : List (List ℕ) → List ℕ → List (List ℕ)
 with_new seen domain = if list_any (λ s. bytes_eq s domain) seen then seen else seen ++ domain ∷ []
 
--- behind those seen, each domain once
+-- after those seen, each domain once
 abbrev pub domains_from : List (List ℕ) → List QualName → List (List ℕ)
 domains_from seen [] = seen
 domains_from seen (name ∷ names) = domains_from (with_new seen name.domain) names
@@ -135,7 +135,7 @@ in_domain f x = text_from x >>= λ domain. Ok (value.Entries f domain)
 abbrev pub entry_at : Device → Facet → List ℕ → Single → Result Value EvalError
 entry_at d f domain x = text_from x >>= λ id. found NoKey (at_name d f (full_name domain id))
 
--- a list by a place, a map by a key, the domains by a domain, and those of a domain by an id. A domain
+-- a list by an index, a map by a key, the domains by a domain, and those of a domain by an id. A domain
 -- that isn't there has nothing in it.
 abbrev pub part_of : Device → Value → Single → Result Value EvalError
 part_of d (value.Single s) x = Err NoOverload
@@ -147,7 +147,7 @@ part_of d (value.Entries f domain) x = entry_at d f domain x
 abbrev pub index_of : Device → Value → Value → Result Value EvalError
 index_of d v i = single_in i >>= part_of d v
 
--- A member is the part that the name stands for.
+-- A member is the part that the name refers to.
 abbrev pub member_of : Device → Value → List ℕ → Result Value EvalError
 member_of d v name = part_of d v (single.Text name)
 

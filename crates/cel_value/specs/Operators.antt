@@ -26,7 +26,7 @@ use Rattle.cel_value.specs.Lookups.{in_map, in_domains, in_entries}
 
 -- ---- `&&` and `||`: three by three tables
 
--- false where either is false; else an error where either is one, the left one's first; else true
+-- false if either is false; else an error if either is one, the left one's first; else true
 abbrev pub and_of : Result Bool EvalError → Result Bool EvalError → Result Bool EvalError
 and_of (Ok false) right = Ok false
 and_of (Ok true) right = right
@@ -34,7 +34,7 @@ and_of (Err e) (Ok false) = Ok false
 and_of (Err e) (Ok true) = Err e
 and_of (Err e) (Err f) = Err e
 
--- true where either is true; else an error where either is one, the left one's first; else false
+-- true if either is true; else an error if either is one, the left one's first; else false
 abbrev pub or_of : Result Bool EvalError → Result Bool EvalError → Result Bool EvalError
 or_of (Ok true) right = Ok true
 or_of (Ok false) right = right

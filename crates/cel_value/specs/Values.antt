@@ -1,4 +1,4 @@
--- What values are: answers and errors, truth, weight, elements as keys and keys as values.
+-- What values are: results and errors, truth, weight, elements as keys and keys as values.
 use Rattle.std.specs.Prelude.{◌≡◌, ℕ, ◌+◌, ◌-◌, ◌^◌, length, sum_by, ℤ, pos, neg_ℤ, int_le, int_lt, ◌&&◌, List, Bool, Result, Ok, Err, if◌then◌else◌}
 use Rattle.cel_tree.specs.Ast.{Constant, Null, Truth, Whole, Bytes}
 use Rattle.cel_value.specs.declared.error.EvalError.{EvalError}
@@ -10,9 +10,9 @@ use Rattle.cel_value.specs.declared.value.Key.TheVariants as key
 use Rattle.cel_value.specs.declared.value.Value.{Value}
 use Rattle.cel_value.specs.declared.value.Value.TheVariants as value
 
--- ---- what a clause says of an answer
+-- ---- what a clause states of a result
 
--- the fact, unless the error is want of memory
+-- the fact, unless the error is out of memory
 abbrev pub UnlessMemory : EvalError → Type 0 → Type 0
 UnlessMemory NoKey P = P
 UnlessMemory NoOverload P = P
@@ -22,17 +22,17 @@ UnlessMemory OutOfRange P = P
 UnlessMemory BadConversion P = P
 UnlessMemory Memory P = Unit {0}
 
--- What a function returned is the meaning, unless memory ran out.
+-- What a function returned is the meaning, unless out of memory.
 abbrev pub Gives : {A : Type 0} → Result A EvalError → Result A EvalError → Type 0
 Gives (Ok x) meaning = meaning ≡ Ok x
 Gives (Err e) meaning = UnlessMemory e (meaning ≡ Err e)
 
--- the same of a function that takes no memory and gives what view sees
+-- the same of a function that allocates nothing and returns what view sees
 abbrev pub Shows : {X Y : Type 0} → (X → Y) → Result X EvalError → Result Y EvalError → Type 0
 Shows view (Ok x) meaning = meaning ≡ Ok (view x)
 Shows view (Err e) meaning = meaning ≡ Err e
 
--- the second step goes on with what the first gave; the first error counts
+-- the second step goes on with what the first returned; the first error counts
 infixl 10 ◌>>=◌
 abbrev pub ◌>>=◌ : {A B : Type 0} → Result A EvalError → (A → Result B EvalError) → Result B EvalError
 (Ok x) >>= f = f x
@@ -62,7 +62,7 @@ fits n = int_le (neg_ℤ (pos (2 ^ 63))) n && int_lt n (pos (2 ^ 63))
 abbrev pub whole : ℤ → Result Value EvalError
 whole n = if fits n then Ok (int n) else Err Overflow
 
--- what a literal stands for
+-- the value of a literal
 abbrev pub constant_of : Constant → Value
 constant_of Null = null
 constant_of (Truth b) = truth b

@@ -53,8 +53,8 @@ impl Model for DeviceEnv {
 }
 
 impl DeviceEnv {
-    /// The device of that driver with these attributes and capacities, by their full names. Takes no
-    /// memory.
+    /// The device of that driver with these attributes and capacities, by their full names. Allocates
+    /// nothing.
     pub fn new(
         driver: Text,
         attributes: Table<QualName, Single>,
@@ -70,7 +70,7 @@ impl DeviceEnv {
         }
     }
 
-    /// The same, or None where a limit is broken.
+    /// The same, or None if a limit is broken.
     pub fn checked(
         driver: Text,
         attributes: Table<QualName, Single>,

@@ -25,7 +25,7 @@ pub enum EvalError {
     /// A text doesn't read as a quantity or version, or a quantity isn't a whole number.
     #[error("bad conversion")]
     BadConversion,
-    /// Memory ran out.
+    /// Out of memory.
     #[error("out of memory")]
     Memory,
 }

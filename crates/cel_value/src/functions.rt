@@ -16,7 +16,7 @@ use crate::{DeviceEnv, EvalError, Single, Value};
 use cel_tree::Function;
 use std::alloc::Global;
 
-/// `function(arguments)`. NoOverload where there is no such row; BadConversion where a text doesn't
+/// `function(arguments)`. NoOverload if there is no such row; BadConversion if a text doesn't
 /// read as a quantity or version; Overflow for a size over 2^63-1.
 pub fn call(
     alloc: Global,
@@ -56,7 +56,7 @@ fn call_with(
     }
 }
 
-/// `object.function(arguments)`. NoOverload where there is no such row; Overflow for a whole number
+/// `object.function(arguments)`. NoOverload if there is no such row; Overflow for a whole number
 /// outside -2^63 to 2^63-1 or a quantity of a magnitude over 2^63-1; BadConversion for `asInteger` of
 /// a quantity that isn't whole.
 pub fn method(

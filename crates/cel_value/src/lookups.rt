@@ -1,4 +1,4 @@
-//! What stands in a device, in a list and in a map.
+//! Lookups in a device, in a list and in a map.
 
 ghost use Rattle.std.specs.Prelude.{◌≡◌, map, Ok, IfOk, is_some, option_copied};
 ghost use Rattle.std.specs.Map.{keys_of};
@@ -30,8 +30,8 @@ pub fn device_member(alloc: Global, device: &DeviceEnv, name: &str) -> Result<Va
     }
 }
 
-/// `object.name`: what stands at a key of a map, or what the device has in a domain or by an id.
-/// NoKey where the key or the id isn't there; a domain that isn't there has nothing in it. NoOverload
+/// `object.name`: the value at a key of a map, or what the device has in a domain or by an id.
+/// NoKey if the key or the id isn't there; a domain that isn't there has nothing in it. NoOverload
 /// for another object.
 pub fn member(
     alloc: Global,
@@ -45,8 +45,8 @@ pub fn member(
     part(alloc, device, object, &name)
 }
 
-/// `object[index]`: an element of a list, counted from 0, or else as `member` does. OutOfRange where
-/// a list has no such element. NoOverload where the object has no parts by such an index.
+/// `object[index]`: an element of a list, counted from 0, or else as `member` does. OutOfRange if
+/// a list has no such element. NoOverload if the object has no parts by such an index.
 pub fn index(
     alloc: Global,
     device: &DeviceEnv,
@@ -190,7 +190,7 @@ pub fn has(
 }
 
 /// `element in range`: an element of a list, a key of a map, a domain, or an id in a domain.
-/// NoOverload where there is no such row.
+/// NoOverload if there is no such row.
 pub(crate) fn is_in(
     alloc: Global,
     device: &DeviceEnv,

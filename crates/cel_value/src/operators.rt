@@ -13,7 +13,7 @@ use dra_values::{Duplicate, Seq, Text};
 use std::alloc::{AllocError, Global};
 use std::cmp::Ordering;
 
-/// `!operand` or `-operand`. NoOverload where the operator isn't for such a value; Overflow for the
+/// `!operand` or `-operand`. NoOverload if the operator isn't for such a value; Overflow for the
 /// negative of -2^63.
 pub fn unary(op: UnaryOp, operand: &Value) -> Result<Value, EvalError>
     ensures { result ≡ spec.unary_of op operand.now }
@@ -42,10 +42,10 @@ fn negated(operand: &Value) -> Result<Value, EvalError>
     }
 }
 
-/// An operation with two operands, but for `&&` and `||`, which are given as NoOverload here.
+/// An operation with two operands, except `&&` and `||`, for which NoOverload is returned here.
 ///
-/// NoOverload where the operator has no row for such values. Overflow where a whole number would be
-/// outside -2^63 to 2^63-1, also in `-2^63 % -1`; DivByZero where the divisor is zero.
+/// NoOverload if the operator has no row for such values. Overflow if a whole number would be
+/// outside -2^63 to 2^63-1, also in `-2^63 % -1`; DivByZero if the divisor is zero.
 pub fn binary(
     alloc: Global,
     device: &DeviceEnv,

@@ -48,7 +48,7 @@ impl Value {
     }
 }
 
-/// What a literal stands for. The one error is Memory.
+/// The value of a literal. The only error is Memory.
 pub fn constant(alloc: Global, literal: &Literal) -> Result<Value, EvalError>
     ensures { Gives result (Ok (constant_of (constant_view literal.now))) }
 {
@@ -71,7 +71,7 @@ pub fn truth(value: &Value) -> Result<bool, EvalError>
     }
 }
 
-/// A copy of the value as a key, or NoOverload where it can't be one.
+/// A copy of the value as a key, or NoOverload if it can't be one.
 pub(crate) fn key_from(alloc: Global, single: &Single) -> Result<Key, EvalError>
     ensures { Gives result (key_from single.now) }
 {

@@ -25,7 +25,7 @@ pub enum Key {
     Text(Text),
 }
 
-/// What an expression of the selector language gives. Lists and maps hold single values alone.
+/// The value of an expression of the selector language. Lists and maps hold only single values.
 #[derive(Debug, Drop)]
 pub enum Value {
     Single(Single),

@@ -29,7 +29,7 @@ impl Model for Version {
 }
 
 impl Version {
-    /// The version that `semver` read. Takes no memory.
+    /// The version that `semver` read. Allocates nothing.
     pub fn new(inner: semver::Version) -> Version
         ensures { result ≡ parts_of inner }
     {
@@ -43,7 +43,7 @@ impl Version {
         &self.inner
     }
 
-    /// An equal version. `AllocError` comes only where memory runs out.
+    /// An equal version. `AllocError` is returned only when out of memory.
     pub fn copy(&self, _alloc: Global) -> Result<Version, AllocError>
         ensures { IfOk result (λ v. v ≡ self.now) }
     {

@@ -32,7 +32,7 @@ pub true_all : (d : Device) (n : ℕ) (texts : List (List ℕ)) → AreTrue d te
 true_all d n [] h = refl
 true_all d n (x ∷ xs) h = rw (h.each 0 x refl) (true_all d (n + 1) xs (record { each = λ k text is. h.each (suc k) text is }))
 
--- a selector that isn't true, behind selectors that are
+-- a selector that isn't true, after selectors that are
 
 stops : (v : Verdict) (n : ℕ) (m : Match) → v ≢ verdict.Yes → match_next v n m ≡ match_next v n Yes
 stops verdict.Yes n m other = absurd (other refl)
@@ -58,7 +58,7 @@ no_stops d texts (place, h) = stops_from d 0 texts place verdict.No (λ e. absur
 pub fault_stops : (d : Device) (texts : List (List ℕ)) (place : ℕ) (cause : Cause) → SaysBehindTrue d texts place (verdict.Fault cause) → match_from d 0 texts ≡ Fault place cause
 fault_stops d texts place cause h = stops_from d 0 texts place (verdict.Fault cause) (λ e. absurd (cc)) h ∙ ap (λ k. Fault k cause) (omega arith)
 
--- where the answer isn't Yes, there is one
+-- if the result isn't Yes, there is one
 
 record Found (d : Device) (n : ℕ) (texts : List (List ℕ)) (m : Match) : Type 0 where
   pub place : ℕ

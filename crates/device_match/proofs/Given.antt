@@ -1,4 +1,4 @@
--- What is answered for a text by its tree, or where it has none.
+-- What is returned for a text by its tree, or if it has none.
 use Rattle.std.proofs.Common.{rules, refl, ◌≡◌, ◌≢◌, ℕ, List, Some}
 use Rattle.std.specs.Prelude.{Result, Ok, Err}
 use Rattle.object_fields.specs.declared.kind.Stage.TheVariants as stage

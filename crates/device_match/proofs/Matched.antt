@@ -1,4 +1,4 @@
--- What selectors say in front of others.
+-- What selectors evaluate to before others.
 use Rattle.std.proofs.Common.{◌≡◌, ◌+◌, ◌++◌, ◌∷◌, [], ℕ, List, length, refl, ap, ◌∙◌, arith}
 use Rattle.cel_value.specs.Device.{Device}
 use Rattle.device_match.specs.declared.matching.Match.{Match}
@@ -7,7 +7,7 @@ use Rattle.device_match.specs.declared.verdict.Verdict.{Verdict}
 use Rattle.device_match.specs.declared.verdict.Verdict.TheVariants as verdict
 use Rattle.device_match.specs.Match.{match_from, match_next, text_verdict}
 
--- what later ones say decides where these are all true
+-- what later ones evaluate to decides if these are all true
 abbrev pub match_then : Match → Match → Match
 match_then Yes later = later
 match_then No later = No

@@ -34,7 +34,7 @@ below_later : {K X : Type 0} (R : K → K → Ordering) (y : K) (xs rest : List 
 below_later R y [] rest k v a = a.0
 below_later R y (x ∷ xs) rest k v a = below_later R y xs rest k v a.1
 
--- an entry that stands after all others in an order goes to the end
+-- an entry that comes after all others in an order goes to the end
 insert_last : {K X : Type 0} (R : K → K → Ordering) → IsTotalOrder R → (xs rest : List (K × X)) (k : K) (v : X) → IsStrictlySortedBy R (keys_of (xs ++ (k, v) ∷ rest)) → insert_entry R xs k v ≡ xs ++ (k, v) ∷ []
 unfolding IsStrictlySortedBy
 insert_last R o [] rest k v s = refl
@@ -42,7 +42,7 @@ insert_last R o (x ∷ xs) rest k v s =
     let above : R k x.0 ≡ Greater = o.antisymm k x.0 ∙ ap ordering_reverse (below_later R x.0 xs rest k v s.0) in
     rw above (ap (λ es. x ∷ es) (insert_last R o xs rest k v s.1))
 
--- What was made of a front of the entries, and what is left of them.
+-- What was made of a prefix of the entries, and what is left of them.
 pub record IsMade (all : List (QualName × Attribute)) (made : List (QualName × Single)) (rest : List (QualName × Attribute)) : Type 0 where
   pub whole : map valued all ≡ made ++ map valued rest
   pub left : All IsValue (values_of rest)
@@ -91,7 +91,7 @@ all_pass P p f (x ∷ xs) h = both_true (p x) (list_all p xs) (f x (All-head P x
 short_name : (q : QualName) → IsFullName q → is_short_name q ≡ true
 short_name q h = both_true _ _ (le-leb (length q.domain) 63 h.domain) (le-leb (length q.id) 32 h.id)
 
--- what a slice says of its driver and of a device keeps the limits of a device
+-- the driver and a device of a slice keep the limits of a device
 pub within : (driver name : List ℕ) (p : PropertyTables) (attributes : List (QualName × Single)) (capacity : List (QualName × ℤ))
     → driver ≡ name → IsDriver name → AreProperties p → attributes ≡ map valued p.attributes → capacity ≡ p.capacity → list_all is_short_value (values_of attributes) ≡ true
     → IsWithinLimits (record { driver = driver; attributes = attributes; capacity = capacity })

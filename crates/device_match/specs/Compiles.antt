@@ -25,7 +25,7 @@ priced_if (Err e) = Err (Check e)
 abbrev pub compiled_of : Ast → Result Typed CompileError
 compiled_of t = priced_if (checked_of t)
 
--- No error of the check that is handed on is want of memory.
+-- No error of the check that is passed on is out of memory.
 abbrev pub NoMemory : CheckError → Type 0 → Type 0
 NoMemory check_error.Memory fact = ⊥
 NoMemory (check_error.NoSuchName span) fact = fact
@@ -33,7 +33,7 @@ NoMemory (check_error.NoOverload span) fact = fact
 NoMemory (check_error.NotBool k) fact = fact
 NoMemory (check_error.NotSupported span) fact = fact
 
--- the answer for a tree, unless memory ran out
+-- the result for a tree, unless out of memory
 abbrev pub Checks : Ast → Result Typed CompileError → Type 0
 Checks t (Ok c) = compiled_of t ≡ Ok c
 Checks t (Err (Parse e)) = ⊥
@@ -41,13 +41,13 @@ Checks t (Err (Check e)) = NoMemory e (compiled_of t ≡ Err (Check e))
 Checks t (Err (CostTooHigh n)) = compiled_of t ≡ Err (CostTooHigh n)
 Checks t (Err Memory) = Unit {0}
 
--- The text has a tree, which answers so as a selector.
+-- The text has a tree, for which this is returned as a selector.
 pub record Gives (text : List ℕ) (answer : Result Typed CompileError) : Type 0 where
   pub tree : Tree
   pub parsed : Parses text (Ok tree)
   pub checked : Checks (tree_view tree) answer
 
--- No error of the parser that is handed on is want of memory.
+-- No error of the parser that is passed on is out of memory.
 abbrev pub Refuses : List ℕ → ParseError → Type 0
 Refuses text (parse_error.Lex e) = Parses text (Err (parse_error.Lex e))
 Refuses text (parse_error.Unexpected span) = Parses text (Err (parse_error.Unexpected span))
@@ -56,7 +56,7 @@ Refuses text parse_error.Long = Parses text (Err parse_error.Long)
 Refuses text parse_error.Memory = ⊥
 Refuses text (parse_error.NotSupported span) = Parses text (Err (parse_error.NotSupported span))
 
--- The answer of compiling a text: the checked tree, or why there is none, unless memory ran out.
+-- What compiling a text returns: the checked tree, or why there is none, unless out of memory.
 abbrev pub Compiles : List ℕ → Result Typed CompileError → Type 0
 Compiles text (Ok c) = Gives text (Ok c)
 Compiles text (Err (Parse e)) = Refuses text e

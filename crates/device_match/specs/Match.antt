@@ -1,4 +1,4 @@
--- What selectors, one after another, say of a device.
+-- What selectors, one after another, evaluate to on a device.
 use Rattle.std.specs.Prelude.{◌≡◌, ℕ, ◌+◌, ◌<◌, List, [], ◌∷◌, slice_get, Some, Result, Ok, Err}
 use Rattle.object_fields.specs.declared.kind.Stage.{Stage}
 use Rattle.cel_tree.specs.Typed.{Typed}
@@ -10,8 +10,8 @@ use Rattle.device_match.specs.declared.verdict.Verdict.TheVariants as verdict
 use Rattle.device_match.specs.Matches.{match_of}
 use Rattle.device_match.specs.Selectors.{selector_of}
 
--- What a text says of the device. One that is no selector stands in no object that is applied; it
--- says No.
+-- What a text evaluates to on the device. A text that is no selector is in no object that is applied; it
+-- evaluates to No.
 abbrev pub verdict_by : Device → Result Typed Stage → Verdict
 verdict_by device (Ok c) = match_of device c.tree
 verdict_by device (Err stage) = verdict.No
@@ -24,7 +24,7 @@ match_next verdict.Yes n later = later
 match_next verdict.No n later = No
 match_next (verdict.Fault cause) n later = Fault n cause
 
--- The first selector that isn't true of the device decides; n stand before these.
+-- The first selector that isn't true of the device decides; n come before these.
 abbrev pub match_from : Device → ℕ → List (List ℕ) → Match
 match_from device n [] = Yes
 match_from device n (t ∷ ts) = match_next (text_verdict device t) n (match_from device (n + 1) ts)
@@ -33,7 +33,7 @@ match_from device n (t ∷ ts) = match_next (text_verdict device t) n (match_fro
 pub record AreTrue (device : Device) (texts : List (List ℕ)) : Type 0 where
   pub each : (n : ℕ) (text : List ℕ) → slice_get texts n ≡ Some text → text_verdict device text ≡ verdict.Yes
 
--- The selector at a place, behind selectors that are true of the device, says so of the device.
+-- The selector at an index, after selectors that are true of the device, evaluates so on the device.
 pub record SaysBehindTrue (device : Device) (texts : List (List ℕ)) (place : ℕ) (said : Verdict) : Type 0 where
   pub text : List ℕ
   pub at : slice_get texts place ≡ Some text

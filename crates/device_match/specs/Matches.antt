@@ -1,4 +1,4 @@
--- What a selector says of a device.
+-- What a selector evaluates to on a device.
 use Rattle.std.specs.Prelude.{[], true, false, Result, Ok, Err}
 use Rattle.cel_tree.specs.Ast.{Ast}
 use Rattle.cel_value.specs.declared.value.Single.TheVariants as single
@@ -18,6 +18,6 @@ verdict_of (Ok (value.Single (single.Bool false))) = No
 verdict_of (Ok v) = Fault NotBool
 verdict_of (Err e) = Fault (Error e)
 
--- what a selector, as a tree, says of the device
+-- what a selector, as a tree, evaluates to on the device
 abbrev pub match_of : Device → Ast → Verdict
 match_of device t = verdict_of (means device [] t)

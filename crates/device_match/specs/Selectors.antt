@@ -27,7 +27,7 @@ selector_in (Some t) = selector_by (checked_of t)
 unfoldable pub selector_of : List ℕ → Result Typed Stage
 selector_of text = selector_in (tree_of text)
 
--- The answer of compiling is the selector, or tells the stage that refuses it, unless memory ran out.
+-- What compiling returns is the selector, or the stage that refuses it, unless out of memory.
 abbrev pub Stands : Result Typed Stage → Result Typed CompileError → Type 0
 Stands r (Ok c) = r ≡ Ok c
 Stands r (Err (Parse e)) = r ≡ Err stage.Parse

@@ -55,16 +55,16 @@ pub enum CompileError {
     /// Its evaluation may take this many steps, more than 1,000,000.
     #[error("at most {0} steps, where 1000000 are allowed")]
     CostTooHigh(u64),
-    /// Memory ran out.
+    /// Out of memory.
     #[error("out of memory")]
     Memory,
 }
 
 impl Compiled {
     /// Compiles a selector of the language, this project's profile of the CEL language definition.
-    /// The errors come in this order: Parse, where the text is no expression; Check, where the
+    /// The errors come in this order: Parse, if the text is no expression; Check, if the
     /// expression has no type or one that a selector can't have; CostTooHigh, with the estimate,
-    /// where that is over 1,000,000.
+    /// if that is over 1,000,000.
     #[tactic(auto, using(crate::proofs::Given::given, crate::proofs::Given::stood, crate::proofs::Given::refused))]
     pub fn compile(alloc: Global, text: &str) -> Result<Compiled, CompileError>
         ensures answer { Compiles text.now result }
@@ -77,10 +77,10 @@ impl Compiled {
         }
     }
 
-    /// What the selector says of a device: Yes exactly where it is true, No exactly where it is false,
-    /// and else Fault with the error or with NotBool. The one error is want of memory, and no Fault
-    /// has it. By the table of steps the selector takes at most 1,000,000 on the device; that is said
-    /// of the selector and the device, since the call hands out no count of its own.
+    /// What the selector evaluates to on a device: Yes if and only if it is true, No if and only if it is
+    /// false, and else Fault with the error or with NotBool. The only error is out of memory, and no Fault
+    /// has it. By the table of steps the selector takes at most 1,000,000 on the device; that is stated
+    /// of the selector and the device, since the call returns no count of its own.
     pub fn matches(&self, alloc: Global, device: &DeviceEnv) -> Result<Verdict, AllocError>
         ensures verdict { IfOk result (λ v. v ≡ match_of device.now self.now.tree) }
         ensures no_memory { IfOk result (λ v. v ≢ Fault (Error Memory)) }

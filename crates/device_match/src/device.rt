@@ -15,8 +15,8 @@ use dra_values::{Table, Text};
 use object_fields::QualName;
 use std::alloc::{AllocError, Global};
 
-/// A device of a slice of that driver, as selectors see it. `AllocError` comes only where memory
-/// runs out: what a slice says of its driver and its devices keeps all limits of such a device.
+/// A device of a slice of that driver, as selectors see it. `AllocError` is returned only when out of
+/// memory: the driver and the devices of a slice keep all limits of such a device.
 pub fn device_env(
     alloc: Global,
     driver: &DriverName,

@@ -11,19 +11,19 @@ use crate::{Cause, DeviceSelector, Verdict};
 use cel_value::DeviceEnv;
 use std::alloc::{AllocError, Global};
 
-/// What selectors, one after another, say of a device.
+/// What selectors, one after another, evaluate to on a device.
 #[derive(Clone, Copy, Debug, PartialEq, Eq, Drop)]
 pub enum Match {
     /// Each is true of the device.
     Yes,
     /// The first that isn't true is false.
     No,
-    /// The first that isn't true is neither true nor false; so many stand before it.
+    /// The first that isn't true is neither true nor false; `place` is its index.
     Fault { place: usize, cause: Cause },
 }
 
-/// What a class's selectors and then a request's say of a device: the first that isn't true decides.
-/// The one error is want of memory, and no Fault has it.
+/// What a class's selectors and then a request's evaluate to on a device: the first that isn't true decides.
+/// The only error is out of memory, and no Fault has it.
 #[tactic(auto, using(crate::proofs::Matched::match_append))]
 pub fn match_both(
     alloc: Global,
@@ -41,7 +41,7 @@ pub fn match_both(
     }
 }
 
-/// The same of one list, before which so many stand.
+/// The same of one list, with `before` selectors ahead of it.
 fn match_list(
     alloc: Global,
     selectors: &[DeviceSelector],
@@ -52,7 +52,7 @@ fn match_list(
     ensures no_memory { IfOk result (λ m. (place : ℕ) → m ≢ Fault place (Error Memory)) }
 {
     for i in 0..selectors.len() {
-        // Lists of more than 2^64 selectors together fit no memory.
+        // Lists of more than 2^64 selectors together don't fit in memory.
         let place = before.checked_add(i).ok_or(AllocError)?;
         match selectors[i].matches(alloc, device)? {
             Verdict::Yes => {}
@@ -63,8 +63,8 @@ fn match_list(
     Ok(Match::Yes)
 }
 
-/// The first selector that isn't true of a device decides: the answer is Yes where all are true, No
-/// where the first that isn't true is false, and else Fault, at its place and with its cause.
+/// The first selector that isn't true of a device decides: the result is Yes if all are true, No
+/// if the first that isn't true is false, and else Fault, with its index and its cause.
 pub fn first_that_is_not_true_decides()
     ensures yes { (d : Device) (texts : List (List ℕ)) → match_from d 0 texts ≡ Yes ↔ AreTrue d texts }
     ensures no { (d : Device) (texts : List (List ℕ)) →

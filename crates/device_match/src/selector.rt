@@ -44,8 +44,8 @@ impl DeviceSelector {
         }
     }
 
-    /// What the selector says of a device: Yes exactly where it is true, No exactly where it is
-    /// false, and else Fault. The one error is want of memory, and no Fault has it.
+    /// What the selector evaluates to on a device: Yes if and only if it is true, No if and only if it is
+    /// false, and else Fault. The only error is out of memory, and no Fault has it.
     pub fn matches(&self, alloc: Global, device: &DeviceEnv) -> Result<Verdict, AllocError>
         ensures verdict { IfOk result (λ v. v ≡ text_verdict device.now self.now) }
         ensures no_memory { IfOk result (λ v. v ≢ Fault (Error Memory)) }

@@ -4,7 +4,7 @@ ghost use Rattle.device_match.specs.Matches as spec;
 use cel_value::{EvalError, Single, Value};
 use thiserror::Error;
 
-/// What a selector says of a device.
+/// What a selector evaluates to on a device.
 #[derive(Clone, Copy, Debug, PartialEq, Eq, Drop)]
 pub enum Verdict {
     /// It is true of the device.

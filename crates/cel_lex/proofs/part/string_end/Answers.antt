@@ -7,7 +7,7 @@ use Rattle.cel_lex.specs.declared.part.Part.{Part}
 use Rattle.cel_lex.specs.declared.part.Part.TheVariants.{Close, Plain, Escaped, Wrong, Cut}
 use Rattle.cel_lex.proofs.part.string_end.Goals as goal
 
--- the slice from a place on is what follows it
+-- the slice from an offset on is what follows it
 here : (q : Quotes) (src : List ℕ) (at : ℕ) (p : Part) → p ≡ part_of q (take (length src - at) (drop at src)) → part_of q (drop at src) ≡ p
 here q src at p h =
     sym (ap (part_of q) (slice_rest src at)) ∙ sym h
