@@ -137,7 +137,7 @@ pub fn binary_bounds(span: Span, op: BinaryOp, left: Bounds, right: Bounds) -> B
     Bounds::new(kind, weight, number, all)
 }
 
-/// What an operation takes for the weights of its operands.
+/// The steps of an operation for the weights of its operands.
 fn weighing(op: BinaryOp, weights: u64) -> u64
     ensures { result ≡ weighing op weights }
 {

@@ -12,7 +12,7 @@ pub struct Steps {
     pub count: u64,
 }
 
-/// What an operation takes for the weights of its operands. Sums stop at the greatest number of 64
+/// The steps of an operation for the weights of its operands. Sums stop at the greatest number of 64
 /// bits.
 pub fn weighed(op: BinaryOp, left: &Value, right: &Value) -> u64
     ensures { result ≡ min (weighing op (weight_of left.now + weight_of right.now)) most }

@@ -54,7 +54,7 @@ abbrev pub is_int : TokenKind → Bool
 is_int kind.Int = true
 is_int k = false
 
--- a minus before a number of this kind: it belongs to a whole number
+-- a minus before a number of this form: it belongs to a whole number
 abbrev pub signed_form : Form → Form
 signed_form f = if is_int f.kind then record { kind = kind.Int; len = 1 + f.len } else record { kind = kind.Minus; len = 1 }
 

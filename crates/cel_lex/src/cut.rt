@@ -119,7 +119,7 @@ fn fits(text: &[u8], form: Form) -> bool
     }
 }
 
-/// A number of this form behind a minus: the minus belongs to a whole number alone.
+/// A number of this form after a minus: the minus belongs to a whole number alone.
 fn signed_form(form: Form) -> Form
     requires { form.len + 1 < 2 ^ 64 }
     ensures { result ≡ signed_form form }

@@ -23,7 +23,7 @@ pub enum TokenKind {
     Int,
     /// A number with a fraction or an exponent.
     Double,
-    /// A whole number with a `u` behind it.
+    /// A whole number with a `u` after it.
     Uint,
     /// A string in one of four kinds of quotes, raw or not.
     Str,

@@ -50,13 +50,13 @@ by_kind d g w n (of_map p) h = h refl
 by_kind d g w n (of_domains {f = f}) h = record { weight = omega arith; number = domains_number d f g }
 by_kind d g w n (of_entries {f = f} {domain = domain}) h = record { weight = omega arith; number = ids_number d f domain g }
 
--- what a tree's type and bounds say of its values
+-- what a tree's type and bounds imply about its values
 pub by_bounds : (d : Device) → Limited d → (j k : CelType) (w n s : ℕ) (r : Result Value EvalError) → j ≡ k → IfOk r (HasKind k) → IfOk r (λ v. is_fixed k ≡ false → AtMost d w n v) →
     IfOk r (AtMost d (bounds j w n s).weight (bounds j w n s).number)
 by_bounds d g j k w n s (Ok v) e p h = subst (λ (i : CelType). AtMost d (weight_by i w) (number_by i n) v) (sym e) (by_kind d g w n p h)
 by_bounds d g j k w n s (Err f) e p h = tt
 
--- nothing is left to say of values of one weight
+-- nothing is left to state about values of one weight
 pub fixed : (d : Device) (k : CelType) (w n : ℕ) (r : Result Value EvalError) → is_fixed k ≡ true → IfOk r (λ v. is_fixed k ≡ false → AtMost d w n v)
 fixed d k w n (Ok v) a = λ b. absurd (cc)
 fixed d k w n (Err e) a = tt

@@ -1,4 +1,4 @@
--- Out of memory stops the whole evaluation.
+-- Running out of memory stops the whole evaluation.
 use Rattle.std.specs.Prelude.{Bool, true, false, Result, Err}
 use Rattle.cel_value.specs.declared.error.EvalError.{EvalError}
 use Rattle.cel_value.specs.declared.error.EvalError.TheVariants.{Memory}

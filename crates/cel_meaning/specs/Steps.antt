@@ -31,7 +31,7 @@ unless_decided c side n = if decides c side then 0 else n
 abbrev pub weights : List Value → ℕ
 weights xs = sum_by weight_of xs
 
--- what an operation takes for the weights of both operands, if both have values
+-- the steps of an operation for the weights of both operands, if both have values
 abbrev pub weighed : BinaryOp → Result Value EvalError → Result Value EvalError → ℕ
 weighed o left right = behind left (λ x. behind right (λ y. weighing o (weight_of x + weight_of y)))
 

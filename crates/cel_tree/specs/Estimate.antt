@@ -104,7 +104,7 @@ name_bounds (Some value) = record value { steps = 1 }
 unfoldable pub unary_bounds : Span → UnaryOp → Bounds → Bounds
 unary_bounds span o x = bounds (typed (row span (unary_type o x.kind))) 1 0 (1 + x.steps)
 
--- what an operation takes for the weights of its operands
+-- the steps of an operation for the weights of its operands
 abbrev pub weighing : BinaryOp → ℕ → ℕ
 weighing op.Or weights = 0
 weighing op.And weights = 0

@@ -121,7 +121,7 @@ impl Facet {
     }
 }
 
-/// The name that the CEL language definition gives the type.
+/// The name of the type in the CEL language definition.
 impl fmt::Display for Scalar {
     ghost output = { λ s. Some (scalar_word s) };
 

@@ -1,5 +1,5 @@
 //! Selectors of devices: texts that were compiled, with a bound on the steps of their evaluation
-//! (CELDeviceSelector of the Kubernetes API reference), and what they say of a device.
+//! (CELDeviceSelector of the Kubernetes API reference), and what they evaluate to on a device.
 #![tactic(auto)]
 
 mod compiled;
