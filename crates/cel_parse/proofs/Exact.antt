@@ -1,4 +1,4 @@
--- What is read is exact: the tree, the span of the first token where no expression goes on, and that there is one tree.
+-- What is read is exact: the tree, the first span where no expression goes on, and that there is one tree.
 use Rattle.std.proofs.Common.{◌≡◌, ℕ, ◌+◌, ◌≤◌, ◌<◌, nat_le, List, [], ◌∷◌, ◌++◌, Bool, true, false, Option, Some, None, refl, sym, ap, ◌∙◌, subst, arith, if◌then◌else◌, append_assoc, append-nil}
 use Rattle.std.proofs.lemmas.Bool.Decides.{nat_tests}
 use Rattle.cel_lex.specs.Tokens.{Lexeme}
