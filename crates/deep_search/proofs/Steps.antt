@@ -30,7 +30,7 @@ progress-stopped b o [] ys e = absurd (cc)
 progress-stopped zero o (x ∷ xs) ys e = e
 progress-stopped (suc b) o (x ∷ xs) ys e = stopped_ended (ends x) x o (progress b xs) (progress b (xs ++ ys)) e (progress-stopped b o xs ys)
 
--- the same of an status that isn't Searching
+-- the same for a status that isn't Searching
 pub progress-report : (b b' : ℕ) (r : Status) (c l : List ℕ) (xs ys : List Item) → r ≢ status.Searching → progress b xs ≡ report r b' c l → progress b (xs ++ ys) ≡ report r b' c l
 progress-report b b' status.Searching c l xs ys n e = absurd (n refl)
 progress-report b b' status.Full c l xs ys n e = progress-stopped b (Ended (record { choice = c; positions = l; mark = Full })) xs ys e
@@ -76,14 +76,14 @@ outcome_is (suc b) (x ∷ xs) =
     ap (outcome_by (cond (ends x) (Some x) (find ends (take b xs)))) e
     ∙ outcome_step (ends x) x (find ends (take b xs)) (leb (length xs) b) (progress b xs) (outcome_is b xs)
 
--- what the search's answer says of the outcome
+-- what the search's result states about the outcome
 pub outcome-over : (b b' : ℕ) (xs : List Item) → progress b xs ≡ Left b' → outcome b xs ≡ Unsat
 outcome-over b b' xs e = outcome_is b xs ∙ ap outcome_of e
 
 pub outcome-stopped : (b : ℕ) (o : Outcome) (xs : List Item) → progress b xs ≡ Stopped o → outcome b xs ≡ o
 outcome-stopped b o xs e = outcome_is b xs ∙ ap outcome_of e
 
--- where nothing is to come, a status says the same
+-- where nothing is to come, a status states the same
 pub onward-over : (r : Status) (b : ℕ) (c l : List ℕ) → onward r b c l [] ≡ report r b c l
 unfolding progress
 onward-over status.Searching b c l = refl

@@ -55,7 +55,7 @@ first-step ks c d i h n d_is more e first =
 pub first-whole : (ks c : List ℕ) (i : ℕ) → length ks ≤ i → ((e : List ℕ) → IsFirst (drop i ks) e → IsFirst ks (c ++ e)) → IsFirst ks c
 first-whole ks c i h more = subst (IsFirst ks) (append-nil c) (more [] (subst (λ (t : List ℕ). IsFirst t []) (sym (drop_all i ks h)) first_nil))
 
--- the last place at which a choice goes up
+-- the last index at which a choice goes up
 pub length-of : (ks c : List ℕ) → IsChoice ks c → length c ≡ length ks
 length-of [] [] h = refl
 length-of [] (x ∷ c) h = absurd h
@@ -187,7 +187,7 @@ from-next p ks c n d l b b' r start options next is s e =
     s ∙ ap (λ (t : List (List ℕ)). progress b (flat_map (items p) t)) f.next
     ∙ progress-left b b' (items p c) (flat_map (items p) (choices_from p.options n)) (e ∙ ap (λ (t : Status). report t b' d l) is)
 
--- what the search answers
+-- what the search returns
 walk_is : (p : Problem) (ks c : List ℕ) → ks ≡ p.options → IsFirst ks c → walk p ≡ walk_from p c
 unfolding walk walk_from
 walk_is p ks c options f =
@@ -209,7 +209,7 @@ pub search-stopped : (p : Problem) (ks c d l : List ℕ) (b b' : ℕ) (r s : Sta
 search-stopped p ks c d l b b' r s o options first is told e =
     ap (outcome b) (walk_is p ks c options first) ∙ outcome-stopped b o (walk_from p c) (e ∙ ap (λ (t : Status). report t b' d l) is ∙ told)
 
--- what is said of a choice's items at the board's own state (q, d)
+-- what holds for a choice's items at the board's own state (q, d)
 pub same-items : (p q : Problem) (c d : List ℕ) (b : ℕ) (end : Progress) → q ≡ p → d ≡ c → progress b (items q d) ≡ end → progress b (items p c) ≡ end
 same-items p q c d b end same_p same_c e =
     subst (λ (t : Problem). progress b (items t c) ≡ end) same_p (subst (λ (t : List ℕ). progress b (items q t) ≡ end) same_c e)

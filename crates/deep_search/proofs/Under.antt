@@ -14,7 +14,7 @@ use Rattle.deep_search.specs.declared.answer.Status.TheVariants as status
 use Rattle.deep_search.specs.declared.answer.Window.{Window}
 use Rattle.deep_search.proofs.Steps.{progress-none, progress-part, progress-last, onward-stopped}
 
--- a good list's front is good
+-- a good list's prefix is good
 abbrev pub IsClosed : Problem → Type 0
 IsClosed p = (c l : List ℕ) (x : ℕ) → p.good c (l ++ x ∷ []) ≡ true → p.good c l ≡ true
 

@@ -29,7 +29,7 @@ pub record IsNext (ks c d : List ℕ) : Type 0 where
   pub choice : IsChoice ks d
   pub next : choices_from ks c ≡ c ∷ choices_from ks d
 
--- at a place there is a further option, and none behind it
+-- at an index there is a further option, and none behind it
 pub record Turns (ks c : List ℕ) (place : ℕ) : Type 0 where
   pub known : place < length ks
   pub further : get_or c place 0 + 1 < get_or ks place 0

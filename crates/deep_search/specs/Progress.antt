@@ -17,21 +17,21 @@ progress b [] = Left b
 progress zero (x ∷ xs) = Stopped Budget
 progress (suc b) (x ∷ xs) = if ends x then Stopped (Ended x) else progress b xs
 
--- what a status says where items are over, the board being at a choice and a list of positions
+-- what a status states where items are over, the board being at a choice and a list of positions
 abbrev pub report : Status → ℕ → List ℕ → List ℕ → Progress
 report status.Searching b c l = Left b
 report status.Full b c l = Stopped (Ended (record { choice = c; positions = l; mark = Full }))
 report status.Fault b c l = Stopped (Ended (record { choice = c; positions = []; mark = Fault }))
 report status.Spent b c l = Stopped Budget
 
--- what it says where these items are still to come
+-- what it states where these items are still to come
 abbrev pub onward : Status → ℕ → List ℕ → List ℕ → List Item → Progress
 onward status.Searching b c l rest = progress b rest
 onward status.Full b c l rest = Stopped (Ended (record { choice = c; positions = l; mark = Full }))
 onward status.Fault b c l rest = Stopped (Ended (record { choice = c; positions = []; mark = Fault }))
 onward status.Spent b c l rest = Stopped Budget
 
--- what an answer says, the board being at a choice and a list of positions
+-- what an answer states, the board being at a choice and a list of positions
 abbrev pub told : Answer → List ℕ → List ℕ → Outcome
 told answer.Full c l = Ended (record { choice = c; positions = l; mark = Full })
 told answer.Fault c l = Ended (record { choice = c; positions = []; mark = Fault })

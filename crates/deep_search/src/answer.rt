@@ -1,24 +1,24 @@
 /// How a search ended.
 #[derive(Clone, Copy, Debug, PartialEq, Eq)]
 pub enum Answer {
-    /// The board stands at the first full item, which is the least allocation.
+    /// The board is at the first `Full` item, which is the least allocation.
     Full,
-    /// The board stands at the first choice that meets a fault.
+    /// The board is at the first choice whose evaluation fails (a `Fault` item).
     Fault,
-    /// There is no allocation and no fault.
+    /// There is no allocation and no `Fault` item.
     Unsat,
-    /// The walk has more items than the budget, and those within it are neither full nor a fault.
+    /// The walk has more items than the budget, and those within it are neither `Full` nor `Fault`.
     Budget,
 }
 
-/// How a search stands.
+/// The status of a search.
 #[derive(Clone, Copy, Debug, PartialEq, Eq)]
 pub enum Status {
-    /// No item so far was full or a fault.
+    /// No item so far was `Full` or `Fault`.
     Searching,
-    /// The board stands at a full item.
+    /// The board is at a `Full` item.
     Full,
-    /// The board stands at a choice that meets a fault.
+    /// The board is at a choice whose evaluation fails.
     Fault,
     /// There is an item for which nothing is left of the budget.
     Spent,

@@ -4,12 +4,12 @@ ghost use Rattle.deep_search.specs.Parts.{shape_of};
 
 use std::alloc::{AllocError, Global};
 
-/// What a choice asks for.
+/// What a choice needs.
 #[derive(Clone, Copy, Debug, PartialEq, Eq)]
 pub enum Begun {
-    /// A request of the choice meets a fault.
+    /// The evaluation of a request of the choice fails.
     Faulty,
-    /// The choice can't be met, whatever is placed.
+    /// The choice can't be satisfied, whatever is placed.
     Hopeless,
     /// So many slots are to be filled.
     Open(usize),
@@ -18,7 +18,7 @@ pub enum Begun {
 /// A choice, and the positions that are placed in its first slots.
 ///
 /// A search moves it by `begin`, `try_push` and `pop`. None of these changes its setting, from which
-/// the problem is made. After an error, which means out of memory, nothing is known of the board.
+/// the problem is made. After an error, which means out of memory, nothing is known about the board.
 pub trait Board {
     /// What the board is about, which no move changes.
     ghost Setting: { Type 0 };

@@ -36,7 +36,7 @@ fn turning_place(options: &[usize], choice: &[usize]) -> Option<usize>
     None
 }
 
-/// Puts the first option of each request behind a choice for the first ones.
+/// Appends the first option of each remaining request to a choice for the first ones.
 fn fill_up(count: usize, choice: &mut Vec<usize>) -> Result<(), AllocError>
     ensures { OnOk result (choice.new.items ≡ choice.old.items ++ zeros (count - vec_len choice.old)) }
 {

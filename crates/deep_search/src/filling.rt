@@ -36,7 +36,7 @@ fn place_next<B: Board>(
     Ok(None)
 }
 
-/// Counts the item at which the board stands, and opens the window of the next slot if there is one.
+/// Counts the item at which the board is, and opens the window of the next slot if there is one.
 fn enter<B: Board>(
     board: &B,
     slots: usize,
@@ -109,8 +109,8 @@ fn turn<B: Board>(
 
 /// Goes through the items of a choice that was taken up, depth first.
 ///
-/// The windows of the slots that are filled, and of the next one, stand in a list, the first slot's
-/// in front.
+/// The windows of the slots that are filled, and of the next one, are in a list, the first slot's
+/// first.
 pub fn fill<B: Board>(
     alloc: Global,
     board: &mut B,

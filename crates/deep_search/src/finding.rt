@@ -72,14 +72,15 @@ fn visit_from<B: Board>(
     }
 }
 
-/// Searches the walk of a board's problem for its first full item or fault, within a budget of so
-/// many items, and leaves the board at it.
+/// Searches the walk of a board's problem for its first `Full` or `Fault` item, within a budget of
+/// so many items, and leaves the board at it.
 ///
-/// The options are those of the problem: from how many each request has to choose. The answer is
+/// The options are those of the problem: from how many each request has to choose. The result is
 /// the outcome of the walk, exactly: `Full` or `Fault` if such an item is among the first `budget`,
-/// and the board's choice and positions are then those of the first one (a fault has no positions).
-/// Where it is `Unsat` or `Budget`, of the board its setting alone is known. Each item costs a move
-/// of the board and no memory but that of the deepest list so far. The one error is out of memory.
+/// and the board's choice and positions are then those of the first one (a `Fault` item
+/// has no positions). If it is `Unsat` or `Budget`, only the setting of the board is known. Each item
+/// costs a move of the board and no memory but that of the deepest list so far. The only error is out
+/// of memory.
 pub fn search<B: Board>(
     alloc: Global,
     board: &mut B,

@@ -1,4 +1,4 @@
--- What a read gives stays an image, and an image of what is exact is just that.
+-- What a read returns stays an image, and an image of what is exact is just that.
 use Rattle.std.proofs.Common.{◌≡◌, inl, inr, ℕ, suc, zero, ◌+◌, ◌-◌, ◌≤◌, min, Bool, true, false, IsTrue, List, [], ◌∷◌, ◌++◌, length, map, take, drop, replicate, Option, Some, None, refl, sym, ◌∙◌, ap, subst, arith, append_assoc, append-nil, length-take, if◌then◌else◌}
 use Rattle.std.proofs.lemmas.Bool.{cases_lt}
 use Rattle.std.proofs.lemmas.List.{drop_all, length-map, length-replicate}
@@ -46,7 +46,7 @@ agrees_more (s ∷ ss) [] b p = absurd p
 agrees_more (None ∷ ss) (x ∷ a) b p = agrees_more ss a b p
 agrees_more (Some y ∷ ss) (x ∷ a) b p = (p.0, agrees_more ss a b p.1)
 
--- what is sure of the places once n of them from this one on may hold any byte
+-- what is sure of the bytes once n of them from this one on may hold any value
 abbrev gapped : ℕ → ℕ → List (Option ℕ) → List (Option ℕ)
 gapped at n s = take at s ++ replicate (min (at + n) (length s) - min at (length s)) None ++ drop (at + n) s
 

@@ -1,14 +1,14 @@
 -- What a disk holds, what a crash may leave of it, and what its calls do to both.
 use Rattle.std.specs.Prelude.{◌≡◌, ◌⊎◌, ℕ, ◌+◌, ◌-◌, min, Bool, true, false, List, [], ◌∷◌, ◌++◌, length, take, drop, map, replicate, Option, Some, None, if◌then◌else◌}
 
--- What is sure after a crash: at each place up to the old end the byte that a crash can't change, or
--- None where any byte may stand. The file may be longer, with any bytes there, or it may not.
+-- What is sure after a crash: at each offset up to the old end the byte that a crash can't change, or
+-- None where the byte may be any. The file may be longer, with any bytes there, or it may not.
 pub record Sure : Type 0 where
   pub places : List (Option ℕ)
   pub longer : Bool
 
 pub record Content : Type 0 where
-  -- what a read gives
+  -- what a read returns
   pub bytes : List ℕ
   -- what is sure now
   pub sure : Sure
@@ -17,7 +17,7 @@ pub record Content : Type 0 where
   -- whether a sync that returns Ok keeps what was written
   pub honest : Bool
 
--- the bytes are no fewer than the places, and at each place that is sure stands its byte
+-- the bytes are no fewer than the places, and each place that is sure holds its byte
 abbrev pub Agrees : List (Option ℕ) → List ℕ → Type 0
 Agrees [] image = Unit {0}
 Agrees (place ∷ places) [] = ⊥
@@ -33,7 +33,7 @@ pub record IsImage (sure : Sure) (image : List ℕ) : Type 0 where
 abbrev pub exactly : List ℕ → Sure
 exactly bytes = record { places = map Some bytes; longer = false }
 
--- any byte may stand in the n places from this one on, as far as there are places, and past them all
+-- any byte may be in the n places from this one on, as far as there are places, and past them all
 abbrev pub blurred : ℕ → ℕ → Sure → Sure
 blurred at n sure = record {
   places = take at sure.places ++ replicate (min (at + n) (length sure.places) - min at (length sure.places)) None ++ drop (at + n) sure.places;
@@ -64,11 +64,11 @@ shortened len c = moved (take len c.bytes) (shorter len c.sure) c
 abbrev pub synced : Content → Content
 synced c = moved c.bytes (if c.honest then exactly c.bytes else c.sure) c
 
--- after a fault in a disk that held this: some of the call was done, and a read gives an image
+-- after an error in a disk that held this: some of the call was done, and a read returns an image
 abbrev pub PartlyMoved : (Sure → Sure) → Option Content → Option Content → Type 0
 PartlyMoved change None new = ⊥
 PartlyMoved change (Some old) new = (bytes : List ℕ) × (new ≡ Some (moved bytes (change old.sure) old)) × IsImage (change old.sure) bytes
 
--- after a fault: nothing was done, or some of it
+-- after an error: nothing was done, or some of it
 abbrev pub Partly : (Sure → Sure) → Option Content → Option Content → Type 0
 Partly change old new = (new ≡ old) ⊎ PartlyMoved change old new

@@ -16,12 +16,12 @@ pub record Throughout (P : List ℕ → Type 0) (old new : Content) : Type 0 whe
   pub now : Leaves P new.sure
   pub honest : new.honest ≡ old.honest
 
--- P holds of the content, where the disk tells one and is honest
+-- P holds of the content, if the disk exposes one and is honest
 abbrev pub Where : (Content → Type 0) → Option Content → Type 0
 Where P None = Unit {0}
 Where P (Some c) = IsTrue c.honest → P c
 
--- the same of the content before and after a call, which tells one after it just where it did before
+-- the same of the content before and after a call, which is exposed after it if and only if it was before
 abbrev pub AtEachMoment : (List ℕ → Type 0) → Option Content → Option Content → Type 0
 AtEachMoment P None None = Unit {0}
 AtEachMoment P (Some old) (Some new) = IsTrue old.honest → Throughout P old new

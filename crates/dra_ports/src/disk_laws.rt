@@ -1,7 +1,7 @@
 ghost use Rattle.std.specs.Prelude.{◌≡◌, ◌≤◌, ℕ, IsTrue, List, length};
 ghost use Rattle.dra_ports.specs.DiskContent.{Content, IsImage, exactly, shortened, synced, written};
 
-/// States that what a read gives stays among the byte lists that a crash may leave, whichever call
+/// States that what a read returns stays among the byte lists that a crash may leave, whichever call
 /// succeeds, and that it is the only one after a sync of an honest disk.
 pub fn reads_are_images()
     ensures write { (c : Content) (at : ℕ) (from : List ℕ) → at ≤ length c.bytes → IsImage c.sure c.bytes → IsImage (written at from c).sure (written at from c).bytes }

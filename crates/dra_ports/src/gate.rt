@@ -1,4 +1,4 @@
-/// A moment in the run of a job, at which its gate is told.
+/// A moment in the run of a job, at which its gate is called.
 #[derive(Clone, Copy, Debug, PartialEq, Eq, Drop)]
 pub enum Point {
     /// A search ended, and what it found isn't recorded yet.
@@ -11,7 +11,7 @@ pub enum Point {
 
 /// What jobs call on their way, so that a test can hold one of them up while another goes on.
 ///
-/// A gate may wait, but it changes nothing that a job sees. So no clause speaks of it, and what
+/// A gate may wait, but it changes nothing that a job sees. So no clause mentions it, and what
 /// holds of a job holds under any gate.
 pub trait Gate {
     /// The job has come to this point.

@@ -3,11 +3,11 @@ use std::sync::atomic::{AtomicBool, Ordering};
 use std::thread;
 
 /// A gate for tests, which shows that two jobs run beside each other: each of them waits until the
-/// other has come to some point, so neither passes where they run one after another.
+/// other has come to some point, so neither passes if they run one after another.
 ///
 /// The job `until` waits when it is first at [`Point::Searched`], until the job `held` has come to
 /// `point`. The job `held` waits there until the job `until` has ended. Each wait gives up after
-/// some turns of its loop, and then the gate says so. Every other job goes through.
+/// some turns of its loop, and then the gate reports it. Every other job goes through.
 #[derive(Drop)]
 pub struct HoldGate {
     held: u64,

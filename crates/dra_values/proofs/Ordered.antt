@@ -13,7 +13,7 @@ below_later : {K X : Type 0} (R : K → K → Ordering) (y : K) (xs rest : List 
 below_later R y [] rest k v a = a.0
 below_later R y (x ∷ xs) rest k v a = below_later R y xs rest k v a.1
 
--- an entry that stands after all others in an order goes to the end
+-- an entry that is after all others in an order goes to the end
 insert_last : {K X : Type 0} (R : K → K → Ordering) → IsTotalOrder R → (xs rest : List (K × X)) (k : K) (v : X) → IsStrictlySortedBy R (keys_of (xs ++ (k, v) ∷ rest)) → insert_entry R xs k v ≡ xs ++ (k, v) ∷ []
 unfolding IsStrictlySortedBy
 insert_last R o [] rest k v s = refl
@@ -21,7 +21,7 @@ insert_last R o (x ∷ xs) rest k v s =
     let above : R k x.0 ≡ Greater = o.antisymm k x.0 ∙ ap ordering_reverse (below_later R x.0 xs rest k v s.0) in
     rw above (ap (λ es. x ∷ es) (insert_last R o xs rest k v s.1))
 
--- a front of the entries, with a copy of the next one put in, is a front of them
+-- a prefix of the entries, with a copy of the next one inserted, is a prefix of them
 pub front_grows : {K X : Type 0} (R : K → K → Ordering) → IsTotalOrder R → (all front front2 rest rest2 : List (K × X)) (k k2 : K) (v v2 : X) → all ≡ front ++ rest → rest ≡ (k, v) ∷ rest2 → IsStrictlySortedBy R (keys_of all) → k2 ≡ k → v2 ≡ v → front2 ≡ insert_entry R front k2 v2 → all ≡ front2 ++ rest2
 front_grows R o all front front2 rest rest2 k k2 v v2 e f s kc vc i =
     let whole : all ≡ front ++ (k, v) ∷ rest2 = e ∙ ap (λ l. front ++ l) f in

@@ -26,7 +26,7 @@ displays_then took f g r (Some x) t = λ plain ok. t plain
 pub then_nothing : {W : Type 0} (took : W → List ℕ → W → Type 0) (f : Formatter W) → Then took f (Some []) f
 then_nothing took f = λ plain. record { wrote = writes_in_calls_nil _ _; plain = plain }
 
--- what stands before the next item
+-- what precedes the next item
 abbrev pub lead_of : Bool → List ℕ
 lead_of first = cond first [] comma_space
 
@@ -35,7 +35,7 @@ then_led took f g h lead None p a b = tt
 then_led took f g h lead (Some x) None a b = tt
 then_led took f g h lead (Some x) (Some y) a b = λ plain. let u = a plain in has_written_of_eq took f ((lead ++ x) ++ y) (lead ++ (x ++ y)) h (append_assoc lead x y) (has_written_append took f (lead ++ x) g y h u (b u.plain))
 
--- an item after what stands before it, and then the rest
+-- an item after what precedes it, and then the rest
 pub then_items : {W X : Type 0} (took : W → List ℕ → W → Type 0) (f g h : Formatter W) (text : X → Option (List ℕ)) (lead : List ℕ) (items rest : List X) (x : X)
     → items ≡ x ∷ rest → Then took f (option_append (Some lead) (text x)) g → Then took g (debug_items text comma_space rest) h → Then took f (debug_items text lead items) h
 then_items {W} {X} took f g h text lead items rest x e a b =

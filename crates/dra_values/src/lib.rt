@@ -1,5 +1,5 @@
 //! Values that contracts see whole: texts as their bytes, lists as their items, tables as their
-//! entries. Everything above them is plain structs and enums, and clauses compare these by `≡`.
+//! entries. Everything above them is ordinary structs and enums, and clauses compare these by `≡`.
 #![tactic(auto)]
 
 mod duplicate;

@@ -10,9 +10,9 @@ use std::sync::Arc;
 
 /// A value with one owner or more, also in several threads, that contracts see as the value itself.
 ///
-/// `share` makes one more owner without a copy of the value. `change` gives the value to be
-/// changed: in place where it has no other owner, and as a copy of its own else, so that the other
-/// owners keep the value as it was.
+/// `share` makes one more owner without a copy of the value. `change` returns the value to be
+/// changed: in place if it has no other owner, and else as a copy of its own, so that the other
+/// owners keep the old value.
 ///
 /// To change several shared values, all or none: change an owner that `share` made, and assign it
 /// at the end, where nothing can fail any more.
@@ -38,8 +38,8 @@ impl<T> Shared<T> {
         &*self.inner
     }
 
-    /// One more owner of the same value. Takes no memory; `AllocError` only if the count of owners
-    /// is full, at 2^63 - 1.
+    /// One more owner of the same value. Allocates nothing; returns `AllocError` only if the count of
+    /// owners is full, at 2^63 - 1.
     pub fn share(&self) -> Result<Shared<T>, AllocError>
         ensures { IfOk result (λ other. other ≡ self.now) }
     {
@@ -50,7 +50,7 @@ impl<T> Shared<T> {
 }
 
 impl<T: Drop> Shared<T> {
-    /// The value, with one owner. `AllocError` only if memory runs out.
+    /// The value, with one owner. Returns `AllocError` only if out of memory.
     pub fn new(alloc: Global, value: T) -> Result<Shared<T>, AllocError>
         ensures { IfOk result (λ shared. shared ≡ value) }
     {
@@ -65,7 +65,7 @@ impl<T: Duplicate + Drop> Shared<T> {
     ghost use Rattle.dra_values.specs.Lent.{LendsShared};
 
     /// The value, to be changed. If it has other owners, it is duplicated first, and they keep the
-    /// value as it was. `AllocError` only if memory runs out, and then the value stays as it was.
+    /// old value. Returns `AllocError` only if out of memory, and then the value is unchanged.
     pub fn change(&mut self, alloc: Global) -> Result<&mut T, AllocError>
         ensures* writes_back { sem 𝓛 (LendsShared T.row self.entry result) }
         ensures value { IfOk result (λ lent. lent.now ≡ self.old) }
@@ -100,7 +100,7 @@ impl<T> Duplicate for Shared<T> {
     }
 }
 
-/// Shared values are equal where the values are.
+/// Shared values are equal if and only if the values are.
 impl<T: PartialEq> PartialEq for Shared<T> {
     ghost eq = { T.eq };
 

@@ -16,7 +16,7 @@ use std::fmt;
 use std::marker::Model;
 
 /// A map that contracts see as its entries, in strictly increasing order of their keys: each key
-/// stands at most once. `in_order` says so of every table.
+/// appears at most once. `in_order` states this for every table.
 #[derive(Drop)]
 pub struct Table<K: Ord, V> {
     map: BTreeMap<K, V>,
@@ -31,14 +31,14 @@ impl<K: Ord, V> Model for Table<K, V> {
 }
 
 impl<K: Ord, V> Table<K, V> {
-    /// The table of a map's entries. Takes no memory.
+    /// The table of a map's entries. Allocates nothing.
     pub fn from_map(map: BTreeMap<K, V>) -> Table<K, V>
         ensures { result ≡ map.entries }
     {
         Table { map }
     }
 
-    /// The entries back, as a map. Takes no memory.
+    /// The entries back, as a map. Allocates nothing.
     pub fn into_map(self) -> BTreeMap<K, V>
         ensures { result.entries ≡ self }
     {
@@ -66,7 +66,7 @@ impl<K: Ord, V> Table<K, V> {
         self.map.is_empty()
     }
 
-    /// States that the keys strictly increase from each entry to the next, so that no key stands
+    /// States that the keys strictly increase from each entry to the next, so that no key appears
     /// twice.
     pub fn in_order(&self)
         ensures { IsStrictlySortedBy K.cmp (keys_of self.now) }
@@ -79,7 +79,7 @@ impl<K: Ord + Drop, V: Drop> Table<K, V> {
     ghost use Rattle.std.specs.Borrow.{sem};
     ghost use Rattle.dra_values.specs.Lent.{LendsValue};
 
-    /// The table of no entries. Takes no memory until the first entry.
+    /// The table of no entries. Allocates nothing until the first entry.
     pub fn new(alloc: Global) -> Table<K, V>
         ensures { result ≡ [] }
     {
@@ -88,7 +88,7 @@ impl<K: Ord + Drop, V: Drop> Table<K, V> {
         }
     }
 
-    /// The value at a key, or `None` where the key has no entry.
+    /// The value at a key, or `None` if the key has no entry.
     pub fn get(&self, key: &K) -> Option<&V>
         ensures { option_copied result ≡ lookup (is_at (K.cmp key.now)) self.now }
     {
@@ -102,7 +102,7 @@ impl<K: Ord + Drop, V: Drop> Table<K, V> {
         self.map.contains_key(key)
     }
 
-    /// The value at a key, to be changed, or `None` where the key has no entry.
+    /// The value at a key, to be changed, or `None` if the key has no entry.
     pub fn get_mut(&mut self, key: &K) -> Option<&mut V>
         ensures* writes_back { sem 𝓛 (LendsValue K.row V.row K.Ord self.entry key.now result) }
         ensures value { option_copied_mut result ≡ lookup (is_at (K.cmp key.now)) self.old }
@@ -110,9 +110,9 @@ impl<K: Ord + Drop, V: Drop> Table<K, V> {
         self.map.get_mut(key)
     }
 
-    /// Puts a value at a key. A key that had an entry keeps its place and takes the value; a new
-    /// key goes to its place in the order. `AllocError` comes only where memory runs out, and then
-    /// the entries stay as they were.
+    /// Puts a value at a key. If the key has an entry, the entry gets the value; else a new entry is
+    /// inserted in the order of the keys. Returns `AllocError` only if out of memory, and then the
+    /// entries are unchanged.
     pub fn insert(&mut self, key: K, value: V) -> Result<(), AllocError>
         ensures ok { OnOk result (self.new ≡ insert_entry K.cmp self.old key value) }
         ensures err { OnErr result (self.new ≡ self.old) }
@@ -121,7 +121,7 @@ impl<K: Ord + Drop, V: Drop> Table<K, V> {
         Ok(())
     }
 
-    /// Takes the entry of a key out, and answers its value, or `None` where the key has no entry.
+    /// Removes the entry of a key, and returns its value, or `None` if the key has no entry.
     pub fn remove(&mut self, key: &K) -> Option<V>
         ensures value { result ≡ lookup (is_at (K.cmp key.now)) self.old }
         ensures rest { self.new ≡ remove_entry (is_at (K.cmp key.now)) self.old }
@@ -131,7 +131,7 @@ impl<K: Ord + Drop, V: Drop> Table<K, V> {
 }
 
 impl<K: Ord + Duplicate + Drop, V: Duplicate + Drop> Table<K, V> {
-    /// An equal table. `AllocError` comes only where memory runs out.
+    /// An equal table. Returns `AllocError` only if out of memory.
     pub fn copy(&self, alloc: Global) -> Result<Table<K, V>, AllocError>
         ensures { IfOk result (λ copy. copy ≡ self.now) }
     {
@@ -144,7 +144,7 @@ impl<K: Ord + Duplicate + Drop, V: Duplicate + Drop> Table<K, V> {
     }
 }
 
-/// Tables are equal where their entries are, in order.
+/// Tables are equal if and only if their entries are, in order.
 impl<K: Ord, V: PartialEq> PartialEq for Table<K, V> {
     ghost eq = { pointwise (λ p q. K.eq p.0 q.0 && V.eq p.1 q.1) };
 
@@ -159,7 +159,7 @@ impl<K: Ord, V: Eq> Eq for Table<K, V> {
     ghost laws = { lists_equiv (and_equiv (on_equiv (λ p. p.0) K.Eq.laws) (on_equiv (λ p. p.1) V.Eq.laws)) };
 }
 
-/// In braces, as Rust shows a map. The clause (`debug_output`) says so of `{:?}` without options.
+/// In braces, as Rust shows a map. The clause (`debug_output`) states this for `{:?}` without options.
 impl<K: Ord + fmt::Debug, V: fmt::Debug> fmt::Debug for Table<K, V> {
     ghost use Rattle.dra_values.specs.Shown.{debug_table};
 
@@ -175,8 +175,8 @@ impl<K: Ord + fmt::Debug, V: fmt::Debug> fmt::Debug for Table<K, V> {
     }
 }
 
-/// Writes the entries of a map, separated by commas. std's own `debug_map` writes the same, but no
-/// clause of it says what.
+/// Writes the entries of a map, separated by commas. std's own `debug_map` writes the same, but none
+/// of its clauses states what it writes.
 fn show_entries<K: Ord + fmt::Debug, V: fmt::Debug, W: fmt::Write>(
     map: &BTreeMap<K, V>,
     f: &mut fmt::Formatter<W>,
@@ -192,7 +192,7 @@ fn show_entries<K: Ord + fmt::Debug, V: fmt::Debug, W: fmt::Write>(
     Ok(())
 }
 
-/// Writes what stands before an entry, and then its key, a colon and a space, and its value.
+/// Writes what precedes an entry, and then its key, a colon and a space, and its value.
 fn show_entry<K: fmt::Debug, V: fmt::Debug, W: fmt::Write>(
     lead: &str,
     key: &K,

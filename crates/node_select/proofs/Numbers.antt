@@ -1,4 +1,4 @@
--- What a text that is read as a signed number gives.
+-- The result of reading a text as a signed number.
 use Rattle.std.proofs.Common.{◌≡◌, ℕ, ◌<◌, ◌≤◌, ◌==◌, ◌^◌, nat_lt, Bool, true, false, ◌&&◌, ℤ, pos, List, [], ◌∷◌, length, Option, Some, None, Result, Ok, Err, refl, sym, ◌∙◌, ap, arith, inl, inr, w64, if◌then◌else◌}
 use Rattle.std.specs.Prelude.{neg_ℤ, nat_le, option_and_then}
 use Rattle.std.specs.Result.{OkIff, result_ok}
@@ -26,7 +26,7 @@ number_some bs digits long =
 number_none : (bs : List ℕ) → (nat_lt 0 (length bs) && all_ascii_digits bs) ≡ false → number_of bs ≡ None
 number_none bs h = if_false (nat_lt 0 (length bs) && all_ascii_digits bs) (Some (digits_value 10 bs)) None h
 
--- a reading of digits that fits where a test of their number says so
+-- a reading of digits, which fits if a test of their number holds
 abbrev pub Reads : {E : Type 0} → Result ℤ E → List ℕ → Type 0 → ℤ → Type 0
 Reads r bs Small z = OkIff r ((all_ascii_digits bs ≡ true) × (0 < length bs) × Small) z
 

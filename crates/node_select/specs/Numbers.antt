@@ -3,7 +3,7 @@ use Rattle.std.specs.Prelude.{ℕ, ◌==◌, ◌^◌, nat_lt, nat_le, ◌&&◌, 
 use Rattle.std.specs.Str.{all_ascii_digits}
 use Rattle.std.specs.Str.Parse.{digits_value}
 
--- the number that one or more decimal digits write
+-- the number that one or more decimal digits represent
 abbrev pub number_of : List ℕ → Option ℕ
 number_of ds = if nat_lt 0 (length ds) && all_ascii_digits ds then Some (digits_value 10 ds) else None
 
@@ -13,7 +13,7 @@ positive n = if nat_lt n (2 ^ 63) then Some (pos n) else None
 abbrev pub negative : ℕ → Option ℤ
 negative n = if nat_le n (2 ^ 63) then Some (neg_ℤ (pos n)) else None
 
--- the whole number from -2^63 to 2^63-1 that a text writes: digits, which may have a sign and
+-- the whole number from -2^63 to 2^63-1 that a text represents: digits, which may have a sign and
 -- leading zeros
 abbrev pub whole_of : List ℕ → Option ℤ
 whole_of [] = None

@@ -24,7 +24,7 @@ abbrev pub is_below : ℤ → Option ℤ → Bool
 is_below most None = false
 is_below most (Some n) = int_lt n most
 
--- whether the test holds of a label's value, or of a label that isn't there
+-- whether the test holds for a label's value, or for a label that isn't there
 abbrev pub test_holds : Test → Option (List ℕ) → Bool
 test_holds (OneOf values) None = false
 test_holds (OneOf values) (Some value) = is_among value values

@@ -5,7 +5,7 @@ use crate::number::whole;
 use dra_values::{Duplicate, Seq, Text};
 use std::alloc::{AllocError, Global};
 
-/// What a requirement asks of a label's value, or of a field's.
+/// What a requirement demands of a label's value, or of a field's.
 #[derive(Drop)]
 pub enum Test {
     /// The value is one of these (`In`).
@@ -30,7 +30,7 @@ pub struct Requirement {
 }
 
 impl Test {
-    /// Whether the test holds of the value, or of none. Takes no memory.
+    /// Whether the test holds for the value, or for a missing value. Allocates nothing.
     pub fn holds(&self, value: Option<&str>) -> bool
         ensures { result ≡ test_holds self.now (option_map (λ v. v.now) value.entry) }
     {

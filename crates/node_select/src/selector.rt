@@ -15,8 +15,8 @@ pub struct Selector {
 }
 
 impl Selector {
-    /// Whether it selects the node of that name and labels: all requirements hold, and there is one
-    /// at least. The one field of a node is `metadata.name`. Takes no memory.
+    /// Whether it selects the node of that name and labels: all requirements hold, and there is at
+    /// least one. The one field of a node is `metadata.name`. Allocates nothing.
     pub fn matches(&self, name: &str, labels: &Table<Text, Text>) -> bool
         ensures { result ≡ term_holds self.now name.now labels.now }
     {

@@ -1,4 +1,4 @@
--- The places of names: what stands at them, and those with a name more.
+-- The indices of names: the items at them, and the indices with one more name.
 use Rattle.std.proofs.Common.{◌≡◌, ◌∙◌, ℕ, suc, ◌≤◌, ◌<◌, Bool, true, false, ◌||◌, cond, List, [], ◌∷◌, ◌++◌, length, Option, Some, None, is_some, option_map, option_and_then, option_copied, ap, refl, subst, sym, if◌then◌else◌}
 use Rattle.std.proofs.lemmas.Map.Text.{is_eq-slice_cmp}
 use Rattle.std.proofs.lemmas.Option.{slice_get_past, slice_get-get_or}
@@ -14,7 +14,7 @@ use Rattle.std.specs.declared.cmp.Ordering.TheVariants.{Less, Equal, Greater}
 use Rattle.std.specs.Str.{bytes_eq}
 use Rattle.object_fields.specs.Places.{AreFirstPlaces, first_place, with_place}
 
--- ---- what stands at the first place
+-- ---- the item at the first index
 
 at_next : {A : Type 0} (x : A) (xs : List A) (o : Option ℕ) → option_and_then (slice_get (x ∷ xs)) (option_map suc o) ≡ option_and_then (slice_get xs) o
 at_next x xs None = refl
@@ -40,7 +40,7 @@ found_any test (x ∷ xs) =
       | false ↦ is_next (first_place test xs) ∙ found_any test xs
     ]
 
--- ---- an item more
+-- ---- one more item
 
 -- the first of two that is there
 abbrev pub first_of : {A : Type 0} → Option A → Option A → Option A
@@ -96,7 +96,7 @@ looked_up {X = X} m k v (e ∷ es) =
           not_equal k e.0 h (sym ((bytes_eq-Decides m k).0 b) ∙ (bytes_eq-Decides m e.0).0 (sym (is_eq-slice_cmp m e.0) ∙ a)))
     ]) refl
 
--- ---- the places with a name more
+-- ---- the indices with one more name
 
 flipped : (a b : List ℕ) → bytes_eq a b ≡ bytes_eq b a
 flipped a b =
@@ -118,7 +118,7 @@ had_not None b n h = refl
 had_not (Some j) true n h = absurd (let k : Some j ≡ None = h refl in let no_value : ⊥ = cc in no_value)
 had_not (Some j) false n h = refl
 
--- a name that has a place already keeps it
+-- a name that has an index already keeps it
 pub placed : {A : Type 0} (name_of : A → List ℕ) (xs : List A) (y : A) (places : List (List ℕ × ℕ)) → AreFirstPlaces name_of xs places → AreFirstPlaces name_of (xs ++ y ∷ []) (with_place places (name_of y) (length xs))
 placed {A = A} name_of xs y places known = λ m.
     let T : List ℕ → Bool = is_at (slice_cmp nat_cmp m) in
@@ -135,7 +135,7 @@ all_placed name_of xs ys y places more name place known is named at all =
     let e : more ≡ with_place places (name_of y) (length xs) = is ∙ ap (λ n. with_place places n place) named ∙ ap (with_place places (name_of y)) at in
     subst (λ zs. AreFirstPlaces name_of zs more) (sym all) (subst (AreFirstPlaces name_of (xs ++ y ∷ [])) (sym e) (placed name_of xs y places known))
 
--- ---- what stands at an index
+-- ---- the item at an index
 
 pub got_at : {A : Type 0} (xs : List A) (i : ℕ) (r : Option (Bor A)) → MatchOption r (length xs ≤ i) (λ x. (i < length xs) × HoldsAt (λ y. x.now ≡ y) xs i) → option_copied r ≡ slice_get xs i
 got_at xs i None h = sym (slice_get_past xs i h)

@@ -53,7 +53,7 @@ all_new a r is path place before (x ∷ xs) (item d ds) h n =
     let e : r at before d ≡ Ok x = is.taken at before d x h.0 ∙ ap (λ b. unless (doubled_at at) b x) n.0 in
     ap (λ y. y >>= go) e ∙ all_new a r is path (place + 1) (before ++ x ∷ []) xs ds h.1 n.1 ∙ ap given (append_assoc before (x ∷ []) xs)
 
--- ---- one of them stands before
+-- ---- one of them appears before
 
 one_old : (a : List Step → Data → Result (List ℕ) FieldError) (r : List Step → List (List ℕ) → Data → Result (List ℕ) FieldError) → IsNewNameReading a r → (path : List Step) (place : ℕ) (before us vs : List (List ℕ)) (name : List ℕ) (ds : Items) → Rows a path place ds (us ++ name ∷ vs) → AreNew before us → is_among name (before ++ us) ≡ true → each_from r path place before ds ≡ Err (doubled_at (path ++ Place (place + length us) ∷ []))
 one_old a r is path place before [] vs name no_items h n old = absurd h
@@ -84,7 +84,7 @@ as_given a r is path place before all (item d ds) h =
     let k = as_given a r is path (place + 1) (before ++ s.0 ∷ []) all ds s.1.1 in
     (s.0 ∷ k.0, (k.1.0 ∙ append_assoc before (s.0 ∷ []) k.0, ap (λ o. o ∷ map Some k.0) (sym (is.given at before d s.0 s.1.0)) ∙ ap (λ os. named d ∷ os) k.1.1))
 
--- ---- where it is Doubled
+-- ---- when it is Doubled
 
 pub either_err : {A B : Type 0} (x : Result A FieldError) (f : A → Result B FieldError) (e : FieldError) → x >>= f ≡ Err e → (x ≡ Err e) ⊎ ((a : A) × ((x ≡ Ok a) × (f a ≡ Err e)))
 either_err (Ok a) f e h = inr (a, (refl, h))

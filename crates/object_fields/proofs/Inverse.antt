@@ -1,4 +1,4 @@
--- What was read, from the answer back.
+-- What was read, from the result back.
 use Rattle.std.proofs.Common.{◌≡◌, ℕ, ◌+◌, ◌≤◌, Bool, true, false, List, [], ◌∷◌, ◌++◌, length, IfSome, Option, Some, None, Result, Ok, Err, ap, arith, nat_lt, refl, subst}
 use Rattle.std.proofs.lemmas.Bool.{ltb-false}
 use Rattle.std.proofs.lemmas.List.{length-append}
@@ -10,11 +10,11 @@ use Rattle.object_fields.specs.declared.kind.FieldErrorKind.TheVariants.{TooMany
 use Rattle.object_fields.specs.declared.path.Step.{Step}
 use Rattle.object_fields.specs.declared.path.Step.TheVariants.{Member, Place}
 
--- an answer of a reading
+-- a result of a reading
 abbrev pub given : {A : Type 0} → A → Result A FieldError
 given x = Ok x
 
--- both readings gave something
+-- both readings returned something
 pub then_ok : {A B : Type 0} (x : Result A FieldError) (f : A → Result B FieldError) (b : B) → x >>= f ≡ Ok b → (a : A) × ((x ≡ Ok a) × (f a ≡ Ok b))
 then_ok (Ok a) f b h = (a, (refl, h))
 then_ok (Err e) f b h = cc

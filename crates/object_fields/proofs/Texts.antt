@@ -1,4 +1,4 @@
--- Where a text is cut, and the number that one writes.
+-- Where a text is cut, and the number that one represents.
 use Rattle.std.proofs.Common.{◌≡◌, ℕ, ◌<◌, ◌==◌, ◌^◌, nat_lt, true, ◌&&◌, List, [], ◌∷◌, length, Option, Some, None, Result, Ok, Err, refl, sym, ◌∙◌, ap, arith, rules, Bor, inl, inr}
 use Rattle.std.specs.List.{after_first, before_first, position_or_len}
 use Rattle.std.specs.Result.{result_ok}

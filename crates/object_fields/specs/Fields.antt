@@ -1,4 +1,4 @@
--- What the readers of fields answer: functions from what stands in a document to the value read, or
+-- What the readers of fields return: functions from the contents of a document to the value read, or
 -- to the first error with its path.
 use Rattle.std.specs.Prelude.{◌≡◌, ℕ, ◌^◌, ◌+◌, ◌==◌, nat_lt, nat_le, ◌&&◌, ℤ, pos, negsuc, List, [], ◌∷◌, ◌++◌, length, Bool, true, false, not, ⊤, Option, Some, None, Result, Ok, Err, option_and_then, if◌then◌else◌}
 use Rattle.serde_json.specs.Data.{Data, null, boolean, number, string, array, object, Members, no_members, member, Items, no_items, item}
@@ -10,9 +10,9 @@ use Rattle.object_fields.specs.declared.kind.FieldErrorKind.{FieldErrorKind}
 use Rattle.object_fields.specs.declared.kind.FieldErrorKind.TheVariants.{Missing, WrongType, BadName, TooLong, TooMany, NotSupported, Memory, Doubled, OutOfRange, NotOne, BadQuantity, BadVersion, Unknown, Selector}
 use Rattle.object_fields.specs.declared.error.FieldError.{FieldError}
 
--- ---- what a clause says of a reader
+-- ---- what a clause states about a reader
 
--- the fact, unless the kind is want of memory
+-- the fact, unless the kind is Memory
 abbrev pub UnlessMemory : FieldErrorKind → Type 0 → Type 0
 UnlessMemory Missing P = P
 UnlessMemory WrongType P = P
@@ -29,23 +29,23 @@ UnlessMemory BadVersion P = P
 UnlessMemory Unknown P = P
 UnlessMemory (Selector stage) P = P
 
--- e is that error, or want of memory
+-- e is that error, or of kind Memory
 abbrev pub IsError : FieldError → FieldError → Type 0
 IsError e error = UnlessMemory e.kind (e ≡ error)
 
--- What a reader returned, seen by view, is what the reading gives, unless memory ran out.
+-- What a reader returned, seen by view, is the result of the reading, unless out of memory.
 abbrev pub Gives : {X Y : Type 0} → (X → Y) → Result X FieldError → Result Y FieldError → Type 0
 Gives view (Ok x) reading = reading ≡ Ok (view x)
 Gives view (Err e) reading = UnlessMemory e.kind (reading ≡ Err e)
 
--- What a reader returned is what the reading gives, unless memory ran out.
+-- What a reader returned is the result of the reading, unless out of memory.
 abbrev pub Reads : {X : Type 0} → Result X FieldError → Result X FieldError → Type 0
 Reads (Ok x) reading = reading ≡ Ok x
 Reads (Err e) reading = UnlessMemory e.kind (reading ≡ Err e)
 
 -- ---- readings, one after another
 
--- the second reading goes on with what the first gave; the first error counts
+-- the second reading continues with the value of the first; the first error is the result
 infixl 10 ◌>>=◌
 abbrev pub ◌>>=◌ : {A B : Type 0} → Result A FieldError → (A → Result B FieldError) → Result B FieldError
 (Ok x) >>= f = f x
@@ -54,7 +54,7 @@ abbrev pub ◌>>=◌ : {A B : Type 0} → Result A FieldError → (A → Result 
 abbrev pub error_at : List Step → FieldErrorKind → FieldError
 error_at path kind = record { path = path; kind = kind }
 
--- the error at a member of what stands at the path
+-- the error at a member of the value at the path
 abbrev pub field_error : List Step → List ℕ → FieldErrorKind → FieldError
 field_error path name kind = record { path = path ++ Member name ∷ []; kind = kind }
 
@@ -62,13 +62,13 @@ abbrev pub some_or : {A : Type 0} → FieldError → Option A → Result A Field
 some_or e None = Err e
 some_or e (Some x) = Ok x
 
--- nothing where the test holds, else the error
+-- the error if the test holds, else Ok
 abbrev pub unless : FieldError → Bool → {A : Type 0} → A → Result A FieldError
 unless e b x = if b then Err e else Ok x
 
 -- ---- the value at a path
 
--- what stands there, if it isn't null
+-- the value there, if it isn't null
 abbrev pub not_null : Data → Option Data
 not_null null = None
 not_null (boolean b) = Some (boolean b)
@@ -92,7 +92,7 @@ table_value path d = value_at path d >>= λ v. some_or (error_at path WrongType)
 abbrev pub object_value : List Step → Data → Result Data FieldError
 object_value path d = table_value path d >>= λ ms. Ok (object ms)
 
--- ---- a field: the member of that name of what stands at the path
+-- ---- a field: the member of that name of the value at the path
 
 -- the member of that name, if it is there and isn't null
 abbrev pub member_of : List ℕ → Data → Option Data
@@ -124,7 +124,7 @@ object_at path name d = table_at path name d >>= λ ms. Ok (object ms)
 
 -- ---- a field that may be missing or null
 
--- None where there is nothing, else what the reading gives
+-- None if there is nothing, else the result of the reading
 abbrev pub if_there : {A : Type 0} → Option Data → Result A FieldError → Result (Option A) FieldError
 if_there None reading = Ok None
 if_there (Some v) reading = reading >>= λ x. Ok (Some x)
@@ -142,7 +142,7 @@ abbrev pub has_no_members : Members → Bool
 has_no_members no_members = true
 has_no_members (member k d ms) = false
 
--- nothing is asked for: null, false, or an empty text, list or object
+-- nothing is requested: null, false, or an empty text, list or object
 abbrev pub is_unset : Data → Bool
 is_unset null = true
 is_unset (boolean b) = not b
@@ -189,7 +189,7 @@ signed_at path name d = whole_at path name d >>= within_signed (field_error path
 
 -- ---- names
 
--- A text of at most so many bytes that is a name, as `right` says. Its length is looked at first.
+-- A text of at most so many bytes that is a name, as `right` says. Its length is checked first.
 abbrev pub judged : List Step → ℕ → Bool → List ℕ → Result (List ℕ) FieldError
 judged path most right text =
     if nat_lt most (length text) then Err (error_at path TooLong) else (if right then Ok text else Err (error_at path BadName))

@@ -3,7 +3,7 @@ use Rattle.std.specs.Prelude.{ℕ, List, [], ◌∷◌, ◌++◌, codes}
 use Rattle.object_fields.specs.declared.key.Key.{Key}
 use Rattle.object_fields.specs.declared.key.DeviceId.{DeviceId}
 
--- `namespace/name`, and the name alone where there is no namespace
+-- `namespace/name`, and the name alone if there is no namespace
 abbrev pub joined : List ℕ → List ℕ → List ℕ
 joined [] name = name
 joined (b ∷ bs) name = (b ∷ bs) ++ codes "/" ++ name

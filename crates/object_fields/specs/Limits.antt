@@ -13,7 +13,7 @@ pub record NameKept (name : List ℕ) : Type 0 where
   pub size : length name ≤ name_most
   pub form : is_dns_name name ≡ true
 
--- an object has a namespace where its kind has them
+-- an object has a namespace if its kind has them
 abbrev pub NamespaceKept : Scope → List ℕ → Type 0
 NamespaceKept Namespaced namespace = is_dns_label namespace ≡ true
 NamespaceKept Cluster namespace = namespace ≡ []

@@ -1,4 +1,4 @@
--- Lists whose items are read one after another, each at its place.
+-- Lists whose items are read one after another, each at its index.
 use Rattle.std.specs.Prelude.{ℕ, ◌+◌, List, [], ◌∷◌, ◌++◌, Option, Some, None, Result, Ok}
 use Rattle.serde_json.specs.Data.{Data, Items, no_items, item}
 use Rattle.object_fields.specs.Fields.{optional_at, short_list_at, ◌>>=◌}
@@ -6,17 +6,17 @@ use Rattle.object_fields.specs.declared.error.FieldError.{FieldError}
 use Rattle.object_fields.specs.declared.path.Step.{Step}
 use Rattle.object_fields.specs.declared.path.Step.TheVariants.{Member, Place}
 
--- the items from a place on, each read at its place beside those before, and put behind them
+-- the items from an index on, each read at its index, given those before, and appended to them
 abbrev pub each_from : {A : Type 0} → (List Step → List A → Data → Result A FieldError) → List Step → ℕ → List A → Items → Result (List A) FieldError
 each_from reading path place before no_items = Ok before
 each_from reading path place before (item d ds) =
     reading (path ++ Place place ∷ []) before d >>= λ x. each_from reading path (place + 1) (before ++ x ∷ []) ds
 
--- the items, each read beside those before
+-- the items, each read given those before
 abbrev pub each_beside : {A : Type 0} → (List Step → List A → Data → Result A FieldError) → List Step → Items → Result (List A) FieldError
 each_beside reading path ds = each_from reading path 0 [] ds
 
--- a reading that doesn't look at what stands before
+-- a reading that ignores the items before
 abbrev pub alone : {A : Type 0} → (List Step → Data → Result A FieldError) → List Step → List A → Data → Result A FieldError
 alone reading path before d = reading path d
 
@@ -24,7 +24,7 @@ alone reading path before d = reading path d
 abbrev pub each : {A : Type 0} → (List Step → Data → Result A FieldError) → List Step → Items → Result (List A) FieldError
 each reading path ds = each_beside (alone reading) path ds
 
--- none where there is no list
+-- none if there is no list
 abbrev pub each_in : {A : Type 0} → (List Step → Data → Result A FieldError) → List Step → Option Items → Result (List A) FieldError
 each_in reading path None = Ok []
 each_in reading path (Some ds) = each reading path ds

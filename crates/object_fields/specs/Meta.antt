@@ -21,7 +21,7 @@ use Rattle.object_fields.specs.declared.meta.ObjectMeta.{ObjectMeta}
 abbrev pub name_most : ℕ
 name_most = 253
 
--- none where the kind has no namespaces, and `default` where none is given
+-- none if the kind has no namespaces, and `default` if none is given
 abbrev pub namespace_at : Scope → List Step → Data → Result (List ℕ) FieldError
 namespace_at Namespaced path d =
     optional_at dns_label_at path (codes "namespace") d >>= λ namespace. Ok (unwrap_or namespace (codes "default"))
@@ -33,7 +33,7 @@ key_at scope path d =
     dns_subdomain_at name_most path (codes "name") d >>= λ name. namespace_at scope path d >>= λ namespace.
     Ok (record { namespace = namespace; name = name })
 
--- The labels with those of the members put in, at their keys. Each is a text.
+-- The labels with those of the members inserted, at their keys. Each is a text.
 abbrev pub labels_with : List Step → List (List ℕ × List ℕ) → Members → Result (List (List ℕ × List ℕ)) FieldError
 labels_with path labels no_members = Ok labels
 labels_with path labels (member key d ms) =
@@ -47,7 +47,7 @@ abbrev pub labels_at : List Step → Data → Result (List (List ℕ × List ℕ
 labels_at path d =
     optional_at table_at path (codes "labels") d >>= labels_of (path ++ step.Member (codes "labels") ∷ [])
 
--- decimal digits with no 0 before another
+-- decimal digits without a leading zero
 abbrev pub is_digit : ℕ → Bool
 is_digit = between 48 57
 
@@ -59,7 +59,7 @@ is_plain_decimal [] = false
 is_plain_decimal (b ∷ []) = is_digit b
 is_plain_decimal (b ∷ c ∷ bs) = not (b == 48) && are_digits (b ∷ c ∷ bs)
 
--- the number below 2^64 that they write
+-- the number below 2^64 that they represent
 abbrev pub version_of : List ℕ → Option ℕ
 version_of s = if is_plain_decimal s && nat_lt (digits_value 10 s) (2 ^ 64) then Some (digits_value 10 s) else None
 

@@ -1,4 +1,4 @@
--- Lists whose items have names, each of which is to be new.
+-- Lists whose items have names, each of which must be new.
 use Rattle.std.specs.Prelude.{◌≡◌, ℕ, ◌<◌, Bool, true, false, List, [], ◌∷◌, ◌++◌, map, length, Option, Some, Result, Ok, Err, codes, option_and_then}
 use Rattle.std.specs.List.{list_any}
 use Rattle.std.specs.Str.{bytes_eq}
@@ -26,7 +26,7 @@ names_in (item d ds) = named d ∷ names_in ds
 abbrev pub is_among : List ℕ → List (List ℕ) → Bool
 is_among name names = list_any (λ other. bytes_eq other name) names
 
--- none of the names is among those before it, of which the first list stands in front of them
+-- none of the names is among those before it, where those of the first list come before all of them
 abbrev pub AreNew : List (List ℕ) → List (List ℕ) → Type 0
 AreNew before [] = Unit {0}
 AreNew before (name ∷ names) = (is_among name before ≡ false) × AreNew (before ++ name ∷ []) names
@@ -57,8 +57,8 @@ pub record IsDoubled (path : List Step) (ds : Items) (e : FieldError) : Type 0 w
 abbrev pub label_of : List Step → Data → Result (List ℕ) FieldError
 label_of path d = object_value path d >>= dns_label_at path (codes "name")
 
--- What reads the name of an item beside the names before it: the name is the item's, and an item that
--- reads alone is Doubled exactly where its name is among those before.
+-- What reads the name of an item, given the names before it: the name is the item's, and an item that
+-- can be read alone is Doubled if and only if its name is among those before.
 pub record IsNewNameReading (alone : List Step → Data → Result (List ℕ) FieldError) (reading : List Step → List (List ℕ) → Data → Result (List ℕ) FieldError) : Type 0 where
   pub taken : (path : List Step) (before : List (List ℕ)) (d : Data) (name : List ℕ) → alone path d ≡ Ok name → reading path before d ≡ unless (doubled_at path) (is_among name before) name
   pub given : (path : List Step) (before : List (List ℕ)) (d : Data) (name : List ℕ) → reading path before d ≡ Ok name → named d ≡ Some name

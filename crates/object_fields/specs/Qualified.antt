@@ -31,12 +31,12 @@ domain_most = 63
 abbrev pub id_most : ℕ
 id_most = 32
 
--- what stands before and behind the first such byte
+-- what precedes and what follows the first such byte
 abbrev pub cut_at : ℕ → List ℕ → Option (List ℕ × List ℕ)
 cut_at cut s =
     if nat_lt (position_or_len (λ b. b == cut) s) (length s) then Some (before_first (λ b. b == cut) s, after_first (λ b. b == cut) s) else None
 
--- `domain/id`, cut at the first `/`; the lengths are looked at first
+-- `domain/id`, cut at the first `/`; the lengths are checked first
 abbrev pub domain_and_id : List Step → List ℕ → List ℕ → Result QualName FieldError
 domain_and_id path domain id =
     if nat_lt domain_most (length domain) || nat_lt id_most (length id)

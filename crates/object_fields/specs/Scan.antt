@@ -10,7 +10,7 @@ is_cut Nowhere = λ b. false
 is_cut Points = λ b. b == 46
 is_cut PointsAndSlashes = λ b. (b == 46) || (b == 47)
 
--- whether b may stand behind a byte
+-- whether b may follow a byte
 abbrev pub may_follow : (ℕ → Bool) → ℕ → ℕ → Bool
 may_follow cuts before b =
     is_lower_or_digit b || ((b == 45) && is_dns_byte before) || (cuts b && is_lower_or_digit before)

@@ -1,4 +1,4 @@
--- The words of errors, and the text of a path.
+-- The names of the error kinds, and the text of a path.
 use Rattle.std.specs.Prelude.{ℕ, List, [], ◌∷◌, ◌++◌, codes}
 use Rattle.std.specs.Fmt.{decimal}
 use Rattle.std.specs.List.{flat_map}
@@ -30,7 +30,7 @@ kind_word BadVersion = codes "BadVersion"
 kind_word Unknown = codes "Unknown"
 kind_word (Selector stage) = codes "Selector." ++ stage_word stage
 
--- a step behind others: `.member`, `[place]` or `[key]`
+-- a step behind others: `.member`, `[index]` or `[key]`
 abbrev pub step_text : Step → List ℕ
 step_text (Member name) = codes "." ++ name
 step_text (Place place) = codes "[" ++ decimal place ++ codes "]"

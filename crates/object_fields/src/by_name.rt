@@ -26,8 +26,8 @@ impl HasName for Text {
     }
 }
 
-/// A list whose items are found by their names, which contracts see as the list. Where several items
-/// have a name, the first of them is found. A look-up takes time in the logarithm of the length.
+/// A list whose items are found by their names, which contracts see as the list. If several items
+/// have a name, the first of them is found. A look-up takes time logarithmic in the length.
 #[derive(Drop)]
 pub struct ByName<T: HasName> {
     items: Seq<T>,
@@ -46,7 +46,7 @@ impl<T: HasName> Model for ByName<T> {
 }
 
 impl<T: HasName + Drop> ByName<T> {
-    /// The list of no items. Takes no memory until the first item.
+    /// The list of no items. Allocates nothing until the first item.
     pub fn empty(alloc: Global) -> ByName<T>
         ensures { result ≡ [] }
     {
@@ -56,14 +56,14 @@ impl<T: HasName + Drop> ByName<T> {
         }
     }
 
-    /// The items in order. Takes no memory.
+    /// The items in order. Allocates nothing.
     pub fn into_seq(self) -> Seq<T>
         ensures { result ≡ self }
     {
         self.items
     }
 
-    /// The first item of that name, or `None` where no item has it.
+    /// The first item of that name, or `None` if no item has it.
     pub fn find(&self, name: &Text) -> Option<&T>
         ensures { option_copied result ≡ find (λ x. bytes_eq (T.HasName.name_of x) name.now) self.now }
     {
@@ -80,7 +80,7 @@ impl<T: HasName + Drop> ByName<T> {
         self.places.contains_key(name)
     }
 
-    /// The list with an item more at its end. `AllocError` comes only where memory runs out.
+    /// The list with an item appended. Returns `AllocError` only if out of memory.
     pub fn with(self, alloc: Global, item: T) -> Result<ByName<T>, AllocError>
         ensures { IfOk result (λ more. more ≡ self ++ item ∷ []) }
     {
@@ -94,7 +94,7 @@ impl<T: HasName + Drop> ByName<T> {
 
 ghost use Rattle.object_fields.specs.Places.{with_place};
 
-/// The places with that of a name, unless the name has one already.
+/// The indices with that of a name added, unless the name has one already.
 fn with_place(
     places: Table<Text, usize>,
     name: Text,

@@ -16,7 +16,7 @@ pub struct FieldError {
 }
 
 impl FieldError {
-    /// Want of memory, at the top. Takes no memory.
+    /// Out of memory, at the top. Allocates nothing.
     pub fn memory(alloc: Global) -> FieldError
         ensures { result ≡ error_at [] FieldErrorKind.Memory }
     {
@@ -36,7 +36,7 @@ impl FieldError {
         }
     }
 
-    /// The error of that kind at a member of what stands at the path, or Memory.
+    /// The error of that kind at a member of the value at the path, or Memory.
     pub fn of_field(alloc: Global, path: &Path, name: &str, kind: FieldErrorKind) -> FieldError
         ensures { IsError result (field_error path.now name.now kind) }
     {

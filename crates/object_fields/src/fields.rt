@@ -8,7 +8,7 @@ use crate::path::Path;
 use serde_json::{Map, Value};
 use std::alloc::Global;
 
-/// The member of that name, if it is there and isn't null. Takes no memory.
+/// The member of that name, if it is there and isn't null. Allocates nothing.
 pub fn member<'a>(object: &'a Value, name: &str) -> Option<&'a Value>
     ensures { option_map (λ v. view v.now) result ≡ member_of name.now (view object.now) }
 {
@@ -18,7 +18,7 @@ pub fn member<'a>(object: &'a Value, name: &str) -> Option<&'a Value>
     }
 }
 
-/// The member of that name. Missing where it isn't there or is null.
+/// The member of that name. Missing if it isn't there or is null.
 pub fn field<'a>(
     alloc: Global,
     object: &'a Value,

@@ -14,7 +14,7 @@ use dra_values::{Seq, Text};
 use serde_json::Value;
 use std::alloc::Global;
 
-/// A value that an item of a list is read as, whatever items stand before it.
+/// A value that an item of a list is read as, whatever items precede it.
 pub trait ReadItem: Sized {
     ghost reading: { List Step → Data → Result Self FieldError };
 
@@ -32,7 +32,7 @@ impl ReadItem for Text {
     }
 }
 
-/// The items of a list in order, each read at its place; the error of the first that doesn't read.
+/// The items of a list in order, each read at its index; the error of the first that can't be read.
 pub fn read_items<T: ReadItem + Drop>(
     alloc: Global,
     items: &[Value],
@@ -50,7 +50,7 @@ pub fn read_items<T: ReadItem + Drop>(
 }
 
 /// The items of a field that may be missing or null: WrongType, then TooMany above `most`, then as
-/// `read_items`. None of them where it is missing.
+/// `read_items`. No items if it is missing.
 pub fn optional_items<T: ReadItem + Drop>(
     alloc: Global,
     object: &Value,

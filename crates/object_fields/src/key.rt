@@ -29,7 +29,7 @@ impl Duplicate for Key {
     }
 }
 
-/// As `namespace/name`, and the name alone where there is no namespace.
+/// As `namespace/name`, and the name alone if there is no namespace.
 impl fmt::Display for Key {
     ghost use Rattle.object_fields.specs.Keys.{key_text};
 

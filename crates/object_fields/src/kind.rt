@@ -3,14 +3,14 @@ ghost use Rattle.object_fields.specs.Words.{kind_word, stage_word};
 
 use std::fmt;
 
-/// Why a field didn't read.
+/// Why a field couldn't be read.
 #[derive(Clone, Copy, Debug, PartialEq, Eq)]
 pub enum FieldErrorKind {
-    /// A field that must be there is absent or null, or a list is empty where one item is due.
+    /// A field that must be there is absent or null, or a list is empty where one item is expected.
     Missing,
     /// Another JSON type, or a number that isn't a whole number of 64 bits.
     WrongType,
-    /// A text that isn't a name of the form that is due.
+    /// A text that isn't a name of the expected form.
     BadName,
     /// A text that is over its length.
     TooLong,
@@ -18,7 +18,7 @@ pub enum FieldErrorKind {
     TooMany,
     /// A feature that this project leaves out (this project's own rule).
     NotSupported,
-    /// Want of memory. It comes at any time, and the path is the document's top.
+    /// Out of memory. It can be returned at any time, and the path is the document's top.
     Memory,
     /// A name or a key that came before.
     Doubled,
@@ -44,7 +44,7 @@ pub enum Stage {
     Cost,
 }
 
-/// The word alone, such as `Missing` or `Selector.Parse`.
+/// The name of the kind alone, such as `Missing` or `Selector.Parse`.
 impl fmt::Display for FieldErrorKind {
     ghost output = { λ k. Some (kind_word k) };
 

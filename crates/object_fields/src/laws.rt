@@ -15,7 +15,7 @@ ghost use Rattle.object_fields.specs.declared.path.Step.{Step};
 ghost use Rattle.object_fields.specs.declared.path.Step.TheVariants.{Place};
 
 /// The metadata that is read of an object keeps the limits and name rules of the Kubernetes API
-/// reference: the name is a DNS subdomain of at most 253 bytes, the namespace a DNS label where the
+/// reference: the name is a DNS subdomain of at most 253 bytes, the namespace a DNS label if the
 /// kind has namespaces and else empty, and the version a number of 64 bits.
 pub fn metadata_keeps_limits()
     ensures { (scope : Scope) (d : Data) (meta : ObjectMeta) → meta_at scope d ≡ Ok meta → MetaKept scope meta }
@@ -27,11 +27,11 @@ pub fn lists_keep_limits<T>()
         each_at most reading path name d ≡ Ok xs → length xs ≤ most }
 {}
 
-/// Lists whose items have names, each of which is to be new, read item by item.
+/// Lists whose items have names, each of which must be new, read item by item.
 ///
-/// What is read are the names of the document, in order and as many. Where each item reads by itself,
-/// the names are read if no two are equal, and else it is Doubled at the first item whose name an
-/// item before has. It is Doubled only where two items of the document have the same name, at the
+/// What is read are the names of the document, in order and as many. If each item can be read by
+/// itself, the names are read if no two are equal, and else the error is Doubled at the first item
+/// whose name an item before it has. It is Doubled only if two items of the document have the same name, at the
 /// later of the two.
 pub fn names_are_new()
     ensures same { (alone : List Step → Data → Result (List ℕ) FieldError) (reading : List Step → List (List ℕ) → Data → Result (List ℕ) FieldError) → IsNewNameReading alone reading → (path : List Step) (ds : Items) (names : List (List ℕ)) →
@@ -53,7 +53,7 @@ pub fn labels_are_names()
     ensures object_once { (path : List Step) (d : Data) (e : FieldError) → object_value path d ≡ Err e → e.kind ≡ Doubled → ⊥ }
 {}
 
-/// A list of at most so many items is TooMany exactly where it is a list of more.
+/// A list of at most so many items is TooMany if and only if it is a list of more.
 pub fn longer_lists_are_too_many()
     ensures many { (most : ℕ) (path : List Step) (name : List ℕ) (d : Data) (items : Items) →
         list_at path name d ≡ Ok items → most < items_length items → short_list_at most path name d ≡ Err (field_error path name TooMany) }

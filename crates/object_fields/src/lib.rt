@@ -1,5 +1,5 @@
-//! Readers of the fields of JSON objects. Each answers the value that is there, or the first error
-//! with its path; names and keys stand here too.
+//! Readers of the fields of JSON objects. Each returns the value that is there, or the first error
+//! with its path; names and keys are defined here too.
 #![tactic(auto)]
 
 mod by_name;

@@ -60,7 +60,7 @@ pub fn signed(alloc: Global, object: &Value, path: &Path, name: &str) -> Result<
     }
 }
 
-/// A text at its own path, as an item of a list or a value of a map. Missing where it is null, then
+/// A text at its own path, as an item of a list or a value of a map. Missing if it is null, then
 /// WrongType.
 pub fn value_text(alloc: Global, value: &Value, path: &Path) -> Result<Text, FieldError>
     ensures { Reads result (text_value path.now (view value.now)) }
@@ -72,7 +72,7 @@ pub fn value_text(alloc: Global, value: &Value, path: &Path) -> Result<Text, Fie
     }
 }
 
-/// The members of a value that is an object, at its own path, borrowed. Missing where it is null,
+/// The members of a value that is an object, at its own path, borrowed. Missing if it is null,
 /// then WrongType.
 pub fn value_table<'a>(
     alloc: Global,
@@ -89,7 +89,7 @@ pub fn value_table<'a>(
     }
 }
 
-/// A value that is an object, at its own path, borrowed as a value. Missing where it is null, then
+/// A value that is an object, at its own path, borrowed as a value. Missing if it is null, then
 /// WrongType.
 pub fn value_object<'a>(
     alloc: Global,

@@ -14,19 +14,19 @@ use dra_values::{Table, Text};
 use serde_json::{Map, Value};
 use std::alloc::Global;
 
-/// Whether the objects of a kind have a namespace, as the API reference says of each kind.
+/// Whether the objects of a kind have a namespace, as the API reference defines for each kind.
 #[derive(Clone, Copy, Debug, PartialEq, Eq)]
 pub enum Scope {
     /// Each has one.
     Namespaced,
-    /// None has one, and `metadata.namespace` isn't looked at.
+    /// None has one, and `metadata.namespace` is ignored.
     Cluster,
 }
 
 /// What is read of an object's metadata (ObjectMeta of the Kubernetes API reference).
 #[derive(Drop)]
 pub struct ObjectMeta {
-    /// The name, and the namespace, which is empty where the kind has none.
+    /// The name, and the namespace, which is empty if the kind has none.
     pub key: Key,
     pub labels: Table<Text, Text>,
     /// The `resourceVersion`, from 0 to 2^64-1.
@@ -40,8 +40,8 @@ impl ObjectMeta {
     ghost use Rattle.object_fields.specs.Meta.{meta_at};
 
     /// The metadata of a whole document: `metadata` (Missing, WrongType), then its `name` (a DNS
-    /// subdomain of at most 253 bytes), its `namespace` (a DNS label, `default` where there is
-    /// none), its `labels` (each a text: Missing where one is null, then WrongType) and its
+    /// subdomain of at most 253 bytes), its `namespace` (a DNS label, `default` if there is
+    /// none), its `labels` (each a text: Missing if one is null, then WrongType) and its
     /// `resourceVersion` (decimal without leading zero, at most 2^64-1, else WrongType; empty is
     /// missing).
     pub fn read(alloc: Global, document: &Value, scope: Scope) -> Result<ObjectMeta, FieldError>
@@ -128,7 +128,7 @@ fn version(alloc: Global, meta: &Value, path: &Path) -> Result<Option<u64>, Fiel
     }
 }
 
-/// The version that a text has, None where it is empty.
+/// The version that a text has, None if it is empty.
 fn version_number(alloc: Global, path: &Path, text: &str) -> Result<Option<u64>, FieldError>
     ensures { Reads result (spec.version_text path.now text.now) }
 {
@@ -146,7 +146,7 @@ fn version_number(alloc: Global, path: &Path, text: &str) -> Result<Option<u64>,
     }
 }
 
-/// The number below 2^64 that decimal digits with no 0 before another write.
+/// The number below 2^64 that decimal digits without a leading zero represent.
 fn decimal(text: &str) -> Option<u64>
     ensures { result ≡ spec.version_of text.now }
 {

@@ -9,7 +9,7 @@ pub const LABEL_MOST: usize = 63;
 pub const POOL_MOST: usize = 253;
 
 /// Whether the text is a DNS label (RFC 1123): 1 to 63 lower-case letters, digits and `-`, neither
-/// beginning nor ending with `-`. Takes no memory.
+/// beginning nor ending with `-`. Allocates nothing.
 pub fn dns_label(text: &str) -> bool
     ensures { result ≡ is_dns_label text.now }
 {
@@ -17,15 +17,15 @@ pub fn dns_label(text: &str) -> bool
 }
 
 /// Whether the text is a DNS subdomain of at most `most` bytes: one or more parts joined by `.`,
-/// each of lower-case letters, digits and `-`, neither beginning nor ending with `-`. Takes no
-/// memory.
+/// each of lower-case letters, digits and `-`, neither beginning nor ending with `-`. Allocates
+/// nothing.
 pub fn dns_subdomain(text: &str, most: usize) -> bool
     ensures { result ≡ is_dns_subdomain most text.now }
 {
     text.len() <= most && dns_name(text)
 }
 
-/// Whether the text is a DNS subdomain of any length. Takes no memory.
+/// Whether the text is a DNS subdomain of any length. Allocates nothing.
 #[tactic(auto, using(crate::proofs::Scan::goes_by_points))]
 pub fn dns_name(text: &str) -> bool
     ensures { result ≡ is_dns_name text.now }
@@ -33,7 +33,7 @@ pub fn dns_name(text: &str) -> bool
     joined(text.as_bytes(), Cuts::Points)
 }
 
-/// Whether the text is one or more DNS subdomains joined by `/`, of any length. Takes no memory.
+/// Whether the text is one or more DNS subdomains joined by `/`, of any length. Allocates nothing.
 #[tactic(auto, using(crate::proofs::Scan::goes_by_slashes))]
 pub fn pool_name(text: &str) -> bool
     ensures { result ≡ is_pool_name text.now }
@@ -49,7 +49,7 @@ fn dns_part(text: &[u8]) -> bool
     joined(text, Cuts::Nowhere)
 }
 
-/// The bytes that stand between the parts of a name.
+/// The bytes that separate the parts of a name.
 #[derive(Clone, Copy)]
 enum Cuts {
     Nowhere,
@@ -57,7 +57,7 @@ enum Cuts {
     PointsAndSlashes,
 }
 
-/// Whether the bytes are parts with a cut between each two.
+/// Whether the bytes are parts with a separator between each two.
 fn joined(text: &[u8], cuts: Cuts) -> bool
     ensures { result ≡ goes_on (is_cut cuts) 46 text.now }
 {
@@ -71,7 +71,7 @@ fn joined(text: &[u8], cuts: Cuts) -> bool
     lower_or_digit(before)
 }
 
-/// Whether the byte may stand behind that before it.
+/// Whether the byte may follow the one before it.
 fn follows(before: u8, byte: u8, cuts: Cuts) -> bool
     ensures { result ≡ may_follow (is_cut cuts) before byte }
 {

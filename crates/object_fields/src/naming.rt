@@ -69,7 +69,7 @@ pub fn label_of(alloc: Global, path: &Path, text: &str) -> Result<Text, FieldErr
     named(alloc, path, text, LABEL_MOST, dns_label(text))
 }
 
-/// The name at its own path, or TooLong, or BadName where it isn't `right`.
+/// The name at its own path, or TooLong, or BadName if it isn't `right`.
 pub fn named(
     alloc: Global,
     path: &Path,
@@ -88,7 +88,7 @@ pub fn named(
     }
 }
 
-/// The same of a member of what stands at the path.
+/// The same for a member of the value at the path.
 fn named_field(
     alloc: Global,
     path: &Path,

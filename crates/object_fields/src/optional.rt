@@ -161,7 +161,7 @@ pub fn optional_dns_label(
     Ok(Some(read_dns_label(alloc, object, path, name)?))
 }
 
-/// Nothing where the member is missing, null, false, or an empty text, list or object; else
+/// Ok if the member is missing, null, false, or an empty text, list or object; else
 /// NotSupported (this project's own rule for what it leaves out).
 pub fn unset(alloc: Global, object: &Value, path: &Path, name: &str) -> Result<(), FieldError>
     ensures { Reads result (unset_at path.now name.now (view object.now)) }

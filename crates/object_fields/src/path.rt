@@ -12,7 +12,7 @@ use std::marker::Model;
 pub enum Step {
     /// A member of an object with named fields.
     Member(Text),
-    /// A place in a list, from 0.
+    /// An index in a list, from 0.
     Place(usize),
     /// A key of a map.
     Key(Text),
@@ -28,7 +28,7 @@ impl Duplicate for Step {
     }
 }
 
-/// A step behind others: `.member`, `[place]` or `[key]`.
+/// A step behind others: `.member`, `[index]` or `[key]`.
 impl fmt::Display for Step {
     ghost output = { λ s. Some (step_text s) };
 
@@ -41,7 +41,7 @@ impl fmt::Display for Step {
     }
 }
 
-/// The steps from the top of a document to a place in it, as contracts see it a list.
+/// The steps from the top of a document to a value in it, which contracts see as a list.
 #[derive(Drop)]
 pub struct Path {
     steps: Seq<Step>,
@@ -59,7 +59,7 @@ impl Model for Path {
 impl Path {
     ghost use Rattle.object_fields.specs.Fields.{Reads};
 
-    /// The top of the document. Takes no memory.
+    /// The top of the document. Allocates nothing.
     pub fn top(alloc: Global) -> Path
         ensures { result ≡ [] }
     {
@@ -75,7 +75,7 @@ impl Path {
         self.steps.as_slice()
     }
 
-    /// This path and a member more; Memory is its only error.
+    /// This path with a member appended; Memory is its only error.
     pub fn member(&self, alloc: Global, name: &str) -> Result<Path, FieldError>
         ensures { Reads result (Ok (self.now ++ Step.Member name.now ∷ [])) }
     {
@@ -83,14 +83,14 @@ impl Path {
         self.then(alloc, Step::Member(name))
     }
 
-    /// This path and a place of a list more, counted from 0; Memory is its only error.
+    /// This path with an index of a list appended, counted from 0; Memory is its only error.
     pub fn place(&self, alloc: Global, place: usize) -> Result<Path, FieldError>
         ensures { Reads result (Ok (self.now ++ Step.Place place ∷ [])) }
     {
         self.then(alloc, Step::Place(place))
     }
 
-    /// This path and a key of a map more; Memory is its only error.
+    /// This path with a key of a map appended; Memory is its only error.
     pub fn key(&self, alloc: Global, key: &str) -> Result<Path, FieldError>
         ensures { Reads result (Ok (self.now ++ Step.Key key.now ∷ [])) }
     {
@@ -98,7 +98,7 @@ impl Path {
         self.then(alloc, Step::Key(key))
     }
 
-    /// This path and a step more; Memory is its only error.
+    /// This path with a step appended; Memory is its only error.
     pub fn then(&self, alloc: Global, step: Step) -> Result<Path, FieldError>
         ensures { Reads result (Ok (self.now ++ step ∷ [])) }
     {
@@ -142,7 +142,7 @@ impl fmt::Debug for Path {
     }
 }
 
-/// Steps that stand behind others.
+/// Steps that follow others.
 #[derive(Clone, Copy)]
 struct Rest<'a>(&'a [Step]);
 

@@ -27,7 +27,7 @@ impl QualName {
     ghost use Rattle.object_fields.specs.Qualified.{qual_name_in};
 
     /// The name that the text means in a slice of that driver: `domain/id`, or `id` alone, whose
-    /// domain is the driver. TooLong where the domain or the id is too long, then BadName. Both
+    /// domain is the driver. TooLong if the domain or the id is too long, then BadName. Both
     /// have the path of the top.
     pub fn parse(alloc: Global, text: &str, driver: &str) -> Result<QualName, FieldError>
         ensures { Reads result (qual_name_in [] driver.now text.now) }
@@ -35,7 +35,7 @@ impl QualName {
         QualName::read(alloc, &Path::top(alloc), text, driver)
     }
 
-    /// The same of a text at that path.
+    /// The same for a text at that path.
     pub fn read(
         alloc: Global,
         path: &Path,

@@ -17,7 +17,7 @@ use std::alloc::Global;
 const SELECTORS_MOST: usize = 32;
 
 /// The field `selectors`, which may be missing or null: the text of each `cel.expression`. WrongType
-/// and TooMany above 32 of the list; then of each selector Missing and WrongType, at its place, at
+/// and TooMany above 32 of the list; then of each selector Missing and WrongType, at its index, at
 /// `cel` and at `expression`, which is any text.
 pub fn read_selectors(alloc: Global, object: &Value, path: &Path) -> Result<Seq<Text>, FieldError>
     ensures { Reads result (spec.selectors_at path.now (view object.now)) }

@@ -6,7 +6,7 @@ use Rattle.std.proofs.lemmas.List.{drop_more, drop_all, take_all, append-nil}
 use Rattle.quantity.specs.Cells.{value_of, AreCells, scaled}
 use Rattle.quantity.specs.Value.{digits_value, AreDigits}
 
--- with room for the last carry, the digits stand for the product
+-- with room for the last carry, the digits represent the product
 pub value_of-scaled : (f c : ℕ) (xs : List ℕ) → value_of xs * f + c < 10 ^ length xs → value_of (scaled f c xs) ≡ value_of xs * f + c
 value_of-scaled f c [] h = omega arith
 value_of-scaled f c (x ∷ xs) h =
@@ -97,7 +97,7 @@ carry_le x f c h g =
     let m : f * x ≤ f * 9 = mul-le-mul_left f (omega arith) in
     omega (arith, m, mul_comm f x, mul_comm f 9)
 
--- the whole is 0 exactly where each cell is
+-- the whole is 0 if and only if each cell is
 pub zero_cells : (cs : List ℕ) → list_all (λ c. c == 0) cs ≡ (value_of cs == 0)
 zero_cells [] = refl
 zero_cells (zero ∷ cs) = let ih = zero_cells cs in grind (arith, nat_tests)

@@ -74,7 +74,7 @@ room_scaled v n f h short small =
 pub both_pushed : (xs ys : List ℕ) (v w : ℕ) → v ≡ digits_value xs → w ≡ v * 10 ^ length ys + digits_value ys → w ≡ digits_value (xs ++ ys)
 both_pushed xs ys v w e f = f ∙ ap (λ n. n * 10 ^ length ys + digits_value ys) e ∙ sym (digits_value-append xs ys)
 
--- the front cells are the remainder, and the others are the whole
+-- the first cells are the remainder, and the others are the whole
 pub fine : (n places : ℕ) (cells below : List ℕ) → AreCells cells → places ≤ length cells → value_of cells ≡ n → below ≡ take places cells → list_all (λ c. c == 0) below ≡ false → n % 10 ^ places ≡ 0 → ⊥
 fine n places cells below a h e f g k =
     let z : (value_of (take places cells) == 0) ≡ false = sym (zero_cells (take places cells)) ∙ ap (λ cs. list_all (λ c. c == 0) cs) (sym f) ∙ g in
@@ -98,7 +98,7 @@ coarse_is n places cells above r a h e f z g =
 is_digit : (c : ℕ) → is_ascii_digit c ≡ true → (48 ≤ c) × (c < 58)
 is_digit c e = (grind (arith, nat_tests), grind (arith, nat_tests))
 
--- the digits at the front are digits
+-- the leading digits are digits
 AreDigits-step : (b : Bool) (c n : ℕ) (cs : List ℕ) → is_ascii_digit c ≡ b → AreDigits (take n cs) → AreDigits (take (cond b (1 + n) 0) (c ∷ cs))
 AreDigits-step false c n cs e a = tt
 AreDigits-step true c n cs e a =

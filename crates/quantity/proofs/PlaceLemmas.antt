@@ -1,4 +1,4 @@
--- The places behind the point, one at a time.
+-- The decimal places, one at a time.
 use Rattle.std.proofs.Common.{◌≡◌, ℕ, zero, suc, ◌+◌, ◌*◌, ◌/◌, ◌%◌, ◌^◌, [], ◌∷◌, refl, ap, ◌∙◌, arith, ne_eqb}
 use Rattle.std.proofs.Math.Nat.{pow-suc}
 use Rattle.quantity.specs.Printed.{places_text}
@@ -21,7 +21,7 @@ places_text-last k n place e some none =
     let h : n % 10 ^ k ≡ 0 = rw e at none in
     rw e (places_text-some k n some ∙ ap (λ t. (48 + n / 10 ^ k) ∷ t) (ap (places_text k) h ∙ places_text-none k))
 
--- where something is left, a place is left for it
+-- where something is left, a decimal place is left for it
 pub places_text-more : (k n place : ℕ) → place ≡ 10 ^ k → (n ≡ 0 → ⊥) → (n % place ≡ 0 → ⊥)
     → (j : ℕ) × (place ≡ 10 * 10 ^ j) × (places_text (suc k) n ≡ (48 + n / place) ∷ places_text (suc j) (n % place))
 places_text-more zero n place e some more = absurd (more (rw e (omega arith)))

@@ -29,7 +29,7 @@ weighs = search rules
 own : IsNumeralModel AreDigits digits_value
 own = numerals_by_weight AreDigits tells digits_value weighs
 
--- ---- the places behind the point
+-- ---- the decimal places
 
 some : (n : ℕ) → suc n ≡ 0 → ⊥
 some n e = omega (arith, e)
@@ -47,7 +47,7 @@ length-places-le zero n = rw (places_text-zero n) (omega arith)
 length-places-le (suc k) zero = rw (places_text-none (suc k)) (omega arith)
 length-places-le (suc k) (suc n) = rw (places_text-some k (suc n) (some n)) (omega (arith, length-places-le k (suc n % 10 ^ k)))
 
--- one place more
+-- one more decimal place
 place_more : (q p l d n r : ℕ) → q * p + r ≡ n → d * p ≡ r * l → (q * l + d) * (10 * p) ≡ n * (10 * l)
 place_more q p l d n r e f =
     let g : (q * p + r) * l ≡ n * l = ap (λ m. m * l) e in

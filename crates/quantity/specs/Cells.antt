@@ -1,4 +1,4 @@
--- Decimal numbers of many digits as the code keeps them: a cell a digit, the last digit first.
+-- Decimal numbers of many digits as the code keeps them: one cell for each digit, the last digit first.
 use Rattle.std.specs.Prelude.{ℕ, ◌+◌, ◌*◌, ◌/◌, ◌%◌, ◌<◌, List, [], ◌∷◌}
 
 abbrev pub value_of : List ℕ → ℕ

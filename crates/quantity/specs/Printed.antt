@@ -2,7 +2,7 @@
 -- digits of the fraction without trailing zeros.
 use Rattle.std.specs.Prelude.{ℕ, suc, zero, ◌+◌, ◌/◌, ◌%◌, ◌^◌, ℤ, pos, negsuc, List, [], ◌∷◌, ◌++◌, if◌then◌else◌, ◌==◌, decimal}
 
--- n as the last k places behind the point, up to its last digit that isn't 0
+-- n as the last k decimal places, up to its last digit that isn't 0
 unfoldable pub places_text : ℕ → ℕ → List ℕ
 places_text zero n = []
 places_text (suc k) n = if n == 0 then [] else (48 + n / 10 ^ k) ∷ places_text k (n % 10 ^ k)

@@ -1,4 +1,4 @@
--- What the text of a quantity is worth, in units of 10^-9, or why it has no value.
+-- The value of the text of a quantity, in units of 10^-9, or why it has no value.
 use Rattle.std.specs.Prelude.{ℕ, ◌+◌, ◌-◌, ◌*◌, ◌/◌, ◌%◌, ◌^◌, ◌<◌, ◌≤◌, ℤ, pos, neg_ℤ, Bool, true, false, ◌&&◌, List, [], ◌∷◌, ◌++◌, length, take, drop, if◌then◌else◌, ◌==◌, nat_lt, nat_le, Result, Ok, Err}
 use Rattle.std.specs.List.{prefix_len, list_all}
 use Rattle.std.specs.Char.{is_ascii_digit}
@@ -6,7 +6,7 @@ use Rattle.quantity.specs.Range.{most}
 use Rattle.quantity.specs.declared.error.QuantityError.{QuantityError}
 use Rattle.quantity.specs.declared.error.QuantityError.TheVariants.{BadText, TooPrecise, OutOfRange}
 
--- decimal digits as they are written: the sum of the digits by their places
+-- decimal digits as they are written: the sum of the digits by their positions
 abbrev pub digits_value : List ℕ → ℕ
 digits_value [] = 0
 digits_value (d ∷ ds) = (d - 48) * 10 ^ length ds + digits_value ds
@@ -22,7 +22,7 @@ abbrev pub sign_of : List ℕ → Bool × List ℕ
 sign_of [] = (false, [])
 sign_of (c ∷ cs) = if c == 45 then (true, cs) else (if c == 43 then (false, cs) else (false, c ∷ cs))
 
--- the digits at the front, and what follows them
+-- the leading digits, and what follows them
 abbrev pub digits_of : List ℕ → List ℕ × List ℕ
 digits_of cs = (take (prefix_len is_ascii_digit cs) cs, drop (prefix_len is_ascii_digit cs) cs)
 
@@ -43,7 +43,7 @@ abbrev pub binary_factors : List (ℕ × ℕ)
 binary_factors =
     (75, 2 ^ 10 * 10 ^ 9) ∷ (77, 2 ^ 20 * 10 ^ 9) ∷ (71, 2 ^ 30 * 10 ^ 9) ∷ (84, 2 ^ 40 * 10 ^ 9) ∷ (80, 2 ^ 50 * 10 ^ 9) ∷ (69, 2 ^ 60 * 10 ^ 9) ∷ []
 
--- what the letter has in a table
+-- the value of the letter in a table
 abbrev pub factor_in : List (ℕ × ℕ) → ℕ → Result ℕ QuantityError
 factor_in [] c = Err BadText
 factor_in (e ∷ es) c = if c == e.0 then Ok e.1 else factor_in es c
@@ -57,7 +57,7 @@ abbrev pub power_factor : Bool → ℕ → Result ℕ QuantityError
 power_factor true n = if nat_le n 9 then Ok (10 ^ (9 - n)) else Err OutOfRange
 power_factor false n = if nat_le n 18 then Ok (10 ^ (9 + n)) else Err OutOfRange
 
--- what stands behind an e
+-- what follows an e
 abbrev pub exponent_factor : List ℕ → Result ℕ QuantityError
 exponent_factor cs = if is_numeral (sign_of cs).1 then power_factor (sign_of cs).0 (digits_value (sign_of cs).1) else Err BadText
 

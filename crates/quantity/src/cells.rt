@@ -1,4 +1,4 @@
-//! Decimal numbers of many digits: a cell a digit, the last digit first.
+//! Decimal numbers of many digits: one cell for each digit, the last digit first.
 
 ghost use Rattle.std.specs.Prelude.{◌≡◌, ◌+◌, ◌*◌, ◌^◌, ◌<◌, ◌≤◌, ◌==◌, length};
 ghost use Rattle.std.specs.List.{list_all};
@@ -27,7 +27,7 @@ pub fn scale(cells: &mut [u8], factor: u128, add: u128)
     }
 }
 
-/// Writes digits behind those that are there.
+/// Appends digits to those that are there.
 pub fn push_digits(cells: &mut [u8], digits: &[u8])
     requires cells { AreCells cells.old }
     requires digits { AreDigits digits.now }

@@ -1,4 +1,4 @@
-//! Why a text is no quantity.
+//! Why a text isn't a quantity.
 
 ghost use Rattle.std.specs.Prelude.{Some};
 ghost use Rattle.quantity.specs.Messages.{message};
@@ -6,9 +6,9 @@ ghost use Rattle.quantity.specs.Messages.{message};
 use std::error::Error;
 use std::fmt;
 
-/// Why a text has no value, in the order in which the causes are looked at.
+/// Why a text has no value, in the order in which the causes are checked.
 ///
-/// An exponent outside -9 to 18 is `OutOfRange` and is looked at before the value is.
+/// An exponent outside -9 to 18 is `OutOfRange` and is checked before the value is.
 #[derive(Clone, Copy, Debug, Drop, PartialEq, Eq)]
 pub enum QuantityError {
     /// The text isn't in the grammar of quantities, or is longer than 64 bytes.

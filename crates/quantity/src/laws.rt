@@ -15,8 +15,8 @@ pub fn quantity_reads_back(quantity: &Quantity)
     let _nanos = quantity.nanos();
 }
 
-/// What the grammar of quantities spells in 64 bytes or fewer is worth the sum of its digits by
-/// their places times the suffix's factor, and any other text is bad.
+/// What the grammar of quantities spells in 64 bytes or fewer has as its value the sum of its
+/// digits by their positions times the suffix's factor, and any other text is `BadText`.
 pub fn values_follow_the_grammar()
     ensures spelled { (s : Sign) (n : Number) (x : Suffix) → IsNumber n → IsSuffix x → length (spelled s n x) ≤ 64
         → quantity_value (spelled s n x) ≡ with_sign (is_minus s) (magnitude_times (whole n) (fraction n) (factor x)) }

@@ -59,7 +59,7 @@ fn write_fraction<W: fmt::Write>(f: &mut fmt::Formatter<W>, nanos: u128) -> fmt:
     write_places(f, nanos)
 }
 
-/// The nine places behind the point, up to the last that isn't 0.
+/// The nine decimal places, up to the last that isn't 0.
 fn write_places<W: fmt::Write>(f: &mut fmt::Formatter<W>, nanos: u128) -> fmt::Result
     requires some { 0 < nanos }
     requires fraction { nanos < 10 ^ 9 }

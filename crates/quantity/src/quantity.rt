@@ -49,15 +49,15 @@ impl Model for Quantity {
 impl Quantity {
     /// Reads the notation of Kubernetes quantities, as `40Gi`, `0.5`, `-100m` or `1e3`.
     ///
-    /// The value is the sum of the digits by their places times the suffix's factor: `Ki` to `Ei`
+    /// The value is the sum of the digits by their positions times the suffix's factor: `Ki` to `Ei`
     /// are 2^10 to 2^60, `n`, `u`, `m` are 10^-9, 10^-6, 10^-3, `k` to `E` are 10^3 to 10^18, and
-    /// `e` or `E` with digits is that power of ten. Takes no memory.
+    /// `e` or `E` with digits is that power of ten. Allocates nothing.
     ///
     /// # Errors
     ///
-    /// The first of these: `BadText` where the text isn't in the grammar or has over 64 bytes,
-    /// `OutOfRange` where the exponent is outside -9 to 18, `TooPrecise` where the value isn't a
-    /// whole number of 10^-9, `OutOfRange` where its magnitude is over 2^63 - 1.
+    /// The first of these: `BadText` if the text isn't in the grammar or has over 64 bytes,
+    /// `OutOfRange` if the exponent is outside -9 to 18, `TooPrecise` if the value isn't a
+    /// whole number of 10^-9, `OutOfRange` if its magnitude is over 2^63 - 1.
     pub fn parse(text: &[u8]) -> Result<Quantity, QuantityError>
         ensures { result ≡ quantity_value text.now }
     {
@@ -79,7 +79,7 @@ impl Quantity {
         self.nanos
     }
 
-    /// The quantity of that many 10^-9, or None where its magnitude is over 2^63 - 1.
+    /// The quantity of that many 10^-9, or None if its magnitude is over 2^63 - 1.
     pub fn from_nanos(nanos: i128) -> Option<Quantity>
         ensures { SomeIff result (IsInRange nanos) nanos }
     {
@@ -90,21 +90,21 @@ impl Quantity {
         }
     }
 
-    /// The exact sum, or None where its magnitude is over 2^63 - 1.
+    /// The exact sum, or None if its magnitude is over 2^63 - 1.
     pub fn checked_add(&self, other: &Quantity) -> Option<Quantity>
         ensures { SomeIff result (IsInRange (self.now +ℤ other.now)) (self.now +ℤ other.now) }
     {
         Quantity::from_nanos(self.nanos + other.nanos)
     }
 
-    /// The exact difference, or None where its magnitude is over 2^63 - 1.
+    /// The exact difference, or None if its magnitude is over 2^63 - 1.
     pub fn checked_sub(&self, other: &Quantity) -> Option<Quantity>
         ensures { SomeIff result (IsInRange (self.now -ℤ other.now)) (self.now -ℤ other.now) }
     {
         Quantity::from_nanos(self.nanos - other.nanos)
     }
 
-    /// The whole number that it is, or None where it isn't whole.
+    /// The whole number that it is, or None if it isn't whole.
     pub fn as_integer(&self) -> Option<i64>
         ensures whole { IfSome result (λ n. self.now ≡ n *ℤ pos 1000000000) }
         ensures fractional { IsNone result → (n : ℤ) → self.now ≢ n *ℤ pos 1000000000 }

@@ -21,7 +21,7 @@ pub fn sign(text: &[u8]) -> (bool, &[u8])
     }
 }
 
-/// The digits at the front, and what follows them.
+/// The leading digits, and what follows them.
 pub fn digits(text: &[u8]) -> (&[u8], &[u8])
     ensures parts { (result.0.now, result.1.now) ≡ digits_of text.now }
     ensures digits { AreDigits result.0.now }
@@ -103,7 +103,7 @@ fn scientific(letter: u8, exponent: &[u8]) -> Result<u128, QuantityError>
     }
 }
 
-/// Ten to the exponent that stands behind an `e`, in 10^-9.
+/// Ten to the exponent that follows an `e`, in 10^-9.
 fn power(text: &[u8]) -> Result<u128, QuantityError>
     ensures value { result ≡ exponent_factor text.now }
     ensures bounded { IfOk result (λ factor. factor ≤ 2 ^ 60 * 10 ^ 9) }
