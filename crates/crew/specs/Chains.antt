@@ -20,7 +20,8 @@ module _ {J X E : Type 0} (needs : J → Known E → Type 0) (gives : J → Know
   AllReady (l ∷ ls) (p ∷ ps) = Ready l p × AllReady ls ps
   AllReady _ _ = ⊥
 
-  -- each list ran with its pass, which is one of ps before and at the same place of qs after; the ends stand list by list
+  -- each list ran with its pass, which is one of ps before and at the same index of qs after; the ends
+  -- are in the order of the lists
   abbrev pub AllRan : List (List J) → List X → List (Known E) → List (Known E) → Type 0
   AllRan [] ends [] [] = ends ≡ []
   AllRan (l ∷ ls) ends (p ∷ ps) (q ∷ qs) = (xs : List X) × (rest : List X) × (ends ≡ xs ++ rest) × Ran l xs p q × AllRan ls rest ps qs

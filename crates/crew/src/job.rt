@@ -8,7 +8,7 @@ use turn_lock::{Pass, Recorded};
 ///
 /// A job holds what it works on, the lock too, and can be moved to another thread, as its end can.
 pub trait Job<T: Recorded>: Drop + Send {
-    /// What comes of it.
+    /// Its result.
     type End: Drop + Send;
 
     /// What it needs of itself and its pass.
@@ -17,7 +17,7 @@ pub trait Job<T: Recorded>: Drop + Send {
     /// What then holds: of the job, the pass as it was, the end, and the pass as it is.
     ghost gives: { Self → Known T.Entry → Self.End → Known T.Entry → Type 0 };
 
-    /// Does the work, and tells the gate which points it reaches.
+    /// Does the work, and calls the gate at each point that it reaches.
     fn run<R: Wait, G: Gate>(self, rt: &R, gate: &G, pass: &mut Pass<T>) -> Self::End
         requires { needs self pass.old }
         ensures { gives self pass.old result pass.new };

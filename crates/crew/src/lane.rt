@@ -58,7 +58,7 @@ impl<T: Recorded, J: Job<T>> Lane<T, J> {
     }
 }
 
-/// Runs each lane in a thread of its own, or, where that can't be started, in the thread that would
+/// Runs each lane in a thread of its own, or, if that can't be started, in the thread that would
 /// have started it.
 pub fn run_lanes<T: Recorded + Send, J: Job<T>, G: Gate + Sync, R: Threads + Wait + Sync>(
     rt: &R,

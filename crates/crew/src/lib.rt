@@ -1,8 +1,8 @@
 //! Lists of jobs, each run in order by a thread of its own, with a pass of its own.
 //!
-//! A job says what it needs of its pass and what holds after it ran, and `run_all` hands both on. So
+//! A job states what it needs of its pass and what holds after it ran, and `run_all` passes both on. So
 //! what is proved of one job in one thread is known of each job after any number of threads. That
-//! the threads run at once is shown by a test alone.
+//! the threads run at the same time is shown only by a test.
 #![tactic(auto)]
 
 mod job;

@@ -2,7 +2,7 @@ ghost use Rattle.std.specs.Prelude.{◌≡◌, ◌+◌, ◌<◌, ◌≤◌, ◌^
 
 use std::alloc::{AllocError, Global};
 
-/// How many items there are in all, where a `usize` can say it.
+/// How many items there are in all, if it fits a `usize`.
 fn count_all<J>(lists: &[Vec<J>]) -> Option<usize>
     ensures { IfSome result (λ n. n ≡ sum (map (λ l. length l.items) lists.now)) }
 {

@@ -12,13 +12,13 @@ use std::sync::Wait;
 use std::thread::Threads;
 use turn_lock::{Pass, Recorded};
 
-/// Why no job was begun: memory ran out. The lists come back as they were.
+/// Why no job was begun: out of memory. The lists are returned unchanged.
 #[derive(Drop)]
 pub struct Unrun<J> {
     pub jobs: Vec<Vec<J>>,
 }
 
-/// All the memory that a crew takes.
+/// All the memory that a crew allocates.
 #[derive(Drop)]
 struct Room<T: Recorded, J: Job<T>> {
     passes: Vec<Pass<T>>,
@@ -97,13 +97,14 @@ fn gather<T: Recorded, J: Job<T>>(
     (passes, all)
 }
 
-/// Runs each list of jobs in order with the pass at the same place, each list in a thread of its
-/// own, and joins the threads. Where a thread can't be started, the thread that would have started
+/// Runs each list of jobs in order with the pass at the same index, each list in a thread of its
+/// own, and joins the threads. If a thread can't be started, the thread that would have started
 /// it runs the list itself.
 ///
 /// There are as many passes as lists, and each job can run with the pass that the jobs before it
-/// leave. Afterwards the ends stand list by list, and the passes as they stood. All memory is taken
-/// first: where it runs out no job was begun, and the passes and the lists come back unchanged.
+/// leave. Afterwards the ends are in the order of the lists, and the passes are in their old order. All
+/// memory is allocated first: if out of memory, no job was begun, and the passes and the lists are
+/// returned unchanged.
 pub fn run_all<T: Recorded + Send, G: Gate + Sync, J: Job<T>, R: Threads + Wait + Sync>(
     rt: &R,
     alloc: Global,

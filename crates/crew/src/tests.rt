@@ -21,7 +21,7 @@ impl Recorded for Blank {
     ghost number = { λ _. 0 };
 }
 
-/// A job that only tells its gate where it is, and ends with its number.
+/// A job that only calls its gate, and ends with its number.
 #[derive(Drop)]
 struct Tell {
     number: u64,
@@ -105,7 +105,7 @@ fn are_counted(ends: &[u64]) -> bool {
     true
 }
 
-/// Runs lists of these sizes, and says whether the ends are 0, 1, 2 and so on.
+/// Runs lists of these sizes, and returns whether the ends are 0, 1, 2 and so on.
 fn ends_in_order<G: Gate + Sync, R: Threads + Wait + Sync>(
     rt: &R,
     alloc: Global,

@@ -39,7 +39,7 @@ going_begins limits old new left rest begins is room some =
       closed = λ z. absurd (omega arith);
     }
 
--- more was taken of the source
+-- more was read from the source
 pub taken_kept : (limits : Limits) (old mid new : Split) (left left_mid left_now : Option (List ℕ)) (bytes : List ℕ) → Taken limits old mid left left_mid bytes → Consumes (remaining mid left_mid) (remaining new left_now) [] → new.at ≡ mid.at
     → Taken limits old new left left_now bytes
 taken_kept limits old mid new left left_mid left_now bytes t kept same = record {
@@ -134,7 +134,7 @@ going_by limits old mid new left left_now bytes bytes_now scan scan_now g h room
       closed = λ z. absurd (omega arith);
     }
 
--- a piece more
+-- one more piece
 pub going_more : (limits : Limits) (old mid new : Split) (left left_now : Option (List ℕ)) (bytes bytes_now : List ℕ) (scan scan_now : Scan) → Going limits old mid left left_now bytes scan → 0 < scan.depth → mid.at < limits.input → length bytes < limits.document
     → TakesPiece limits mid new bytes bytes_now scan scan_now → Going limits old new left left_now bytes_now scan_now
 going_more limits old mid new left left_now bytes bytes_now scan scan_now g h room small p =

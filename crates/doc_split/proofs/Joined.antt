@@ -1,4 +1,4 @@
--- From blanks and what stands behind them to the answer of a call.
+-- From blanks and what follows them to the result of a call.
 use Rattle.std.proofs.Common.{ℕ, suc, ◌+◌, ◌<◌, ◌≡◌, ◌∙◌, false, eqb, List, [], ◌∷◌, ◌++◌, length, refl, sym, ap, subst, arith, append_assoc, append-nil, inl, inr}
 use Rattle.std.specs.Prelude.{Option, Some, Ok, Err}
 use Rattle.std.proofs.lemmas.List.{length-append}
@@ -20,14 +20,14 @@ passes_at limits old new left left_now p more =
     lift limits old.at p.taken [] (λ more. p.blank more ∙ ap (λ (k : ℕ). documents_from limits.document 0 k more) p.counted) p.within more
     ∙ ap (λ (k : ℕ). documents_at limits k more) (sym p.counted)
 
--- what remained is the blanks and what remains behind them
+-- what remained is the blanks and what remains after them
 known_behind : (limits : Limits) (old new : Split) (left left_now : Option (List ℕ)) → Passes limits old new left left_now → (bytes : List ℕ) → remaining old left ≡ Some bytes
     → (rest : List ℕ) × (remaining new left_now ≡ Some rest) × (documents_at limits old.at bytes ≡ documents_at limits new.at rest)
 known_behind limits old new left left_now p bytes e =
     let r = rest_of (remaining old left) (remaining new left_now) p.taken bytes p.consumed e in
     (r.0, r.2, ap (documents_at limits old.at) r.1 ∙ passes_at limits old new left left_now p r.0)
 
--- so what has none behind the blanks has none
+-- so what has none after the blanks has none
 none_behind : (limits : Limits) (old mid : Split) (left left_mid : Option (List ℕ)) (ending : Ending) → Passes limits old mid left left_mid → HasNone limits mid left_mid ending → HasNone limits old left ending
 none_behind limits old mid left left_mid ending p none bytes e =
     let r = known_behind limits old mid left left_mid p bytes e in
@@ -36,7 +36,7 @@ none_behind limits old mid left left_mid ending p none bytes e =
 clean_now : (limits : Limits) (new : Split) (left_now : Option (List ℕ)) → MeetsEnd new left_now → HasNone limits new left_now Clean
 clean_now limits new left_now m bytes e = ap (documents_at limits new.at) (rest_at_end (remaining new left_now) bytes e (end_remains new left_now m.next m.end)) ∙ clean_at limits new.at
 
--- nothing is left behind the blanks
+-- nothing is left after the blanks
 pub answers_none : (limits : Limits) (old new : Split) (left left_now : Option (List ℕ)) → Passes limits old new left left_now → MeetsEnd new left_now → EndsSo limits old new left left_now Clean
 answers_none limits old new left left_now p m = record {
   none = none_behind limits old new left left_now Clean p (clean_now limits new left_now m);
@@ -78,7 +78,7 @@ blank_err limits old new left left_now (error.TooLong at) p m = absurd m
 blank_err limits old new left left_now error.Memory p m = (p.taken, p.consumed)
 blank_err limits old new left left_now error.Input p m = none_behind limits old new left left_now Long p (long_behind limits new left_now m)
 
--- what stands there is the front of a document
+-- what is there is a prefix of a document
 front_is : (limits : Limits) (mid new : Split) (left_mid left_now : Option (List ℕ)) (bytes : List ℕ) (t : Taken limits mid new left_mid left_now bytes) → (length bytes ≡ suc (length t.tail))
 front_is limits mid new left_mid left_now bytes t = ap length t.begins
 
@@ -97,7 +97,7 @@ unclosed_now limits mid new left_mid left_now o m bytes e =
     let none = rest_at_end (remaining new left_now) r.0 r.2 (end_remains new left_now m.next m.end) in
     ap (documents_at limits mid.at) (r.1 ∙ ap (λ (l : List ℕ). o.bytes ++ l) none ∙ append-nil o.bytes) ∙ unclosed_is limits mid new left_mid left_now o
 
--- the bytes that remained are the front and at least one more
+-- the bytes that remained are the prefix and at least one more
 more_is : (limits : Limits) (mid new : Split) (left_mid left_now : Option (List ℕ)) (o : IsOpen limits mid new left_mid left_now) → 0 < length new.ahead → (bytes : List ℕ) → remaining mid left_mid ≡ Some bytes
     → (b : ℕ) × (bs : List ℕ) × (bytes ≡ 123 ∷ (o.taken.tail ++ b ∷ bs))
 more_is limits mid new left_mid left_now o next bytes e =

@@ -22,7 +22,7 @@ kept_from x y None left_now e p = tt
 kept_from x y (Some xs) None e p = absurd p
 kept_from x y (Some xs) (Some ys) e p = ap (λ (l : List ℕ). l ++ xs) e ∙ p
 
--- what was taken of the source is ahead, where nothing was
+-- what was read from the source is ahead, where nothing was
 pub kept_ahead : (old new : Split) (left left_now : Option (List ℕ)) → old.ahead ≡ [] → Consumes left left_now new.ahead → Consumes (remaining old left) (remaining new left_now) []
 kept_ahead old new left left_now e p = kept_from old.ahead new.ahead left left_now e p
 
@@ -30,7 +30,7 @@ advance_from : (x y z : List ℕ) (left : Option (List ℕ)) → x ≡ y ++ z �
 advance_from x y z None e = tt
 advance_from x y z (Some xs) e = ap (λ (l : List ℕ). l ++ xs) e ∙ append_assoc y z xs
 
--- bytes ahead were gone over
+-- bytes ahead were consumed
 pub advance_ahead : (old new : Split) (left : Option (List ℕ)) (bytes : List ℕ) → old.ahead ≡ bytes ++ new.ahead → Consumes (remaining old left) (remaining new left) bytes
 advance_ahead old new left bytes e = advance_from old.ahead bytes new.ahead left e
 

@@ -10,7 +10,7 @@ use Rattle.doc_split.specs.Layout.{AreBlank, BeginsOne, IsDocument, Lie, MeetsSt
 use Rattle.doc_split.proofs.Pieces.{balanced_no, balanced_yes}
 use Rattle.doc_split.proofs.Steps.{blank_step, found_at, none_from, open_step, skip_all, stray_step}
 
--- the shortest balanced front that is longer than this one
+-- the shortest balanced prefix that is longer than this one
 pub record Found (all : List ℕ) (from k : ℕ) : Type 0 where
   pub above : from < k
   pub within : k ≤ length all

@@ -38,7 +38,7 @@ lift_by limits at taken docs h small more false e =
     ∙ ap with_more (h (take (limits.input - (at + length taken)) more))
     ∙ ap (before docs) (sym (at_more limits (at + length taken) more m))
 
--- what holds of the documents of bytes holds within the limit
+-- what holds for the documents of bytes holds within the limit
 pub lift : (limits : Limits) (at : ℕ) (taken : List ℕ) (docs : List Document)
     → ((more : List ℕ) → documents_from limits.document 0 at (taken ++ more) ≡ before docs (documents_from limits.document 0 (at + length taken) more))
     → length taken ≤ limits.input - at → (more : List ℕ) → documents_at limits at (taken ++ more) ≡ before docs (documents_at limits (at + length taken) more)

@@ -1,4 +1,4 @@
--- Blanks that are gone over.
+-- Blanks that are consumed.
 use Rattle.std.proofs.Common.{ℕ, suc, ◌+◌, ◌-◌, ◌≤◌, ◌<◌, ◌≡◌, ◌∙◌, List, [], ◌∷◌, ◌++◌, length, take, drop, get_or, refl, sym, ap, subst, arith, append_assoc}
 use Rattle.std.specs.Prelude.{Option}
 use Rattle.std.specs.List.{prefix_len}
@@ -22,7 +22,7 @@ passes_none limits old left = record {
   within = omega arith;
 }
 
--- more was taken of the source
+-- more was read from the source
 pub passes_kept : (limits : Limits) (old mid new : Split) (left left_mid left_now : Option (List ℕ)) → Passes limits old mid left left_mid → Consumes (remaining mid left_mid) (remaining new left_now) [] → new.at ≡ mid.at
     → Passes limits old new left left_now
 passes_kept limits old mid new left left_mid left_now p kept same = record {
@@ -33,7 +33,7 @@ passes_kept limits old mid new left left_mid left_now p kept same = record {
   within = p.within;
 }
 
--- the front of a window is that of what is ahead
+-- the prefix of a window is that of what is ahead
 pub window_front : (m n : ℕ) (xs : List ℕ) → n ≤ length (take m xs) → xs ≡ take n (take m xs) ++ drop n xs
 window_front m n xs h =
     let whole : take m xs ++ drop m xs ≡ xs = take-append-drop m xs in
@@ -73,7 +73,7 @@ get_front m n xs h =
     let len = length-take m xs in
     drop-cons xs n 0 (omega arith) ∙ ap (λ (b : ℕ). b ∷ drop (suc n) xs) (sym (get_or-take m xs n 0 (omega arith)))
 
--- what stands behind them
+-- what follows them
 pub meets_byte : (limits : Limits) (mid new : Split) (n : ℕ) → n ≡ prefix_len is_blank (take (limits.input - mid.at) mid.ahead) → n < length (take (limits.input - mid.at) mid.ahead)
     → new ≡ record { at = mid.at + n; ahead = drop n mid.ahead } → MeetsByte limits new
 meets_byte limits mid new n count more is =

@@ -1,4 +1,4 @@
--- What going over bytes of a document says of its fronts.
+-- What scanning bytes of a document shows about its prefixes.
 use Rattle.std.proofs.Common.{ℕ, suc, ◌+◌, ◌≤◌, ◌<◌, ◌≡◌, ◌∙◌, Bool, true, false, cond, eqb, List, [], ◌∷◌, ◌++◌, length, take, refl, sym, ap, subst, arith, append_assoc, append-nil, count_by}
 use Rattle.std.specs.Prelude.{Some}
 use Rattle.std.proofs.lemmas.Bool.{eqb-true}
@@ -39,7 +39,7 @@ count_more x front b place e =
     ∙ sum_by-append (λ y. cond (eqb y x) 1 0) (unquoted Outside front) (unquoted (place_behind Outside front) (b ∷ []))
     ∙ ap (λ (p : Place). count_outside x front + count_by (λ y. eqb y x) (unquoted p (b ∷ []))) e
 
--- one byte more of a front
+-- one more byte of a prefix
 pub behind_more : (front : List ℕ) (scan : Scan) (b : ℕ) → IsBehind front scan → 0 < scan.depth → IsBehind (front ++ b ∷ []) (scan_after scan b)
 behind_more front scan b behind h = record {
   place_is = place_more Outside front (b ∷ []) ∙ ap (λ (p : Place). next_place p b) behind.place_is;
@@ -50,7 +50,7 @@ behind_more front scan b behind h = record {
 tests_zero : (o c d : ℕ) (t : Bool) → o ≡ c + d → eqb d 0 ≡ t → eqb o c ≡ t
 tests_zero o c d t e f = grind (arith, nat_tests)
 
--- a front is balanced where no brace is open
+-- a prefix is balanced if no brace is open
 pub balanced_is : (front : List ℕ) (scan : Scan) (t : Bool) → IsBehind front scan → eqb scan.depth 0 ≡ t → is_balanced front ≡ t
 balanced_is front scan t behind e = tests_zero (count_outside 123 front) (count_outside 125 front) scan.depth t behind.depth_is e
 
@@ -68,7 +68,7 @@ take_more n b bs more = let s : 1 + n ≡ suc n = omega arith in ap (λ (k : ℕ
 length_more : (front : List ℕ) (b n : ℕ) → length (front ++ b ∷ []) + n ≡ length front + (1 + n)
 length_more front b n = let l : length (front ++ b ∷ []) ≡ length front + 1 = length-append front (b ∷ []) in omega arith
 
--- the brace that closes a document is met
+-- the brace that closes a document is reached
 pub record Closes (front bytes : List ℕ) (count : ℕ) : Type 0 where
   pub closes : (more : List ℕ) → balanced_after front (take count bytes ++ more) ≡ Some (length front + count)
   pub within : count ≤ length bytes

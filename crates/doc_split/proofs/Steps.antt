@@ -1,4 +1,4 @@
--- What the documents of bytes are by what stands first.
+-- What the documents of bytes are, by what comes first.
 use Rattle.std.proofs.Common.{ℕ, suc, ◌+◌, ◌-◌, ◌≤◌, ◌<◌, ◌≡◌, ◌∙◌, Bool, true, false, cond, eqb, List, [], ◌∷◌, ◌++◌, length, take, refl, sym, ap, arith, append-nil}
 use Rattle.std.specs.Prelude.{Option, None, Some, unwrap_or}
 use Rattle.std.specs.List.{prefix_len}
@@ -63,7 +63,7 @@ found_is most at tail more =
     ∙ ap (λ (k : ℕ). before (record { at = at; bytes = 123 ∷ tail } ∷ []) (documents_from most k (at + 1) (tail ++ more))) e
     ∙ ap (before (record { at = at; bytes = 123 ∷ tail } ∷ [])) (skip_all most (at + 1) tail more ∙ at_other most (at + 1 + length tail) (at + suc (length tail)) more (omega arith))
 
--- a document that stands first
+-- a document that comes first
 pub document_step : (most at : ℕ) (tail more : List ℕ) → IsClosed (123 ∷ tail) → suc (length tail) ≤ most
     → documents_from most 0 at (123 ∷ (tail ++ more)) ≡ before (record { at = at; bytes = 123 ∷ tail } ∷ []) (documents_from most 0 (at + suc (length tail)) more)
 unfolding documents_from
@@ -91,7 +91,7 @@ unclosed_step most at tail stays h =
     open_step most at tail (ap (balanced_after []) (take_all most (123 ∷ tail) h) ∙ stays_none (123 ∷ tail) stays)
     ∙ ap (λ (t : Bool). nothing (cond t (Unclosed at) (TooLong at))) (le-leb (suc (length tail)) most h)
 
--- one that is as long as it may be, and goes on
+-- one that has reached its limit, and goes on
 pub too_long_step : (most at : ℕ) (tail : List ℕ) (b : ℕ) (bs : List ℕ) → StaysOpen (123 ∷ tail) → suc (length tail) ≡ most
     → documents_from most 0 at (123 ∷ (tail ++ b ∷ bs)) ≡ nothing (TooLong at)
 too_long_step most at tail b bs stays h =

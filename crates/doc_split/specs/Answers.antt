@@ -1,4 +1,4 @@
--- What a call for the next document answers.
+-- What a call for the next document returns.
 use Rattle.std.specs.Prelude.{ℕ, ◌≡◌, ◌≤◌, ◌<◌, ◌+◌, ◌⊎◌, List, [], ◌∷◌, ◌++◌, Option, None, Some, Result, Ok, Err, IfErr, IsErrOf, OnOk, length}
 use Rattle.std.specs.Io.KnownBytes.{Consumes, IsAtEnd}
 use Rattle.dra_ports.specs.Causes.{Rose}
@@ -11,7 +11,7 @@ use Rattle.doc_split.specs.Documents.{Document, Ending, Clean, Unclosed, Stray, 
 use Rattle.doc_split.specs.Limits.{documents_at}
 use Rattle.doc_split.specs.Split.{Split, remaining}
 
--- The document is the first of what remains: whatever follows the bytes that were taken, it stands
+-- The document is the first of what remains: whatever follows the bytes that were taken, it comes
 -- before the documents that remain now.
 pub record IsNext (limits : Limits) (old new : Split) (left left_now : Option (List ℕ)) (doc : Document) : Type 0 where
   pub taken : List ℕ
@@ -21,7 +21,7 @@ pub record IsNext (limits : Limits) (old new : Split) (left left_now : Option (L
   pub moves : old.at < new.at
   pub within : new.at ≤ limits.input
 
--- where what remains is known, it has no document, and this is why
+-- if what remains is known, it has no document, and this is why
 abbrev pub HasNone : Limits → Split → Option (List ℕ) → Ending → Type 0
 HasNone limits old left ending = (bytes : List ℕ) → remaining old left ≡ Some bytes → documents_at limits old.at bytes ≡ nothing ending
 
@@ -30,11 +30,11 @@ pub record EndsSo (limits : Limits) (old new : Split) (left left_now : Option (L
   pub none : HasNone limits old left ending
   pub end : IsAtEnd (remaining new left_now)
 
--- no document stands whole in these bytes, and none is refused
+-- these bytes contain no complete document, and none is refused
 abbrev pub NoneWhole : Limits → ℕ → List ℕ → Type 0
 NoneWhole limits at bytes = (documents_at limits at bytes ≡ nothing Clean) ⊎ ((place : ℕ) × (documents_at limits at bytes ≡ nothing (Unclosed place)))
 
--- the source failed, and no document stands whole in what was taken of it
+-- the source failed, and what was taken of it contains no complete document
 pub record IsCut (limits : Limits) (old : Split) (left left_now : Option (List ℕ)) : Type 0 where
   pub taken : List ℕ
   pub consumed : Consumes (remaining old left) left_now taken
@@ -43,7 +43,7 @@ pub record IsCut (limits : Limits) (old : Split) (left left_now : Option (List �
 abbrev pub document_of : Doc → Document
 document_of doc = record { at = doc.at; bytes = doc.bytes.items }
 
--- what each answer says of the bytes that remained before the call and remain after it
+-- what each result states about the bytes that remained before the call and remain after it
 abbrev pub Answers : Limits → Split → Split → Option (List ℕ) → Option (List ℕ) → Result (Option Doc) DocError → Type 0
 Answers limits old new left left_now (Ok (Some doc)) = IsNext limits old new left left_now (document_of doc)
 Answers limits old new left left_now (Ok None) = EndsSo limits old new left left_now Clean
@@ -54,8 +54,8 @@ Answers limits old new left left_now (Err (error.TooLong at)) = HasNone limits o
 Answers limits old new left left_now (Err error.Memory) = ConsumesFront (remaining old left) (remaining new left_now)
 Answers limits old new left left_now (Err error.Input) = HasNone limits old left Long
 
--- the count of faults never falls, `ReadFault` comes only where it rose, and with each other answer
--- it stays
+-- the count of errors never falls, `ReadFault` is returned only if it rose or is at its maximum, and
+-- with every other result it is unchanged
 pub record HasReadCause {T : Type 0} (before now : ℕ) (result : Result T DocError) : Type 0 where
   pub later : before ≤ now
   pub failed : IsErrOf result error.ReadFault → Rose before now

@@ -13,7 +13,7 @@ use Rattle.doc_split.specs.Scan.{place_behind, piece_length, scan_behind}
 use Rattle.doc_split.specs.Split.{Split, remaining}
 use Rattle.doc_split.specs.Passing.{MeetsEnd, MeetsLimit}
 
--- what was gone over is this front of a document
+-- what was consumed is this prefix of a document
 pub record Taken (limits : Limits) (old new : Split) (left left_now : Option (List ℕ)) (bytes : List ℕ) : Type 0 where
   pub consumed : Consumes (remaining old left) (remaining new left_now) bytes
   pub tail : List ℕ
@@ -22,7 +22,7 @@ pub record Taken (limits : Limits) (old new : Split) (left left_now : Option (Li
   pub within : length bytes ≤ limits.input - old.at
   pub small : length bytes ≤ limits.document
 
--- no front of a document's bytes is balanced, whatever follows them
+-- no prefix of a document's bytes is balanced, whatever follows them
 abbrev pub StaysOpen : List ℕ → Type 0
 StaysOpen bytes = (more : List ℕ) → document_length (bytes ++ more) ≡ balanced_after bytes more
 
@@ -36,7 +36,7 @@ pub record IsOpen (limits : Limits) (old new : Split) (left left_now : Option (L
   pub taken : Taken limits old new left left_now bytes
   pub open_ : StaysOpen bytes
 
--- a document that is as long as it may be, and goes on
+-- a document that has reached its limit, and goes on
 pub record MeetsMost (limits : Limits) (old new : Split) : Type 0 where
   pub next : 0 < length new.ahead
   pub room : new.at < limits.input
@@ -56,16 +56,16 @@ TakesDocument limits old new left left_now (Err (error.TooLong at)) = IsOpen lim
 TakesDocument limits old new left left_now (Err error.Memory) = ConsumesFront (remaining old left) (remaining new left_now)
 TakesDocument limits old new left left_now (Err error.Input) = IsOpen limits old new left left_now × MeetsLimit limits new
 
--- the scan stands behind the front: where its next byte stands, and how many braces are open
+-- the scan is at the end of the prefix: where its next byte is, and how many braces are open
 pub record IsBehind (front : List ℕ) (scan : Scan) : Type 0 where
   pub place_is : place_behind Outside front ≡ scan.place
   pub depth_is : count_outside 123 front ≡ count_outside 125 front + scan.depth
 
--- the bytes ahead of which a document may still take some, where it has so many
+-- the bytes ahead of which a document may still take some, if it has so many
 abbrev pub window : Limits → Split → ℕ → List ℕ
 window limits split length_so_far = take (min (limits.input - split.at) (limits.document - length_so_far)) split.ahead
 
--- A piece of the window was taken into the document's bytes: up to the brace after which none is
+-- A piece of the window was appended to the document's bytes: up to the brace after which none is
 -- open, or all.
 pub record TakesPiece (limits : Limits) (old new : Split) (bytes bytes_now : List ℕ) (scan scan_now : Scan) : Type 0 where
   pub at_is : new.at ≡ old.at + piece_length scan (window limits old (length bytes))

@@ -1,5 +1,5 @@
--- The documents of an input. That objects of JSON stand in a row with blanks between them is this
--- project's own; blanks, braces, strings and the backslash are those of RFC 8259.
+-- The documents of an input. That JSON objects follow each other with blanks between them is this
+-- project's own rule; blanks, braces, strings and the backslash are those of RFC 8259.
 use Rattle.std.specs.Prelude.{ℕ, zero, suc, ◌+◌, ◌-◌, ◌==◌, nat_le, ◌||◌, Bool, List, [], ◌∷◌, ◌++◌, Option, None, Some, unwrap_or, take, length, count_by, if◌then◌else◌}
 use Rattle.doc_split.specs.declared.place.Place.{Place}
 use Rattle.doc_split.specs.declared.place.Place.TheVariants.{Outside, Quoted, Escaped}
@@ -8,8 +8,8 @@ use Rattle.doc_split.specs.declared.place.Place.TheVariants.{Outside, Quoted, Es
 abbrev pub is_blank : ℕ → Bool
 is_blank b = b == 32 || b == 9 || b == 10 || b == 13
 
--- where the byte behind this one stands. A quote (34) begins a string and ends it, and in a string
--- a backslash (92) takes the next byte with it
+-- where the byte after this one is. A quote (34) begins a string and ends it, and in a string
+-- a backslash (92) escapes the next byte
 abbrev pub next_place : Place → ℕ → Place
 next_place Outside b = if b == 34 then Quoted else Outside
 next_place Quoted b = if b == 34 then Outside else if b == 92 then Escaped else Quoted
@@ -22,21 +22,21 @@ unquoted Outside (b ∷ bs) = b ∷ unquoted (next_place Outside b) bs
 unquoted Quoted (b ∷ bs) = unquoted (next_place Quoted b) bs
 unquoted Escaped (b ∷ bs) = unquoted (next_place Escaped b) bs
 
--- how often a byte stands outside strings
+-- how often a byte occurs outside strings
 abbrev pub count_outside : ℕ → List ℕ → ℕ
 count_outside b bytes = count_by (λ x. x == b) (unquoted Outside bytes)
 
--- outside strings stand as many `{` (123) as `}` (125)
+-- outside strings there are as many `{` (123) as `}` (125)
 abbrev pub is_balanced : List ℕ → Bool
 is_balanced bytes = count_outside 123 bytes == count_outside 125 bytes
 
--- how long the shortest balanced front is that is longer than this one
+-- the length of the shortest balanced prefix that is longer than this one
 unfoldable pub balanced_after : List ℕ → List ℕ → Option ℕ
 balanced_after front [] = None
 balanced_after front (b ∷ bs) =
     if is_balanced (front ++ b ∷ []) then Some (length front + 1) else balanced_after (front ++ b ∷ []) bs
 
--- how long the document is that begins here: it ends where its braces are balanced first
+-- the length of the document that begins here: it ends where its braces are first balanced
 abbrev pub document_length : List ℕ → Option ℕ
 document_length bytes = balanced_after [] bytes
 
@@ -51,11 +51,11 @@ pub data Ending : Type 0 where
   Clean : Ending
   -- it ends inside the document that begins here
   Unclosed : (at : ℕ) → Ending
-  -- what stands here between documents is no blank, and begins no document
+  -- the byte here between documents isn't a blank, and doesn't begin a document
   Stray : (at : ℕ) → Ending
-  -- the document that begins here is longer than it may be
+  -- the document that begins here is over its limit
   TooLong : (at : ℕ) → Ending
-  -- the input is longer than it may be
+  -- the input is over its limit
   Long : Ending
 
 -- documents in order, and why there are no more
@@ -70,16 +70,16 @@ nothing ending = record { documents = []; ending = ending }
 abbrev pub before : List Document → Documents → Documents
 before documents others = record others { documents = documents ++ others.documents }
 
--- how an input ends inside a document, where a document has at most so many bytes
+-- how an input ends inside a document, if a document has at most so many bytes
 abbrev pub open_ending : ℕ → ℕ → List ℕ → Ending
 open_ending most at bytes = if nat_le (length bytes) most then Unclosed at else TooLong at
 
--- the document that begins with these bytes and has so many of them, and those behind it
+-- the document that begins with these bytes and has so many of them, and those after it
 abbrev pub add_document : ℕ → ℕ → List ℕ → Option ℕ → Documents → Documents
 add_document most at bytes (Some n) others = before (record { at = at; bytes = take n bytes } ∷ []) others
 add_document most at bytes None others = nothing (open_ending most at bytes)
 
--- the length of the document that begins here, where it has at most so many bytes
+-- the length of the document that begins here, if it has at most so many bytes
 abbrev pub length_within : ℕ → List ℕ → Option ℕ
 length_within most bytes = document_length (take most bytes)
 

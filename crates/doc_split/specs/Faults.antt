@@ -1,4 +1,4 @@
--- The answer for a fault of the source.
+-- The `DocError` for each error of the source.
 use Rattle.dra_ports.specs.declared.error.PortError.{PortError}
 use Rattle.dra_ports.specs.declared.error.PortError.TheVariants as port
 use Rattle.doc_split.specs.declared.error.DocError.{DocError}

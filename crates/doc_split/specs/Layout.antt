@@ -6,22 +6,22 @@ use Rattle.doc_split.specs.Documents.{Document, Ending, Clean, Unclosed, Stray, 
 abbrev pub AreBlank : List ℕ → Type 0
 AreBlank bytes = list_all is_blank bytes ≡ true
 
--- a brace stands first
+-- a brace is first
 abbrev pub BeginsWithBrace : List ℕ → Type 0
 BeginsWithBrace bytes = (rest : List ℕ) × (bytes ≡ 123 ∷ rest)
 
--- none of the fronts of at least one byte and fewer than so many is balanced
+-- no prefix of at least one byte and fewer than so many is balanced
 abbrev pub NoneBalanced : List ℕ → ℕ → Type 0
 NoneBalanced bytes bound = (n : ℕ) → 0 < n → n < bound → is_balanced (take n bytes) ≡ false
 
--- the bytes begin with a brace and are balanced, no shorter front of them is, and they aren't too many
+-- the bytes begin with a brace and are balanced, no shorter prefix of them is, and they aren't too many
 pub record IsDocument (most : ℕ) (bytes : List ℕ) : Type 0 where
   pub begins : BeginsWithBrace bytes
   pub balanced : is_balanced bytes ≡ true
   pub first : NoneBalanced bytes (length bytes)
   pub small : length bytes ≤ most
 
--- behind blanks stands the document, at its offset, and behind it the rest
+-- the document comes after blanks, at its offset, and then the rest
 pub record StandsFirst (most at : ℕ) (bytes : List ℕ) (doc : Document) (rest : List ℕ) : Type 0 where
   pub gap : List ℕ
   pub is : bytes ≡ gap ++ (doc.bytes ++ rest)
@@ -29,7 +29,7 @@ pub record StandsFirst (most at : ℕ) (bytes : List ℕ) (doc : Document) (rest
   pub at_is : doc.at ≡ at + length gap
   pub document : IsDocument most doc.bytes
 
--- behind blanks a document begins, which ends neither within the bytes nor within the most that it may have
+-- after blanks a document begins, which ends neither within the bytes nor within the most that it may have
 pub record BeginsOne (most at : ℕ) (bytes : List ℕ) (place : ℕ) (front : List ℕ) : Type 0 where
   pub gap : List ℕ
   pub is : bytes ≡ gap ++ front
@@ -38,7 +38,7 @@ pub record BeginsOne (most at : ℕ) (bytes : List ℕ) (place : ℕ) (front : L
   pub begins : BeginsWithBrace front
   pub open_ : (n : ℕ) → 0 < n → n ≤ length front → n ≤ most → is_balanced (take n front) ≡ false
 
--- behind blanks stands a byte that is none, and begins no document
+-- after blanks comes a byte that isn't a blank, and doesn't begin a document
 pub record MeetsStray (at : ℕ) (bytes : List ℕ) (place : ℕ) : Type 0 where
   pub gap : List ℕ
   pub byte : ℕ
@@ -49,7 +49,7 @@ pub record MeetsStray (at : ℕ) (bytes : List ℕ) (place : ℕ) : Type 0 where
   pub other : is_blank byte ≡ false
   pub no_brace : byte ≡ 123 → ⊥
 
--- why no document stands first
+-- why no document comes first
 abbrev pub Stops : ℕ → ℕ → List ℕ → Ending → Type 0
 Stops most at bytes Clean = AreBlank bytes
 Stops most at bytes (Unclosed place) = (front : List ℕ) × BeginsOne most at bytes place front × (length front ≤ most)

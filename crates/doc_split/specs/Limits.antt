@@ -1,9 +1,9 @@
--- The documents of an input that is no longer than it may be, or of its front.
+-- The documents of an input within its limit, or of the prefix within the limit.
 use Rattle.std.specs.Prelude.{ℕ, ◌-◌, nat_le, List, take, length, if◌then◌else◌}
 use Rattle.doc_split.specs.declared.limits.Limits.{Limits}
 use Rattle.doc_split.specs.Documents.{Documents, Ending, Clean, Unclosed, Stray, TooLong, Long, documents_from}
 
--- where more bytes follow than an input may have
+-- the ending if more bytes follow than an input may have
 abbrev pub past_end : Ending → Ending
 past_end Clean = Long
 past_end (Unclosed at) = Long

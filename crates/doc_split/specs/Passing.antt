@@ -1,4 +1,4 @@
--- Going over the blanks between documents.
+-- Consuming the blanks between documents.
 use Rattle.std.specs.Prelude.{ℕ, ◌≡◌, ◌≤◌, ◌<◌, ◌+◌, ◌-◌, Bool, true, false, List, [], ◌∷◌, ◌++◌, Option, Result, Ok, Err, length}
 use Rattle.std.specs.Io.KnownBytes.{Consumes, IsAtEnd}
 use Rattle.doc_split.specs.declared.error.DocError.{DocError}
@@ -7,7 +7,7 @@ use Rattle.doc_split.specs.declared.limits.Limits.{Limits}
 use Rattle.doc_split.specs.Documents.{documents_from, is_blank}
 use Rattle.doc_split.specs.Split.{Split, remaining}
 
--- what was gone over are blanks
+-- what was consumed are blanks
 pub record Passes (limits : Limits) (old new : Split) (left left_now : Option (List ℕ)) : Type 0 where
   pub taken : List ℕ
   pub consumed : Consumes (remaining old left) (remaining new left_now) taken
@@ -23,7 +23,7 @@ pub record MeetsByte (limits : Limits) (new : Split) : Type 0 where
   pub other : is_blank byte ≡ false
   pub room : new.at < limits.input
 
--- the input is as long as it may be, and goes on
+-- the input has reached its limit, and goes on
 pub record MeetsLimit (limits : Limits) (new : Split) : Type 0 where
   pub next : 0 < length new.ahead
   pub room : limits.input ≤ new.at
@@ -33,7 +33,7 @@ pub record MeetsEnd (new : Split) (left_now : Option (List ℕ)) : Type 0 where
   pub next : new.ahead ≡ []
   pub end : IsAtEnd left_now
 
--- what stands behind the blanks
+-- what follows the blanks
 abbrev pub Meets : Limits → Split → Option (List ℕ) → Result Bool DocError → Type 0
 Meets limits new left_now (Ok true) = MeetsByte limits new
 Meets limits new left_now (Ok false) = MeetsEnd new left_now

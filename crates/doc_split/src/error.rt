@@ -8,19 +8,19 @@ use thiserror::Error;
 /// Why there is no next document. Offsets are counted from the input's first byte, from 0.
 #[derive(Clone, Copy, Debug, PartialEq, Eq, Drop, Error)]
 pub enum DocError {
-    /// The source failed, and its count of faults rose, or stands at its last value, 2^64-1.
+    /// The source failed, and its count of errors rose, or is at its maximum, 2^64-1.
     #[error("the input failed")]
     ReadFault,
     /// The input ends inside the document that begins here.
     #[error("the document at byte {0} isn't closed")]
     Unclosed(u64),
-    /// The byte here stands between documents, and neither is a blank nor begins a document.
+    /// The byte here is between documents, and is neither a blank nor the first byte of a document.
     #[error("the byte at {0} begins no document")]
     Stray(u64),
     /// The document that begins here has more than 2,097,152 bytes.
     #[error("the document at byte {0} is too long")]
     TooLong(u64),
-    /// Memory ran out.
+    /// Out of memory.
     #[error("out of memory")]
     Memory,
     /// The input has more than 2^30 bytes.

@@ -1,5 +1,5 @@
-//! Splits an input into the JSON documents that stand in a row in it, without reading it whole: it
-//! holds one document and a piece of what follows.
+//! Splits an input into the JSON documents that it contains one after another, without reading it
+//! whole: it holds one document and a piece of what follows.
 #![tactic(auto)]
 
 mod doc;

@@ -14,22 +14,22 @@ use dra_ports::Source;
 use std::alloc::{AllocError, Global};
 
 impl Splitter {
-    /// The next document, or None where nothing but blanks is left, to the end.
+    /// The next document, or None if nothing but blanks is left, to the end.
     ///
     /// A document begins with `{` and ends at the brace that closes it. Braces in JSON strings don't
-    /// count, and a backslash in a string takes the next byte with it. Between documents stand
-    /// spaces, tabs, CR and LF alone. A document has at most 2,097,152 bytes, and an input at most
-    /// 2^30. The bytes that were gone over before an error are lost, and nothing is said of a call
-    /// after one.
+    /// count, and a backslash in a string escapes the next byte. Between documents there are only
+    /// spaces, tabs, CR and LF. A document has at most 2,097,152 bytes, and an input at most 2^30. The
+    /// bytes that were consumed before an error are lost, and no clause states what a call after an
+    /// error returns.
     ///
-    /// If the source tells its bytes, a document is returned only if it is the first of what remains,
+    /// If the source exposes its contents, a document is returned only if it is the first of what remains,
     /// `None` only if nothing but blanks remains, and `Unclosed`, `Stray`, `TooLong` and `Input` only
-    /// if what remains has no document for the reason that the variant names. Of a source that
-    /// doesn't tell them, as the standard input, no clause says which bytes these were.
+    /// if what remains has no document for the reason that the variant names. For a source that
+    /// doesn't expose them, such as the standard input, no clause states which bytes these were.
     ///
-    /// `ReadFault` is returned only if the source's count of faults rose in this call, or stands at
-    /// its last value; with every other result the count stays. `Memory` is returned only if memory
-    /// runs out. Of what follows the bytes that it has gone over, the splitter holds at most 64 KiB.
+    /// `ReadFault` is returned only if the source's count of errors rose in this call, or is at its
+    /// maximum; with every other result the count is unchanged. `Memory` is returned only if out of
+    /// memory. The splitter holds at most 64 KiB of what follows the bytes that it has consumed.
     pub fn next_document<S: Source>(
         &mut self,
         alloc: Global,
@@ -67,7 +67,7 @@ pub fn next_within<S: Source>(
     Ok(Some(doc))
 }
 
-/// Goes over blanks. Whether another byte follows.
+/// Consumes blanks. Returns whether another byte follows.
 #[tactic(auto, using(crate::proofs::Passing::passes_none, crate::proofs::Passing::passes_kept, crate::proofs::Passing::passes_piece, crate::proofs::Passing::meets_byte))]
 fn pass_blanks<S: Source>(
     limits: Limits,
@@ -90,7 +90,7 @@ fn pass_blanks<S: Source>(
     Ok(false)
 }
 
-/// Goes over blanks ahead. Whether another byte follows.
+/// Consumes blanks ahead. Returns whether another byte follows.
 fn pass_piece(limits: Limits, splitter: &mut Splitter) -> bool
     requires { splitter.old.at < limits.input }
     ensures meets { result ≡ nat_lt (prefix_len is_blank (take (limits.input - splitter.old.at) splitter.old.ahead)) (length (take (limits.input - splitter.old.at) splitter.old.ahead)) }
@@ -139,7 +139,7 @@ fn take_document<S: Source>(
     Ok(Doc { at, bytes })
 }
 
-/// Takes bytes ahead into the document that has begun.
+/// Moves bytes ahead into the document that has begun.
 fn take_piece(
     limits: Limits,
     splitter: &mut Splitter,

@@ -5,14 +5,14 @@ ghost use Rattle.doc_split.specs.Scan.{depth_after, piece_length, scan_after, sc
 
 use crate::place::{Place, is_blank, next_place};
 
-/// How far a document was gone over: where its next byte stands, and how many braces are open.
+/// How far a document was scanned: where its next byte is, and how many braces are open.
 #[derive(Clone, Copy, Drop)]
 pub struct Scan {
     pub place: Place,
     pub depth: u64,
 }
 
-/// What is known behind one byte more.
+/// The scan after one more byte.
 fn scan_after(scan: Scan, byte: u8) -> Scan
     requires { scan.depth + 1 < 2 ^ 64 }
     ensures after { result ≡ scan_after scan byte }
@@ -24,7 +24,7 @@ fn scan_after(scan: Scan, byte: u8) -> Scan
     }
 }
 
-/// How many braces are open behind one byte more.
+/// How many braces are open after one more byte.
 fn depth_after(place: Place, depth: u64, byte: u8) -> u64
     requires { depth + 1 < 2 ^ 64 }
     ensures after { result ≡ depth_after place depth byte }
@@ -40,8 +40,8 @@ fn depth_after(place: Place, depth: u64, byte: u8) -> u64
     }
 }
 
-/// Goes over bytes of a document up to the brace that closes it, or over all. How many these are,
-/// and what is known behind them.
+/// Scans bytes of a document up to the brace that closes it, or all. Returns how many these are,
+/// and the scan after them.
 pub fn scan_piece(scan: Scan, bytes: &[u8]) -> (usize, Scan)
     requires { scan.depth + length bytes.now < 2 ^ 64 }
     ensures count { result.0 ≡ piece_length scan bytes.now }

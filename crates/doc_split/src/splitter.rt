@@ -8,11 +8,11 @@ use dra_ports::{PortError, Source};
 use std::alloc::{AllocError, Global};
 use std::marker::Model;
 
-/// How many bytes are asked for at once: 64 KiB.
+/// How many bytes are requested at once: 64 KiB.
 const PIECE: usize = 65_536;
 
 /// Splits the bytes of a source into documents. What contracts see of it is how many bytes it has
-/// gone over, and those behind them that it has taken, never more than 64 KiB.
+/// consumed, and those after them that it has read from the source, never more than 64 KiB.
 #[derive(Drop)]
 pub struct Splitter {
     piece: Vec<u8>,
@@ -33,7 +33,7 @@ impl Model for Splitter {
 }
 
 impl Splitter {
-    /// A splitter that has taken nothing. Takes no memory: the allocator is kept for its buffer.
+    /// A splitter that has read nothing. Allocates nothing: the allocator is kept for its buffer.
     pub fn new(alloc: Global) -> Splitter
         ensures { result ≡ record { at = 0; ahead = [] } }
     {
@@ -45,14 +45,14 @@ impl Splitter {
         }
     }
 
-    /// How many bytes it has gone over.
+    /// How many bytes it has consumed.
     pub fn at(&self) -> u64
         ensures { result ≡ self.now.at }
     {
         self.at
     }
 
-    /// Takes a piece of the source, where nothing is ahead. Whether something is ahead then.
+    /// Reads a piece of the source if nothing is ahead. Returns whether something is ahead then.
     #[tactic(auto, using(crate::proofs::Known::kept_ahead, crate::proofs::Known::consumes_none))]
     pub(crate) fn fill<S: Source>(&mut self, alloc: Global, from: &mut S) -> Result<bool, PortError>
         ensures kept { Consumes (remaining self.old (S.left from.old)) (remaining self.new (S.left from.new)) [] }
@@ -76,7 +76,7 @@ impl Splitter {
         self.end - self.next
     }
 
-    /// Takes a piece of the source in place of what is ahead.
+    /// Reads a piece of the source, which replaces what is ahead.
     fn refill<S: Source>(&mut self, alloc: Global, from: &mut S) -> Result<(), PortError>
         ensures taken { Consumes (S.left from.old) (S.left from.new) self.new.ahead }
         ensures at { self.new.at ≡ self.old.at }
@@ -100,7 +100,7 @@ impl Splitter {
         &ahead[..count]
     }
 
-    /// Goes over so many of the bytes ahead.
+    /// Consumes so many of the bytes ahead.
     pub(crate) fn advance(&mut self, count: usize)
         requires within { count ≤ length self.old.ahead }
         requires room { self.old.at + count < 2 ^ 64 }
@@ -111,7 +111,8 @@ impl Splitter {
     }
 }
 
-/// Takes a piece of the source into a buffer, which gets its room first. How many bytes these are.
+/// Reads a piece of the source into a buffer, which is allocated first if it is empty. Returns how
+/// many bytes these are.
 fn read_piece<S: Source>(
     alloc: Global,
     piece: &mut Vec<u8>,
@@ -129,7 +130,7 @@ fn read_piece<S: Source>(
     from.read(piece)
 }
 
-/// Gives a buffer its room, where it has none.
+/// Allocates a buffer if it is empty.
 fn make_room(alloc: Global, piece: &mut Vec<u8>) -> Result<(), AllocError>
     requires { vec_len piece.old ≤ 65536 }
     ensures some { OnOk result (0 < vec_len piece.new) }

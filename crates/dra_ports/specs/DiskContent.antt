@@ -1,8 +1,8 @@
 -- What a disk holds, what a crash may leave of it, and what its calls do to both.
 use Rattle.std.specs.Prelude.{◌≡◌, ◌⊎◌, ℕ, ◌+◌, ◌-◌, min, Bool, true, false, List, [], ◌∷◌, ◌++◌, length, take, drop, map, replicate, Option, Some, None, if◌then◌else◌}
 
--- What is sure after a crash: at each offset up to the old end the byte that a crash can't change, or
--- None where the byte may be any. The file may be longer, with any bytes there, or it may not.
+-- What is sure after a crash: `places` has at each offset up to the old end the byte that a crash can't
+-- change, or None where it may be any byte. The file may be longer, with any bytes there, or it may not.
 pub record Sure : Type 0 where
   pub places : List (Option ℕ)
   pub longer : Bool

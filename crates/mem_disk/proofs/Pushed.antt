@@ -29,7 +29,7 @@ starts_here xs = ([], sym (append-nil xs))
 pub starts_on : (xs old new : List ℕ) (b : ℕ) → StartsWith old xs → new ≡ old ++ b ∷ [] → StartsWith new xs
 starts_on xs old new b s is = (s.0 ++ b ∷ [], is ∙ ap (λ (l : List ℕ). l ++ b ∷ []) s.1 ∙ append_assoc xs s.0 (b ∷ []))
 
--- a front of the places, and one more
+-- a prefix of the places, and one more
 pub agrees_next : (places : List (Option ℕ)) (at : ℕ) (old new : List ℕ) (b : ℕ) → at < length places → length old ≡ at → Agrees (take at places) old → Agrees (get_or places at None ∷ []) (b ∷ []) → new ≡ old ++ b ∷ [] → Agrees (take (at + 1) places) new
 agrees_next places at old new b within len p q is =
     subst (λ (ps : List (Option ℕ)). Agrees ps new) (sym (take_more places at None within)) (subst (Agrees (take at places ++ get_or places at None ∷ [])) (sym is) (agrees_push (take at places) (get_or places at None) old b (omega (arith, len, within, length-take at places)) p q))

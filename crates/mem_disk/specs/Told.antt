@@ -1,4 +1,4 @@
--- What a disk in memory tells.
+-- What a disk in memory exposes.
 use Rattle.std.specs.Prelude.{◌≡◌, ℕ, ◌+◌, ◌-◌, min, List, [], ◌∷◌, ◌++◌, length, take, drop, map, replicate, Option, None, true, Result, Ok, Err, if◌then◌else◌}
 use Rattle.dra_ports.specs.DiskContent.{Content, Sure}
 use Rattle.dra_ports.specs.Memory.{Plan, after_call, after_fault, fails_next, plan_of}
@@ -22,7 +22,7 @@ moments_of d = (content_of d).earlier ++ (content_of d).sure ∷ []
 abbrev pub disk_plan : MemDisk → Plan
 disk_plan d = plan_of d.failures
 
--- with one more call that may take memory: where it failed and the list does not name it, it got none
+-- with one more call that may allocate: if it failed and isn't in the list, it was out of memory
 abbrev pub after_change : {T E : Type 0} → Plan → Result T E → Plan
 after_change p (Ok x) = after_call p
 after_change p (Err e) = if fails_next p then after_call p else after_fault (after_call p)
@@ -31,6 +31,6 @@ after_change p (Err e) = if fails_next p then after_call p else after_fault (aft
 abbrev pub gapped : ℕ → ℕ → List (Option ℕ) → List (Option ℕ)
 gapped at n places = take at places ++ replicate (min (at + n) (length places) - min at (length places)) None ++ drop (at + n) places
 
--- the list begins with the other
+-- the other is a prefix of the list
 abbrev pub StartsWith : List ℕ → List ℕ → Type 0
 StartsWith xs front = (rest : List ℕ) × (xs ≡ front ++ rest)

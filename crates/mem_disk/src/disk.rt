@@ -23,7 +23,7 @@ pub struct MemDisk {
 
 impl MemDisk {
     /// A disk with these bytes, all of them sure. The calls whose numbers, from 1, are in
-    /// `failing` fail. `AllocError` comes only where memory runs out.
+    /// `failing` fail. Returns `AllocError` only if out of memory.
     pub fn new(alloc: Global, bytes: Vec<u8>, failing: Vec<u64>) -> Result<MemDisk, AllocError>
         ensures bytes { IfOk result (λ d. (content_of d).bytes ≡ bytes.items) }
         ensures sure { IfOk result (λ d. (content_of d).sure ≡ exactly bytes.items) }
@@ -38,7 +38,7 @@ impl MemDisk {
         })
     }
 
-    /// What a read gives.
+    /// What a read returns.
     pub fn bytes(&self) -> &[u8]
         ensures { result.now ≡ (content_of self.now).bytes }
     {
@@ -53,8 +53,8 @@ impl MemDisk {
     }
 
     /// The disk that a crash at the moment `at`, from 0, leaves: of the byte lists that it may leave
-    /// the one that `pick` chooses, all of them sure, on a disk none of whose calls is to fail.
-    /// `AllocError` comes only where memory runs out.
+    /// the one that `pick` chooses, all bytes of it sure, on a disk whose calls don't fail.
+    /// Returns `AllocError` only if out of memory.
     pub fn crashed(&self, alloc: Global, at: usize, pick: u64) -> Result<MemDisk, AllocError>
         requires { at < length (moments_of self.now) }
         ensures image { IfOk result (λ d. IsImage (get_or (moments_of self.now) at (content_of self.now).sure) (content_of d).bytes) }
@@ -70,7 +70,7 @@ impl MemDisk {
         MemDisk::new(alloc, bytes, Vec::new(alloc))
     }
 
-    /// Goes one moment on.
+    /// Moves on to the next moment.
     fn advance(&mut self, next: Moment) -> Result<(), AllocError>
         ensures ok { OnOk result (content_of self.new ≡ moved next.bytes.items (sure_of next) (content_of self.old)) }
         ensures err { OnErr result (content_of self.new ≡ content_of self.old) }
@@ -82,7 +82,7 @@ impl MemDisk {
         Ok(())
     }
 
-    /// Goes on to a moment, or counts a fault where there was no memory for it.
+    /// Moves on to a moment, or counts an error if it is out of memory.
     fn change(&mut self, next: Result<Moment, AllocError>) -> Result<(), PortError>
         ensures ok { OnOk result (IfOk next (λ m. content_of self.new ≡ moved m.bytes.items (sure_of m) (content_of self.old))) }
         ensures made { OnOk result (IsOk next) }
@@ -103,8 +103,8 @@ impl MemDisk {
 }
 
 /// A call whose number is in the list of those that fail returns `Failed` and changes nothing
-/// but the counts. Each other call succeeds, but for a write, a cut or a sync that gets no memory:
-/// then too only the counts change.
+/// but the counts. Each other call succeeds, except for a write, a cut or a sync that is out of
+/// memory: then too only the counts change.
 impl Disk for MemDisk {
     ghost use Rattle.std.specs.Prelude.{Some};
     ghost use Rattle.mem_disk.specs.Told.{content_of, disk_plan};

@@ -1,4 +1,4 @@
-//! A disk in memory, which keeps what a crash may leave at each moment and tells it.
+//! A disk in memory, which keeps what a crash may leave at each moment and exposes it.
 #![tactic(auto)]
 
 mod disk;

@@ -10,9 +10,9 @@ const PICKS: u64 = 8;
 /// What a disk holds at one moment, and what is sure after a crash then.
 #[derive(Drop)]
 pub struct Moment {
-    /// What a read gives.
+    /// What a read returns.
     pub bytes: Vec<u8>,
-    /// At each place up to the old end the byte that a crash can't change, or `None` where it may be any
+    /// At each offset up to the old end the byte that a crash can't change, or `None` where it may be any
     /// byte.
     pub places: Vec<Option<u8>>,
     /// Whether a crash may leave bytes past the places.
@@ -116,7 +116,7 @@ impl Moment {
         Ok(image)
     }
 
-    /// The places, with a byte of its own at each that isn't sure.
+    /// The bytes at the places, with a chosen byte at each that isn't sure.
     fn settled(&self, alloc: Global, pick: u64) -> Result<Vec<u8>, AllocError>
         ensures agrees { IfOk result (λ v. Agrees self.now.places.items v.items) }
         ensures len { IfOk result (λ v. length v.items ≡ length self.now.places.items) }
@@ -129,7 +129,7 @@ impl Moment {
         Ok(image)
     }
 
-    /// The byte at a place, where it is sure, and a chosen one elsewhere.
+    /// The byte at a place if it is sure, and else a chosen one.
     fn at_place(&self, at: usize, pick: u64) -> u8
         requires { at < length self.now.places.items }
         ensures { Agrees (get_or self.now.places.items at None ∷ []) (result ∷ []) }
@@ -140,8 +140,8 @@ impl Moment {
         }
     }
 
-    /// Puts bytes at the end, up to some bytes past what a read gives, or none, where a crash may
-    /// leave any there.
+    /// Appends bytes, up to some bytes past what a read returns, or none, if a crash may leave any
+    /// there.
     fn lengthen(&self, image: &mut Vec<u8>, pick: u64) -> Result<(), AllocError>
         ensures starts { OnOk result (StartsWith image.new.items image.old.items) }
         ensures end { OnOk result (self.now.longer ≡ false → image.new.items ≡ image.old.items) }

@@ -44,7 +44,7 @@ module _ {E : Type 0} where
   turn_ticket g s p b (Holding t h) k e = (k.0, refl)
   turn_ticket g s p b (Returned t old h) k e = (k.0, refl)
 
-  -- where it isn't in turn, it stands with any history, and one ticket further if its own isn't the one served
+  -- if it isn't in turn, it fits any history, and one ticket further if its own isn't the one served
   others_wait : (g s p p' : ℕ) (b b' : List E) (st : Stage E) → Stands g s p b st → (in_turn st ≡ 1 → ⊥) → Stands g s p' b' st
   others_wait g s p p' b b' Idle k n = tt
   others_wait g s p p' b b' (Waiting t) k n = k
@@ -97,7 +97,7 @@ module _ {E : Type 0} where
       (λ (x : w ≡ u). absurd (not_both (ticketed u.stage) a (sym (ap (λ (z : View E). ticketed z.stage) x) ∙ out)))
       (at_snoc l w u j e)
 
-  -- where nobody is in turn after the step and this view was not before it, nobody was
+  -- if nobody is in turn after the step and this view was not before it, nobody was
   rest_back : (l : List (View E)) (i : ℕ) (v w : View E) → get_elem? l i ≡ some v → in_turn v.stage ≡ 0 → EachView (λ j u. in_turn u.stage ≡ 0) (set l i w) → EachView (λ j u. in_turn u.stage ≡ 0) l
   rest_back l i v w at out h j u e = dite (ℕ_discrete j i)
       (λ is. ap (λ (z : View E). in_turn z.stage) (some-injective u v (sym e ∙ ap (get_elem? l) is ∙ at)) ∙ out)
@@ -118,7 +118,7 @@ grown_length : {E : Type 0} (old now : List E) → Grown old now → (length now
 grown_length old now (inl e) = inl (ap length e)
 grown_length old now (inr e) = inr (ap length e.1 ∙ omega (arith, length-append old (e.0 ∷ [])))
 
--- how often the new places have p
+-- how often p is among the new indices
 fresh_times : (a b p : ℕ) → (b ≡ a) ⊎ (b ≡ a + 1) → (a ≤ b) × (p ≤ a → times p (new_places a b) ≡ 0) × (a < p → p ≤ b → times p (new_places a b) ≡ 1) × (b < p → times p (new_places a b) ≡ 0)
 fresh_times a b p (inl e) = (omega arith, (λ _. no_new a b p e), (λ x y. absurd (omega arith)), (λ _. no_new a b p e))
 fresh_times a b p (inr e) = (omega arith, (λ x. new_elsewhere a b p e (λ q. absurd (omega arith))), (λ x y. new_here a b p e (omega arith)), (λ x. new_elsewhere a b p e (λ q. absurd (omega arith))))
@@ -211,7 +211,7 @@ module _ {T E : Type 0} (history : T → List E) (number : T → ℕ) (opening :
         (g, ap (λ (ws : List ℕ). get_or ws 0 0) r.words, refl),
       )
 
-  -- loads leave the words
+  -- loads don't change the words
   loaded : (s : St) (r : Rule s) → set s.words 1 (get_or s.words 1 0) ≡ (r.given % M) ∷ (r.served % M) ∷ []
   loaded s r = ap (λ (ws : List ℕ). set ws 1 (get_or ws 1 0)) r.words
 
@@ -542,7 +542,7 @@ module _ {T E : Type 0} (history : T → List E) (number : T → ℕ) (opening :
         after = λ p a. refl;
       }
 
-  -- what the last state says of the slot
+  -- what the last state shows about the slot
   pub ended : (id : ℕ) (v : View E) (words : List ℕ) (xs : List (Option T)) → Final (Seen Rule id v) words xs → v.stage ≡ Idle → v.share ≡ passes → 0 < v.share
       → (x : T) × (get_elem? xs 0 ≡ some (Some x)) × IsPrefix v.front (history x) × (number x ≡ fixed) × OwnsAll opening (history x) v.own
   ended id v words xs f idle all has = let k = closes f.0 f.1.0 id v f.1.1 idle all has in (k.0, f.4 0 (Some k.0) k.1, k.2, k.3, k.4)

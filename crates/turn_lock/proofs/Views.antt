@@ -57,7 +57,7 @@ pub times_append : (p : ℕ) (xs ys : List ℕ) → times p (xs ++ ys) ≡ times
 times_append p [] ys = omega arith
 times_append p (x ∷ xs) ys = let h = times_append p xs ys in omega arith
 
--- what the new places count at p
+-- how often p is among the new indices
 pub no_new : (a b p : ℕ) → b ≡ a → times p (new_places a b) ≡ 0
 no_new a b p e = rw (eq-eqb a b (sym e))
 
@@ -96,7 +96,7 @@ module _ {E : Type 0} where
   pub longer_cases : (x y : List E) (F : List E → List E → Type 0) → (length x ≤ length y → F y x) → (length y ≤ length x → F x y) → F (longer x y) (shorter x y)
   longer_cases x y F f g = longer_by (ltb (length x) (length y)) x y refl F f g
 
-  -- of two beginnings of one list the shorter begins the longer
+  -- of two prefixes of one list the shorter is a prefix of the longer
   pub prefix_shorter : (xs ys zs : List E) → IsPrefix xs zs → IsPrefix ys zs → length xs ≤ length ys → IsPrefix xs ys
   prefix_shorter [] ys zs p q le = (ys, refl)
   prefix_shorter (x ∷ xs) [] zs p q le = absurd (omega arith)

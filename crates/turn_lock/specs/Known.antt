@@ -10,7 +10,9 @@ pub record Opened (E : Type 0) : Type 0 where
   pub opening : List E
   pub number : ℕ
 
--- A pass: the table of its lock, the history that it saw last, the places of the entries that were made with it or with one joined into it, how many passes it may still be split into, and the number of the state.
+-- A pass: the table of its lock, the history that it saw last, the indices of the entries that were
+-- made with it or with one joined into it, how many passes it may still be split into, and the number
+-- of the state.
 -- While it has a turn, `turn` is the history that the turn began with
 pub record Known (E : Type 0) : Type 0 where
   pub table : TableId
@@ -36,7 +38,7 @@ module _ {E : Type 0} where
   abbrev pub longer : List E → List E → List E
   longer a b = if ltb (length a) (length b) then b else a
 
-  -- the pass that `new` gives: it knows the opening, and has every share
+  -- the pass that `new` returns: it knows the opening, and has every share
   abbrev pub first_pass : Opened E → Known E
   first_pass l = record { table = l.table; front = l.opening; own = []; share = l.passes; number = l.number; turn = None }
 
@@ -48,11 +50,11 @@ module _ {E : Type 0} where
   began None = []
   began (Some h) = h
 
-  -- after `leave`, which put this history back: it is the front, and the place that is new in it is the pass's own
+  -- after `leave`, which put this history back: it is the front, and the index that is new in it is the pass's own
   abbrev pub left : Known E → List E → Known E
   left p h = record { table = p.table; front = h; own = p.own ++ new_places (length (began p.turn)) (length h); share = p.share; number = p.number; turn = None }
 
-  -- after `split`, and the pass that it gives
+  -- after `split`, and the pass that it returns
   abbrev pub lessened : Known E → Known E
   lessened p = record { table = p.table; front = p.front; own = p.own; share = p.share - 1; number = p.number; turn = p.turn }
 

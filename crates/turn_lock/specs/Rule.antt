@@ -21,7 +21,7 @@ module _ {E : Type 0} where
   first_view history passes number = record { front = history; beside = []; own = []; share = passes; number = number; stage = Idle }
 
   module _ (given served published : ℕ) (base : List E) where
-    -- what the rule says of a stage
+    -- what the rule states about a stage
     abbrev pub Stands : Stage E → Type 0
     Stands Idle = Unit {0}
     Stands (Waiting t) = (served ≤ t) × (t < given)
@@ -29,7 +29,7 @@ module _ {E : Type 0} where
     Stands (Holding t h) = (t ≡ served) × (t < given) × (published ≡ length base) × (h ≡ base)
     Stands (Returned t old h) = (t ≡ served) × (t < given) × (published ≡ length old) × (h ≡ base) × Grown old h
 
-    -- what it says of a view, where the state has this number
+    -- what it states about a view, if the state has this number
     pub record Fits (number : ℕ) (v : View E) : Type 0 where
       pub stands : Stands v.stage
       pub alive : ticketed v.stage ≤ v.share
@@ -61,7 +61,7 @@ pub record InOrder {T E : Type 0} (history : T → List E) (number : T → ℕ) 
   pub apart : (j k : ℕ) (v w : View E) → get_elem? s.views j ≡ some v → get_elem? s.views k ≡ some w → j ≢ k → ticketed v.stage ≡ 1 → ticketed w.stage ≡ 1 → ticket v.stage ≢ ticket w.stage
   pub home : AtHome history number fixed base s.homes ⊎ IsOut s.views
   pub resting : ((j : ℕ) (v : View E) → get_elem? s.views j ≡ some v → in_turn v.stage ≡ 0) → published ≡ length base
-  -- each place past the opening is one view's own, up to the last turn's end, and no other place is
+  -- each index past the opening is one view's own, up to the last turn's end, and no other index is
   pub opened : length opening ≤ published
   pub owned : (p : ℕ) → length opening < p → p ≤ published → total (λ v. times p v.own) s.views ≡ 1
   pub before : (p : ℕ) → p ≤ length opening → total (λ v. times p v.own) s.views ≡ 0

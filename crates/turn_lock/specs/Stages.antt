@@ -7,7 +7,7 @@ use Rattle.turn_lock.specs.declared.view.Stage.TheVariants.{Idle, Waiting, InTur
 use Rattle.turn_lock.specs.Known.{Known}
 
 module _ {E : Type 0} where
-  -- 1 where it has a ticket, else 0
+  -- 1 if it has a ticket, else 0
   abbrev pub ticketed : Stage E → ℕ
   ticketed Idle = 0
   ticketed (Waiting t) = 1
@@ -15,7 +15,7 @@ module _ {E : Type 0} where
   ticketed (Holding t h) = 1
   ticketed (Returned t old h) = 1
 
-  -- 1 where its ticket is known to be the one served, else 0
+  -- 1 if its ticket is known to be the one served, else 0
   abbrev pub in_turn : Stage E → ℕ
   in_turn Idle = 0
   in_turn (Waiting t) = 0
@@ -23,7 +23,7 @@ module _ {E : Type 0} where
   in_turn (Holding t h) = 1
   in_turn (Returned t old h) = 1
 
-  -- its ticket, where it has one
+  -- its ticket, if it has one
   abbrev pub ticket : Stage E → ℕ
   ticket Idle = 0
   ticket (Waiting t) = t

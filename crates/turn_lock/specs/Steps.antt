@@ -1,4 +1,4 @@
--- The eight kinds of step, and what each tells the seat that takes it. No other step is taken.
+-- The eight kinds of step, and what each shows the seat that takes it. No other step is taken.
 use Rattle.std.specs.Prelude.{◌≡◌, ◌≢◌, ℕ, ◌+◌, ◌-◌, ◌%◌, ◌≤◌, List, [], ◌∷◌, ◌++◌, length, if◌then◌else◌, Option, Some, ltb}
 use mathlib.Core.List.{IsPrefix}
 use Rattle.atomic_table.specs.Table.{Me, Step}
@@ -26,7 +26,7 @@ module _ {E : Type 0} where
   abbrev pub new_view : View E → View E
   new_view v = record { front = v.front; beside = v.beside; own = []; share = 1; number = v.number; stage = Idle }
 
-  -- join: the kept view has the longer front, and the places and shares of both; the other is spent
+  -- join: the kept view has the longer front, and the indices and shares of both; the other is spent
   abbrev pub joined_view : View E → View E → View E
   joined_view v w = record { front = longer v.front w.front; beside = shorter v.front w.front; own = v.own ++ w.own; share = v.share + w.share; number = v.number; stage = v.stage }
 
@@ -58,6 +58,6 @@ module _ {T E : Type 0} where
   abbrev pub gave_up_turn : Step (Option T) → Sat T E → ℕ → Sat T E → Type 0
   gave_up_turn st m n m' = (t : ℕ) (old now : List E) → m.0.stage ≡ Returned t old now → m' ≡ (after_turn m.0 old now, m.1)
 
-  -- meet, after a join: the shorter of the two fronts begins the longer
+  -- meet, after a join: the shorter of the two fronts is a prefix of the longer
   abbrev pub met : Step (Option T) → Sat T E → ℕ → Sat T E → Type 0
   met st m n m' = (m' ≡ (met_view m.0, m.1)) × (length m.0.beside ≤ length m.0.front → IsPrefix m.0.beside m.0.front) × (m.0.share ≤ 65)

@@ -2,12 +2,12 @@
 //!
 //! Each thread enters with a pass of its own. A pass knows which history it saw last, and which
 //! entries were made with it, and this knowledge survives the threads: when all passes are joined
-//! again, each entry that was made under the lock belongs to just one of them. So what several
-//! threads did can be told apart afterwards, though their turns came in any order.
+//! again, each entry that was made under the lock belongs to exactly one of them. So what several
+//! threads did can be attributed to them afterwards, though their turns came in any order.
 //!
-//! The lock hands out numbered tickets and serves them in order. A pass has no bytes but a count,
-//! and entering, leaving, joining and closing take no memory. No clause says that a thread gets its
-//! turn, only what holds once it has it.
+//! The lock hands out numbered tickets and serves them in order. A pass stores nothing but a count,
+//! and entering, leaving, joining and closing allocate nothing. No clause states that a thread gets
+//! its turn, only what holds once it has it.
 #![tactic(auto)]
 
 mod lock;

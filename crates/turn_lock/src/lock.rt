@@ -39,7 +39,7 @@ impl<T: Recorded, A: Allocator> Model for TurnLock<T, A> {
 }
 
 /// What one thread enters a lock with. Contracts see what it knows: the history that it saw last,
-/// the places of the entries that were made with it, its share, the state's number, and while it has
+/// the indices of the entries that were made with it, its share, the state's number, and while it has
 /// a turn the history that the turn began with.
 #[derive(Drop)]
 pub struct Pass<T: Recorded> {
@@ -59,7 +59,7 @@ impl<T: Recorded> Model for Pass<T> {
     ghost invariant = { λ p. (p.share ≡ p.seat.me.0.share) × (0 < p.share) × (rests p.seat.me.0.stage ≡ true) × (p.seat.me.1 ≡ carried p.seat.me.0.stage) };
 }
 
-/// Why a lock wasn't made: memory ran out. The state comes back.
+/// Why a lock wasn't made: out of memory. The state is returned.
 #[derive(Drop)]
 pub struct Refused<T> {
     pub state: T,
@@ -94,8 +94,8 @@ fn taken_back<T, A: Allocator>(mut slots: Vec<Option<T>, A>) -> Refused<T>
 impl<T: Recorded, A: Allocator> TurnLock<T, A> {
     /// A lock over a state, and its first pass, which has a share of `passes`.
     ///
-    /// `passes` is how many passes there can be at once, 1 to 65. Where memory runs out the state
-    /// comes back.
+    /// `passes` is how many passes there can be at once, 1 to 65. If out of memory, the state
+    /// is returned.
     pub fn new(alloc: A, state: T, passes: u64) -> Result<(TurnLock<T, A>, Pass<T>), Refused<T>>
     where
         A: Clone,
@@ -142,7 +142,7 @@ impl<T: Recorded, A: Allocator> TurnLock<T, A> {
         unreachable!()
     }
 
-    /// Waits for a turn, and gives the state. Takes no memory.
+    /// Waits for a turn, and returns the state. Allocates nothing.
     ///
     /// The state's history begins with the pass's front, the history that the pass saw last, and its
     /// number is the one at `new`. The state is moved out of the lock, so nobody else has it until the
@@ -167,10 +167,10 @@ impl<T: Recorded, A: Allocator> TurnLock<T, A> {
         Turn::new(state)
     }
 
-    /// Ends the turn of a pass, and puts the state back. Takes no memory.
+    /// Ends the turn of a pass, and puts the state back. Allocates nothing.
     ///
     /// The state's history is the one at `enter`, or that one with one entry more, and its number is
-    /// unchanged. The history becomes the pass's front, and the place of the new entry its own.
+    /// unchanged. The history becomes the pass's front, and the index of the new entry one of its own.
     pub fn leave(&self, turn: Turn<T>, pass: &mut Pass<T>)
         requires of { IsOf self.now pass.old }
         requires turn { (began : List T.Entry) × HasTurn pass.old began × Grown began (T.history turn) }
@@ -190,7 +190,7 @@ impl<T: Recorded, A: Allocator> TurnLock<T, A> {
 
     /// A pass for another thread, which knows the same history and takes a share of 1 from this one.
     ///
-    /// An error means that memory ran out, and changes nothing.
+    /// An error means out of memory, and changes nothing.
     pub fn split(&self, pass: &mut Pass<T>) -> Result<Pass<T>, AllocError>
         requires of { IsOf self.now pass.old }
         requires free { IsFree pass.old }
@@ -205,7 +205,7 @@ impl<T: Recorded, A: Allocator> TurnLock<T, A> {
         Ok(Pass { seat, share: 1 })
     }
 
-    /// One pass of two, with the entries and the shares of both. Takes no memory.
+    /// One pass of two, with the entries and the shares of both. Allocates nothing.
     ///
     /// Of the two fronts the shorter is a prefix of the longer, which becomes the front.
     pub fn join(&self, pass: Pass<T>, other: Pass<T>) -> Pass<T>
@@ -228,9 +228,9 @@ impl<T: Recorded, A: Allocator> TurnLock<T, A> {
         }
     }
 
-    /// Gives the state back, once every other pass was joined into this one. Takes no memory.
+    /// Returns the state, once every other pass was joined into this one. Allocates nothing.
     ///
-    /// The state's history begins with the pass's front, and its places past the history at `new` are
+    /// The state's history begins with the pass's front, and its indices past the history at `new` are
     /// the pass's own, each once.
     pub fn close(self, pass: Pass<T>) -> T
         requires of { IsOf self pass }
@@ -252,7 +252,7 @@ impl<T: Recorded, A: Allocator> TurnLock<T, A> {
 }
 
 impl<T: Recorded> Pass<T> {
-    /// How many passes this one stands for: it can be split until it stands for 1. Takes no memory.
+    /// How many passes this one represents: it can be split until it represents 1. Allocates nothing.
     pub fn share(&self) -> u64
         ensures { result ≡ self.now.share }
     {

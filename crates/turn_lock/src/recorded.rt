@@ -3,7 +3,7 @@ ghost use Rattle.std.specs.Prelude.{ℕ, List};
 /// A state with a history, a list of entries that only grows at its end, and with a number that is
 /// fixed from the beginning, such as the limit of a ledger.
 ///
-/// Contracts alone speak of either: a type gives its history and its number as ghost members, and
+/// Only contracts mention either: a type defines its history and its number as ghost members, and
 /// needs no code for them.
 pub trait Recorded {
     /// What the history is a list of.
@@ -12,6 +12,6 @@ pub trait Recorded {
     /// The history of the state.
     ghost history: { Self → List Self.Entry };
 
-    /// The number that each turn leaves as it is.
+    /// The number that no turn changes.
     ghost number: { Self → ℕ };
 }

@@ -23,7 +23,7 @@ impl<T: Recorded> Play<Option<T>, View<T::Entry>> for Take {
     ghost then = { took };
 }
 
-/// Looks which ticket is served.
+/// Reads which ticket is served.
 pub(crate) struct Look;
 
 impl<T: Recorded> Play<Option<T>, View<T::Entry>> for Look {
@@ -81,7 +81,7 @@ impl<E> Join<View<E>> for JoinViews {
     ghost spent = { spent_view };
 }
 
-/// Looks, after a join, how the two fronts lie.
+/// Finds, after a join, that the shorter of the two fronts is a prefix of the longer.
 pub(crate) struct Meet;
 
 impl<T: Recorded> Play<Option<T>, View<T::Entry>> for Meet {

@@ -50,7 +50,7 @@ fn take_turns<R: Wait>(
     pass
 }
 
-/// Each entry was made with just one of the two passes.
+/// Each entry was made with exactly one of the two passes.
 fn close_both(lock: TurnLock<Count>, first: Pass<Count>, second: Pass<Count>) -> Count
     requires of { IsOf lock first × IsOf lock second }
     requires free { IsFree first × IsFree second }

@@ -22,16 +22,16 @@ pub struct View<E> {
     pub front: LinkedList<E>,
     /// Right after two passes were joined, the shorter of their fronts.
     pub beside: LinkedList<E>,
-    /// The places of the entries that were made with it, or with one joined into it.
+    /// The indices of the entries that were made with it, or with one joined into it.
     pub own: LinkedList<u64>,
-    /// How many passes it stands for, or 0 once it was joined into another.
+    /// How many passes it represents, or 0 once it was joined into another.
     pub share: u64,
     /// The state's number.
     pub number: u64,
     pub stage: Stage<E>,
 }
 
-/// What the lock's table is told when it is made: the state as it was then, and the number of passes.
+/// What the lock's table is given when it is made: the state as it was then, and the number of passes.
 #[derive(Drop)]
 pub struct Start<T> {
     pub state: Snapshot<T>,
