@@ -28,7 +28,7 @@ pub enum CheckError {
     NotBool(CelType),
     /// The span of a call that the profile leaves out of the language, or of a list or map that
     /// would be inside another.
-    #[error("the selector language leaves out what stands at bytes {} to {}", .0.start, .0.end)]
+    #[error("the selector language does not support what is at bytes {} to {}", .0.start, .0.end)]
     NotSupported(Span),
     /// Out of memory. The check allocates nothing, so it never returns this.
     #[error("out of memory")]

@@ -24,7 +24,7 @@ pub enum ParseError {
     Lex(LexError),
     /// The span of the first token such that no expression begins with the tokens up to and with
     /// it. The end of the text counts as a token of empty span.
-    #[error("no expression goes on with what stands at bytes {} to {}", .0.start, .0.end)]
+    #[error("unexpected token at bytes {} to {}", .0.start, .0.end)]
     Unexpected(Span),
     /// More than 64 brackets are open, or the tree is more than 64 levels deep.
     #[error("more than 64 levels deep")]
@@ -36,7 +36,7 @@ pub enum ParseError {
     #[error("out of memory")]
     Memory,
     /// The span of the first token that the profile leaves out of the language.
-    #[error("the selector language leaves out what stands at bytes {} to {}", .0.start, .0.end)]
+    #[error("the selector language does not support what is at bytes {} to {}", .0.start, .0.end)]
     NotSupported(Span),
 }
 
