@@ -1,10 +1,10 @@
-ghost use Rattle.std.specs.Prelude.{◌≡◌, ◌<◌, ◌≤◌, Ok, Err, length, map, option_map};
+ghost use Rattle.std.specs.Prelude.{◌≡◌, ◌<◌, ◌≤◌, Ok, Err, length, map};
 ghost use Rattle.cel_tree.specs.Ast.{tree_view, constant_view};
-ghost use Rattle.cel_tree.specs.Typing.{look_up, constant_type, name_type, is_device, is_ident, is_bind, device_type, variable_of};
+ghost use Rattle.cel_tree.specs.Typing.{look_up, constant_type, name_type, is_device, device_type};
 ghost use Rattle.cel_check.specs.Scopes.{names_of};
 
 use crate::scope::Scope;
-use cel_tree::{CelType, Facet, Fault, Kind, Literal, Span, Tree};
+use cel_tree::{CelType, Facet, Fault, Literal, Span, Tree, is_ident};
 
 pub fn constant_type(literal: &Literal) -> CelType
     ensures { result ≡ constant_type (constant_view literal.now) }
@@ -28,27 +28,11 @@ pub fn name_type(span: Span, name: &str, scope: &Scope) -> Result<CelType, Fault
     }
 }
 
-fn is_ident(tree: &Tree, name: &str) -> bool
-    ensures { result ≡ is_ident name.now (tree_view tree.now) }
-{
-    match &tree.kind {
-        Kind::Ident(ident) => ident.as_str() == name,
-        _ => false,
-    }
-}
-
 /// Whether the tree is `device`, and no bound name hides it.
 pub fn is_device(tree: &Tree, scope: &Scope) -> bool
     ensures { result ≡ is_device (names_of scope.now) (tree_view tree.now) }
 {
     is_ident(tree, "device") && scope.find("device").is_none()
-}
-
-/// Whether a method is `cel.bind`.
-pub fn is_bind(object: &Tree, function: &str) -> bool
-    ensures { result ≡ is_bind (tree_view object.now) function.now }
-{
-    is_ident(object, "cel") && function == "bind"
 }
 
 /// The type of a member of `device`.
@@ -63,15 +47,5 @@ pub fn device_type(span: Span, name: &str) -> Result<CelType, Fault>
         Ok(CelType::Domains(Facet::Capacities))
     } else {
         Err(Fault::NoSuchName(span))
-    }
-}
-
-/// The variable of a macro: an identifier.
-pub fn variable_of(tree: &Tree) -> Option<&str>
-    ensures { option_map (λ x. x.now) result ≡ variable_of (tree_view tree.now) }
-{
-    match &tree.kind {
-        Kind::Ident(name) => Some(name.as_str()),
-        _ => None,
     }
 }

@@ -6,12 +6,13 @@ ghost use Rattle.cel_check.specs.Fronts.{with_last, also};
 ghost use Rattle.cel_check.specs.Parts.{method_of, list_of, map_of};
 
 use crate::keys::{is_key, keys_type};
-use crate::leaf::{constant_type, device_type, is_bind, is_device, name_type, variable_of};
+use crate::leaf::{constant_type, device_type, is_device, name_type};
 use crate::scope::Scope;
 use cel_tree::{
     Arguments, Called, CelType, Comprehension, Entry, Fault, Kind, Scalar, Span, Tree, binary_type,
     called_of, called_type, comprehension_type, conditional_type, element_type, index_type,
-    item_type, joined, member_type, method_called_type, nodes_have_their_lists, row, unary_type,
+    is_bind, item_type, joined, member_type, method_called_type, nodes_have_their_lists, row,
+    unary_type, variable_of,
 };
 
 /// The type of a tree under the names that are bound, or its first fault.

@@ -1,11 +1,11 @@
 ghost use Rattle.std.specs.Prelude.{◌≡◌, ◌&&◌, option_map, codes};
 ghost use Rattle.cel_tree.specs.Ast.{tree_view};
-ghost use Rattle.cel_tree.specs.Typing.{is_none, is_ident, is_bind};
+ghost use Rattle.cel_tree.specs.Typing.{is_none};
 ghost use Rattle.cel_tree.specs.Estimate.{look_up, is_device};
 ghost use Rattle.cel_cost.specs.Capped.{seen, names};
 
 use crate::bounds::Bounds;
-use cel_tree::{Kind, Tree};
+use cel_tree::{Tree, is_ident};
 
 /// The names in scope, the innermost first, with the bounds of their values.
 #[derive(Clone, Copy)]
@@ -36,20 +36,4 @@ impl<'a> Scope<'a> {
     {
         is_ident(tree, "device") && self.find("device").is_none()
     }
-}
-
-fn is_ident(tree: &Tree, name: &str) -> bool
-    ensures { result ≡ is_ident name.now (tree_view tree.now) }
-{
-    match &tree.kind {
-        Kind::Ident(ident) => ident.as_str() == name,
-        _ => false,
-    }
-}
-
-/// Whether `object.name` is `cel.bind`.
-pub fn is_bind(object: &Tree, name: &str) -> bool
-    ensures { result ≡ is_bind (tree_view object.now) name.now }
-{
-    is_ident(object, "cel") && name == "bind"
 }

@@ -12,9 +12,10 @@ use crate::bounds::{
 use crate::parts::{
     Parts, bind_bounds, call_bounds, comprehension_bounds, list_bounds, map_bounds, method_bounds,
 };
-use crate::scope::{Scope, is_bind};
+use crate::scope::Scope;
 use cel_tree::{
-    Called, Checked, Entry, KeyType, Kind, Literal, Tree, called_of, nodes_have_their_lists,
+    Called, Checked, Entry, KeyType, Kind, Literal, Tree, called_of, is_bind,
+    nodes_have_their_lists,
 };
 
 /// The most steps that the evaluation of the tree takes, or the greatest number of 64 bits where they

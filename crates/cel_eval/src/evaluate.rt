@@ -10,10 +10,13 @@ ghost use Rattle.cel_eval.specs.Answers.{bindings, Counts};
 
 use crate::making::Making;
 use crate::parts::{called_on, is_one, list_value, map_value, method_on, truth_value};
-use crate::scope::{Scope, is_bind, variable_of};
+use crate::scope::Scope;
 use crate::steps::{Steps, weighed, weights};
 use cel_meaning::{Connective, connective_of};
-use cel_tree::{Called, Comprehension, Entry, Kind, Tree, called_of, nodes_have_their_lists};
+use cel_tree::{
+    Called, Comprehension, Entry, Kind, Tree, called_of, is_bind, nodes_have_their_lists,
+    variable_of,
+};
 use cel_value::{
     DeviceEnv, EvalError, Key, Single, Value, binary, constant, device_member, elements, has,
     index, member, truth, unary, weight,

@@ -1,11 +1,10 @@
 ghost use Rattle.std.specs.Prelude.{◌≡◌, option_map, option_copied};
 ghost use Rattle.cel_tree.specs.Ast.{tree_view};
-ghost use Rattle.cel_tree.specs.Typing.{is_ident, is_bind, variable_of};
 ghost use Rattle.cel_meaning.specs.Meaning.{look_up, is_device, named};
 ghost use Rattle.cel_value.specs.Values.{Gives};
 ghost use Rattle.cel_eval.specs.Answers.{bindings};
 
-use cel_tree::{Kind, Tree};
+use cel_tree::{Tree, is_ident};
 use cel_value::{EvalError, Value};
 use dra_values::Duplicate;
 use std::alloc::Global;
@@ -52,31 +51,5 @@ impl<'a> Scope<'a> {
         ensures { result ≡ is_device (bindings self.now) (tree_view tree.now) }
     {
         is_ident(tree, "device") && self.find("device").is_none()
-    }
-}
-
-fn is_ident(tree: &Tree, name: &str) -> bool
-    ensures { result ≡ is_ident name.now (tree_view tree.now) }
-{
-    match &tree.kind {
-        Kind::Ident(ident) => ident.as_str() == name,
-        _ => false,
-    }
-}
-
-/// Whether a method is `cel.bind`.
-pub fn is_bind(object: &Tree, function: &str) -> bool
-    ensures { result ≡ is_bind (tree_view object.now) function.now }
-{
-    is_ident(object, "cel") && function == "bind"
-}
-
-/// The variable of a macro: an identifier.
-pub fn variable_of(tree: &Tree) -> Option<&str>
-    ensures { option_map (λ x. x.now) result ≡ variable_of (tree_view tree.now) }
-{
-    match &tree.kind {
-        Kind::Ident(name) => Some(name.as_str()),
-        _ => None,
     }
 }

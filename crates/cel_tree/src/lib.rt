@@ -7,6 +7,7 @@ mod checked;
 mod fault;
 mod laws;
 mod make;
+mod names;
 mod tables;
 mod tree;
 mod types;
@@ -17,6 +18,7 @@ pub use fault::{
     Fault, called_type, comprehension_type, item_type, joined, method_called_type, row,
 };
 pub use laws::{has_one_type, nodes_have_their_lists, types_are_found};
+pub use names::{is_bind, is_ident, variable_of};
 pub use tables::{
     binary_type, conditional_type, element_type, index_type, member_type, unary_type,
 };
