@@ -1,4 +1,4 @@
--- What the number of a word is.
+-- What the number of an argument is.
 use Rattle.std.proofs.Common.{ℕ, ◌<◌, ◌^◌, List, ◌≡◌, ◌∙◌, Bool, true, false, cond, length, Ok, Err, Result, refl, sym, arith, rules, inl, inr}
 use Rattle.std.specs.Prelude.{◌&&◌, None, Some, nat_le}
 use Rattle.std.specs.Str.Parse.{ParsesUnsigned, digits_value}
@@ -26,7 +26,7 @@ if_true : {X : Type 0} (b : Bool) (x y : X) → b ≡ true → cond b x y ≡ x
 if_true true x y e = refl
 if_true false x y e = absurd (cc)
 
--- a word that isn't read is a number that is too large
+-- an argument that isn't read is a number that is too large
 pub number_unread : {E : Type 0} (word : List ℕ) (r : Result ℕ E) (e : E) (most : ℕ) → r ≡ Err e → ParsesUnsigned 64 10 word r → is_number word ≡ true → most < 2 ^ 64 → None ≡ number_in most word
 number_unread {E} word (Ok n) e most is read number small = absurd (cc)
 number_unread {E} word (Err x) e most is read number small =

@@ -1,4 +1,4 @@
--- Two words of a list, and those behind them.
+-- Two arguments of a list, and those after them.
 use Rattle.std.proofs.Common.{ℕ, ◌+◌, ◌-◌, ◌<◌, List, [], ◌∷◌, ◌≡◌, ◌∙◌, suc, map, drop, get_or, length, refl, sym, ap, arith, drop-cons, length-drop}
 use Rattle.std.specs.Prelude.{Option, None, Some}
 use Rattle.std.specs.Option.{option_and_then}
@@ -42,7 +42,7 @@ one_left g [] some few = absurd (omega (arith, some))
 one_left g (w ∷ []) some few = refl
 one_left g (w ∷ v ∷ ws) some few = absurd (omega (arith, few))
 
--- where one word is left
+-- where one argument is left
 pub options_odd : {A : Type 0} (f : A → List ℕ) (xs : List A) (g : Given) (i : ℕ) → i < length xs → length xs - i < 2 → options_from g (drop i (map f xs)) ≡ None
 options_odd f xs g i more few =
     let long : length (drop i (map f xs)) ≡ length xs - i = length-drop i (map f xs) ∙ ap (λ (n : ℕ). n - i) (length-map xs f) in

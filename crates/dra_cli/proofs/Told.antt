@@ -1,4 +1,4 @@
--- What a run tells of its options.
+-- What a run states about its options.
 use Rattle.std.proofs.Common.{ℕ, ◌≡◌, ◌∙◌, List, sym, subst}
 use Rattle.std.specs.Prelude.{Option, Some}
 use Rattle.std.proofs.lemmas.List.Elements.{All-contains}
@@ -17,11 +17,11 @@ use Rattle.dra_cli.specs.Headline.{NamesBudget}
 use Rattle.dra_cli.specs.Program.{AsksFor}
 use Rattle.dra_cli.specs.Words.{options_of}
 
--- the words ask for it
+-- the arguments ask for it
 pub asks : (words : List (List ℕ)) (P : ReplayOptions → Type 0) (r : Option ReplayOptions) (options : ReplayOptions) → r ≡ options_of words → r ≡ Some options → P options → AsksFor words P
 asks words P r options is some so = record { options = options; asked = sym is ∙ some; so = so }
 
--- the steps of a search that met its budget are the budget
+-- the steps of a search that reached its budget are the budget
 cause_names : (s : State) (pod : Pod) (budget : ℕ) (node : List ℕ) (c : Cause) (steps : ℕ) → CauseBy s pod budget node c → c ≡ cause.Budget steps → steps ≡ budget
 cause_names s pod budget node c steps by is = (subst (λ (x : Cause). CauseBy s pod budget node x) is by).0
 

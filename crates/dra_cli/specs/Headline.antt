@@ -30,11 +30,11 @@ NamesBudget budget (reason.Users claim) = Unit {0}
 NamesBudget budget (reason.Nodes nodes) = (p : Passed) (steps : ℕ) → Contains nodes p → p.cause ≡ Budget steps → steps ≡ budget
 
 -- Each reservation grants an allocation over the state before it, and so does each adoption; each refusal
--- carries the first failure of a plan that was true at its place. Each verdict is true at its place:
+-- carries the first failure of a plan that was true at its index. Each verdict is true at its index:
 -- where it is `unsatisfiable`, no node has an allocation there, and where a node's cause is `budget`, the
--- first items of its walk, as many as the budget, are neither an allocation nor a fault, and there are
+-- first items of its walk, as many as the budget, are neither `Full` nor `Fault`, and there are
 -- more. Each denial carries the first refusal of its command that holds in the state before it, and
--- none is because memory ran out. At no place does a device have two holders, and at each the objects
+-- none is because memory ran out. At no index does a device have two holders, and at each the objects
 -- keep their limits, each user of a claim is a pod that is taken or bound, and such a pod uses each of
 -- its claims.
 pub record IsTrueHistory (budget : ℕ) (h : List Entry) : Type 0 where

@@ -5,7 +5,7 @@ use Rattle.replay_core.specs.declared.status.Status.{Status}
 use Rattle.replay_core.specs.declared.status.Status.TheVariants as status
 use Rattle.dra_cli.specs.Words.{options_of}
 
--- the words, each as its bytes, ask for a replay with options of which this holds
+-- the arguments, each as its bytes, ask for a replay with options of which this holds
 pub record AsksFor (words : List (List ℕ)) (P : ReplayOptions → Type 0) : Type 0 where
   pub options : ReplayOptions
   pub asked : options_of words ≡ Some options

@@ -1,4 +1,4 @@
--- What the words of a call ask for.
+-- What the arguments of a call ask for.
 use Rattle.std.specs.Prelude.{ℕ, ◌≤◌, List, [], ◌∷◌, Bool, ◌&&◌, Option, None, Some, length, nat_le, bytes_eq, codes, if◌then◌else◌, option_map, unwrap_or, IfSome}
 use Rattle.std.specs.Option.{option_and_then}
 use Rattle.std.specs.List.{list_all}
@@ -53,7 +53,7 @@ pub record AreFit (o : ReplayOptions) : Type 0 where
   pub least_entries : 1 ≤ o.entries
   pub most_entries : o.entries ≤ 1000000
 
--- these options, with those that words give: each a name and its value
+-- these options, with those that arguments set: each a name and its value
 abbrev pub options_from : Given → List (List ℕ) → Option Given
 options_from g [] = Some g
 options_from g (name ∷ []) = None
@@ -63,7 +63,7 @@ options_from g (name ∷ value ∷ words) = option_and_then (λ h. options_from 
 abbrev pub with_defaults : Given → ReplayOptions
 with_defaults g = record { budget = unwrap_or g.budget 100000; attempts = unwrap_or g.attempts 32; entries = unwrap_or g.entries 1000000 }
 
--- the options of a replay that the words ask for
+-- the options of a replay that the arguments ask for
 abbrev pub options_of : List (List ℕ) → Option ReplayOptions
 options_of [] = None
 options_of (word ∷ words) = if bytes_eq word (codes "replay") then option_map with_defaults (options_from no_options words) else None

@@ -1,8 +1,8 @@
 use replay_core::Status;
 use std::fmt;
 
-/// What the program says on the standard error of how its run ended: what was wrong, where (an
-/// offset counts the bytes of the input from 0), and what would be right. The words are free.
+/// What the program prints on the standard error about how its run ended: what was wrong, where (an
+/// offset counts the bytes of the input from 0), and what would be right. No format fixes this text.
 #[derive(Clone, Copy, Debug, PartialEq, Eq, Drop)]
 pub struct Fault(pub Status);
 

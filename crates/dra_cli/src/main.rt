@@ -15,7 +15,7 @@ use std::io::{self, ErrorKind};
 use std::process::ExitCode;
 use stdio::{StdSink, StdSource};
 
-/// The words of this call after the program's name.
+/// The arguments of this call after the program's name.
 fn words_of_call(rt: &HostRuntime) -> io::Result<Vec<String>> {
     let mut words: Vec<String> = env::args(rt)?.collect(rt.alloc())?;
     if !words.is_empty() {
@@ -24,7 +24,7 @@ fn words_of_call(rt: &HostRuntime) -> io::Result<Vec<String>> {
     Ok(words)
 }
 
-/// Does what the words of this call ask, over the standard input and output.
+/// Does what the arguments of this call ask for, over the standard input and output.
 fn run_here(rt: &HostRuntime) -> Status {
     match words_of_call(rt) {
         Ok(words) => run(
@@ -46,7 +46,7 @@ fn run_here(rt: &HostRuntime) -> Status {
 fn main(rt: HostRuntime) -> ExitCode {
     let status = run_here(&rt);
     if status != Status::Done {
-        // Where the standard error fails, the exit status alone tells.
+        // If the standard error fails, only the exit status reports the result.
         let _ = eprintln!(rt; "dra: {}", Fault(status));
     }
     ExitCode::from(exit_number(status))

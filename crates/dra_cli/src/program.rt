@@ -15,23 +15,23 @@ use ledger_core::{
 };
 use replay_core::{Status, replay, runs_search_within};
 
-/// Does what the words of a call ask, which come without the program's name, over the objects that
-/// are handed in: `replay`, with its options behind it, replays the script that the input is and
+/// Does what the arguments of a call, without the program's name, ask for, over the objects that
+/// are passed in: `replay`, with its options after it, replays the script that the input is and
 /// prints to the output.
 ///
-/// `Usage` is returned if and only if the words are no such command (`options_of`), and then nothing
+/// `Usage` is returned if and only if the arguments are no such command (`options_of`), and then nothing
 /// was read or written. `Memory` is returned only if memory runs out, `Read` and `Write` only
-/// if that object's count of faults rose in this call, or stands at its last value. With every status
-/// but `Read` the input's count of faults stays, and with every one but `Write` the output's.
+/// if that object's count of errors rose in this call, or is at its maximum. With every status
+/// but `Read` the input's count of errors stays, and with every one but `Write` the output's.
 ///
-/// If the input tells its bytes: `Document` is returned only if what stands there isn't a command,
+/// If the input exposes its contents: `Document` is returned only if what is there isn't a command,
 /// `Limit` only if a history of as many entries as the option says is to have one more or the input
 /// has more than 2^30 bytes, and `NotYet` only if a command has a form that isn't supported yet.
 ///
-/// If the output tells what was written (which statuses print what is this project's own): with
+/// If the output exposes what was written (which statuses print what is this project's own): with
 /// `Done` it is the whole text of the history, the summary at its end; with `Document`, `Read` and
 /// `NotYet` the lines of the commands done before; with `Limit` also those of the entries that the
-/// last command still made; with `Memory` and `Write` a front of such lines or of the whole text,
+/// last command still made; with `Memory` and `Write` a prefix of such lines or of the whole text,
 /// perhaps all of it.
 ///
 /// Each command that was done is of a supported form, its searches are those within the budget of the

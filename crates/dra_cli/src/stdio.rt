@@ -6,7 +6,7 @@ ghost use Rattle.dra_ports.specs.Causes.{HasCause, next_count};
 use dra_ports::{PortError, Sink, Source};
 use std::io::{self, ErrorKind, Read, Stdin, Stdout, Write};
 
-/// Says what an error is, and counts it where it is a fault: want of memory is none.
+/// Converts an I/O error, and counts it unless it is out of memory.
 fn counted(faults: &mut u64, error: &io::Error) -> PortError
     ensures later { faults.old ≤ faults.new }
     ensures failed { result ≡ PortError.Failed → faults.new ≡ next_count faults.old }
@@ -19,7 +19,7 @@ fn counted(faults: &mut u64, error: &io::Error) -> PortError
     PortError::Failed
 }
 
-/// The standard input, which doesn't tell the bytes that are left, and how often it has failed.
+/// The standard input, which doesn't expose the bytes that are left, and how often it has failed.
 #[derive(Drop)]
 pub struct StdSource {
     stdin: Stdin,
@@ -27,7 +27,7 @@ pub struct StdSource {
 }
 
 impl StdSource {
-    /// The standard input, with no fault so far.
+    /// The standard input, with no error so far.
     pub fn new(stdin: Stdin) -> StdSource
         ensures { result.faults ≡ 0 }
     {
@@ -40,7 +40,7 @@ impl Source for StdSource {
 
     ghost faults = { λ s. s.faults };
 
-    /// Reads what the operating system gives at once. Each `Failed` is counted, and nothing else.
+    /// Reads what the operating system returns at once. Each `Failed` is counted, and nothing else.
     fn read(&mut self, into: &mut [u8]) -> Result<usize, PortError>
         ensures bound { ReadsAtMost result into.new }
         ensures bytes { ReadConsumes None None result into.new }
@@ -56,7 +56,7 @@ impl Source for StdSource {
     }
 }
 
-/// The standard output, which doesn't tell the bytes written, and how often it has failed.
+/// The standard output, which doesn't expose the bytes written, and how often it has failed.
 #[derive(Drop)]
 pub struct StdSink {
     stdout: Stdout,
@@ -64,7 +64,7 @@ pub struct StdSink {
 }
 
 impl StdSink {
-    /// The standard output, with no fault so far.
+    /// The standard output, with no error so far.
     pub fn new(stdout: Stdout) -> StdSink
         ensures { result.faults ≡ 0 }
     {

@@ -4,7 +4,7 @@ ghost use Rattle.dra_cli.specs.Words.{AreFit, IsFit, are_digits, in_range, is_nu
 
 use replay_core::ReplayOptions;
 
-/// The options that words give, each at most once.
+/// The options that arguments set, each at most once.
 #[derive(Clone, Copy, Drop)]
 pub struct Given {
     pub budget: Option<u64>,
@@ -19,7 +19,7 @@ const MOST_ATTEMPTS: u64 = 64;
 
 const MOST_ENTRIES: u64 = 1_000_000;
 
-/// Whether each byte of the word is a decimal digit.
+/// Whether each byte of the argument is a decimal digit.
 fn are_digits(word: &[u8]) -> bool
     ensures { result ≡ are_digits word.now }
 {
@@ -31,7 +31,7 @@ fn are_digits(word: &[u8]) -> bool
     true
 }
 
-/// Whether a word is one to eight decimal digits.
+/// Whether an argument is one to eight decimal digits.
 fn is_number(word: &[u8]) -> bool
     ensures { result ≡ is_number word.now }
 {
@@ -104,7 +104,7 @@ fn with_option(given: Given, name: &str, value: &str) -> Option<Given>
     }
 }
 
-/// The options that words give, each as a name and its value.
+/// The options that arguments set, each as a name and its value.
 fn options_from(words: &[String]) -> Option<Given>
     ensures given { result ≡ options_from no_options (map string_bytes words.now) }
     ensures fit { IfSome result IsFit }
@@ -138,10 +138,10 @@ fn with_defaults(given: Given) -> ReplayOptions
     }
 }
 
-/// The options of the replay that the words ask for, or `None` where they are no such command: the
-/// word `replay`, and behind it in any order, each at most once, `--budget` with 1 to 10,000,000
+/// The options of the replay that the arguments ask for, or `None` if they are no such command: the
+/// argument `replay`, and after it in any order, each at most once, `--budget` with 1 to 10,000,000
 /// (else 100,000), `--attempts` with 1 to 64 (else 32) and `--entries` with 1 to 1,000,000 (else
-/// 1,000,000), each number a word of its own of one to eight decimal digits.
+/// 1,000,000), each number an argument of its own of one to eight decimal digits.
 pub fn options_of(words: &[String]) -> Option<ReplayOptions>
     ensures options { result ≡ options_of (map string_bytes words.now) }
     ensures fit { IfSome result AreFit }

@@ -23,7 +23,7 @@ use Rattle.ledger_core.proofs.Applying.{first_none, when_none}
 use Rattle.ledger_core.proofs.Claiming.{later_none}
 use Rattle.ledger_core.proofs.Headlines.{step_at}
 
--- a status write that nothing stands against grants an allocation of the one claim
+-- a status write that nothing refuses grants an allocation of the one claim
 abbrev pub StatusLaw : Type 0
 StatusLaw = (s : State) (claim : Key) (status : ClaimStatus) (c : ClaimState) → at_key s.claims claim ≡ Some c → failing_status s claim status ≡ None
     → (choice : List ℕ) × IsAllocation s (record c.claim.object { key = claim } ∷ []) status.node choice (granted_by claim status ∷ [])

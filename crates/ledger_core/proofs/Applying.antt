@@ -1,4 +1,4 @@
--- What it says of an object that nothing refuses it.
+-- What holds for an object that no refusal holds for.
 use Rattle.std.proofs.Common.{◌≡◌, ◌∙◌, Bool, true, false, cond, not, Option, None, Some, is_some, refl, sym, ap}
 use Rattle.api_cluster.specs.declared.types.Pod.{Pod}
 use Rattle.pool_view.specs.Names.{at_key}

@@ -164,7 +164,7 @@ stay_freed place pod user (j ∷ js) t differ =
 abbrev pub Pods : Type 0
 Pods = List (Key × PodState)
 
--- the pod stands at its own key, and uses each of its claims where it is taken or bound
+-- the pod is at its own key, and uses each of its claims where it is taken or bound
 abbrev pub Fits : Claims → Key → PodState → Type 0
 Fits claims key p =
     (p.pod.object.key ≡ key) × (is_busy (Some p) ≡ true → list_all (λ k. is_some (use_in key (at_key claims k))) (claims_of p) ≡ true)
@@ -297,7 +297,7 @@ unused_again place pod s h = without_uses_by place pod s.claims s.pods (at_key s
 adopted : (place : ℕ) (claim : Key) (status : ClaimStatus) (s : State) → AllFit s.claims s.pods → AllFit (with_adopted place claim status s).claims s.pods
 adopted place claim status s h = all_still s.claims _ s.pods (λ key. stay_changed key claim (adopted_by place status) s.claims (λ c. (λ e. e, λ e. e))) h
 
--- an entry that may stand keeps it
+-- an entry that may be appended keeps it
 fit_after : SameClaims → (before : List Entry) (place job : ℕ) (event : Event) → MayStand before job event → AllFit (state_of before).claims (state_of before).pods
     → AllFit (after place job event (state_of before)).claims (after place job event (state_of before)).pods
 fit_after law before place job (Applied x m) may h = applied law place x m (state_of before) may.unrefused h

@@ -82,14 +82,14 @@ same_or_not Less k j is = inr (λ e. let same : key_cmp k j ≡ Equal = subst (�
 same_or_not Equal k j is = inl (key_tie k j is)
 same_or_not Greater k j is = inr (λ e. let same : key_cmp k j ≡ Equal = subst (λ (x : Key). key_cmp k x ≡ Equal) e (key_same k) in absurd (cc))
 
--- ---- what stands at a key
+-- ---- what is at a key
 
 set_by : {K X : Type 0} (test : K → Bool) (b : Bool) (e : K × X) (es : List (K × X)) (v w : X) → test e.0 ≡ b → lookup test (e ∷ es) ≡ Some v
     → (lookup test es ≡ Some v → lookup test (set_value test es w) ≡ Some w) → lookup test (set_value test (e ∷ es) w) ≡ Some w
 set_by test true e es v w is h later = rw is (rw is refl)
 set_by test false e es v w is h later = rw is (rw is (later (rw is at h)))
 
--- what was written at a key stands there
+-- what was written at a key is there
 set_there : {K X : Type 0} (test : K → Bool) (es : List (K × X)) (v w : X) → lookup test es ≡ Some v → lookup test (set_value test es w) ≡ Some w
 set_there test [] v w h = absurd (cc)
 set_there test (e ∷ es) v w h = set_by test (test e.0) e es v w refl h (λ g. set_there test es v w g)
@@ -99,7 +99,7 @@ other_by : {K X : Type 0} (test other : K → Bool) (b : Bool) (e : K × X) (es 
 other_by test other true e es w is apart later = rw is (rw (apart refl) refl)
 other_by test other false e es w is apart later = rw is (ap (λ o. cond (other e.0) (Some e.1) o) later)
 
--- and what stands at others is as it was
+-- and what is at others is as it was
 set_other : {K X : Type 0} (test other : K → Bool) (es : List (K × X)) (w : X) → ((x : K) → test x ≡ true → other x ≡ false) → lookup other (set_value test es w) ≡ lookup other es
 set_other test other [] w apart = refl
 set_other test other (e ∷ es) w apart = other_by test other (test e.0) e es w refl (apart e.0) (set_other test other es w apart)
@@ -110,12 +110,12 @@ insert_by R Less e es k w same is later = rw is (rw same refl)
 insert_by R Equal e es k w same is later = rw is (rw is refl)
 insert_by R Greater e es k w same is later = rw is (rw is later)
 
--- what was inserted at a key stands there
+-- what was inserted at a key is there
 pub insert_there : {K X : Type 0} (R : K → K → Ordering) (es : List (K × X)) (k : K) (w : X) → R k k ≡ Equal → lookup (is_at (R k)) (insert_entry R es k w) ≡ Some w
 insert_there R [] k w same = rw same refl
 insert_there R (e ∷ es) k w same = insert_by R (R k e.0) e es k w same refl (insert_there R es k w same)
 
--- a changed value stands at its key
+-- a changed value is at its key
 pub changed_there : {V : Type 0} (key : Key) (f : V → V) (table : List (Key × V)) (v : V) → at_key table key ≡ Some v → at_key (changed_at key f table) key ≡ Some (f v)
 changed_there key f table v there = rw there (set_there (is_at (key_cmp key)) table v (f v) there)
 
@@ -130,7 +130,7 @@ changed_by : {V : Type 0} (j k : Key) (f : V → V) (table : List (Key × V)) (o
 changed_by j k f table None differ = refl
 changed_by j k f table (Some v) differ = set_other (is_at (key_cmp j)) (is_at (key_cmp k)) table (f v) (λ x e. other_key j k x differ e)
 
--- and what stands at another key is as it was
+-- and what is at another key is as it was
 pub changed_other : {V : Type 0} (j k : Key) (f : V → V) (table : List (Key × V)) → (k ≡ j → ⊥) → at_key (changed_at j f table) k ≡ at_key table k
 changed_other j k f table differ = changed_by j k f table (at_key table j) differ
 
@@ -180,7 +180,7 @@ both : (P Q : Key → Type 0) (ks : List Key) → EachKey P ks → EachKey Q ks 
 both P Q [] p q = tt
 both P Q (k ∷ ks) p q = ((p.0, q.0), both P Q ks p.1 q.1)
 
--- ---- each key at its first place
+-- ---- each key at its first index
 
 abbrev Differ : List Key → Type 0
 Differ [] = Unit {0}
@@ -363,7 +363,7 @@ all_kept f g (k ∷ ks) step all =
     let parts = and_parts (f k) (list_all f ks) all in
     and_from (g k) (list_all g ks) (step k parts.0) (all_kept f g ks step parts.1)
 
--- the first of those that aren't done stands behind those that are
+-- the first of those that aren't done comes after those that are
 find_past : (f : Key → Bool) (done rest : List Key) → list_all f done ≡ true → find (λ k. not (f k)) (done ++ rest) ≡ find (λ k. not (f k)) rest
 find_past f [] rest all = refl
 find_past f (k ∷ ks) rest all =

@@ -1,4 +1,4 @@
--- What a legal history says of each of its entries.
+-- What holds for each entry of a legal history.
 use Rattle.std.proofs.Common.{ℕ, ◌≡◌, ◌≢◌, ◌≤◌, ◌<◌, ◌∙◌, List, [], ◌∷◌, ◌++◌, Bool, true, false, cond, not, ◌||◌, Option, None, Some, is_some, length, take, drop, find, refl, arith, ap, sym, subst, append_assoc, append-nil}
 use Rattle.std.specs.Prelude.{is_none, nat_lt}
 use Rattle.std.specs.List.{All, AllByRecursion, Contains}
@@ -69,7 +69,7 @@ unfolding LegalAfter
 front_after before [] back legal = tt
 front_after before (d ∷ front) back legal = (legal.0, front_after (before ++ d ∷ []) front back legal.1)
 
--- the front of a legal history is legal
+-- a prefix of a legal history is legal
 pub front_legal : (front back : List Entry) → Legal (front ++ back) → Legal front
 unfolding Legal
 front_legal front back legal = front_after [] front back legal
@@ -80,12 +80,12 @@ after_front before [] es legal = subst (λ (xs : List Entry). LegalAfter xs es) 
 after_front before (d ∷ front) es legal =
     subst (λ (xs : List Entry). LegalAfter xs es) (append_assoc before (d ∷ []) front) (after_front (before ++ d ∷ []) front es legal.1)
 
--- what holds of a front, and is kept by each entry that may follow, holds of the whole
+-- what holds for a prefix, and is kept by each entry that may follow, holds for the whole
 pub always_from : (P : List Entry → Type 0) → ((h : List Entry) (e : Entry) → Legal h → P h → Step h e → P (h ++ e ∷ [])) → (front back : List Entry) → Legal (front ++ back) → P front → P (front ++ back)
 unfolding Legal
 always_from P step front back legal first = always_along P step front back (after_front [] front back legal) (front_legal front back legal) first
 
--- what holds of the state after each legal history holds at each of its places
+-- what holds of the state after each legal history holds at each of its indexes
 pub at_places : (P : State → Type 0) → ((h : List Entry) → Legal h → P (state_of h)) → (h : List Entry) (place : ℕ) → Legal h → P (state_at h place)
 at_places P all h place legal =
     all (take place h) (front_legal (take place h) (drop place h) (subst (λ (xs : List Entry). Legal xs) (sym (take-append-drop place h)) legal))
@@ -293,7 +293,7 @@ pub verdict_at : OverLaw → PartsLaw → (front back : List Entry) (job : ℕ) 
 verdict_at over parts front back job pod verdict legal =
     verdict_of over parts front pod verdict (step_at front (record { job = job; event = VerdictGiven pod verdict }) back legal).stands
 
--- each denial of a legal history is due
+-- each denial of a legal history may be made
 pub denial_at : (front back : List Entry) (job : ℕ) (command : Command) (refusal : Refusal) → Legal (front ++ record { job = job; event = Denied command refusal } ∷ back) → MayDeny (state_of front) command refusal
 denial_at front back job command refusal legal = (step_at front (record { job = job; event = Denied command refusal }) back legal).stands
 

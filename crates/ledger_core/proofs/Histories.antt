@@ -36,7 +36,7 @@ pub state_of-more : (es : List Entry) (e : Entry) → state_of (es ++ e ∷ []) 
 unfolding state_of
 state_of-more es e = told_whole next_state empty_state es e
 
--- the stand after one entry more
+-- the state of a job after one entry more
 pub stand_of-more : (es : List Entry) (e : Entry) (job : ℕ) → stand_of (es ++ e ∷ []) job ≡ cond (eqb e.job job) (stand_after (stand_of es job) (length es + 1) e.event) (stand_of es job)
 unfolding stand_of
 stand_of-more es e job = told_whole (next_stand job) Fresh es e

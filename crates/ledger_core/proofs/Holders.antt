@@ -160,7 +160,7 @@ module _ (empty : HeldOnce empty_state)
     (written : (place : ℕ) (pod claim : Key) (s : State) → HeldOnce s → HeldOnce (with_written place pod claim s))
     (bound : (pod : Key) (node : List ℕ) (s : State) → HeldOnce s → HeldOnce (with_bound pod node s))
     (grants : GrantsLaw) (status_law : StatusLaw) where
-  -- an entry that may stand keeps it
+  -- an entry that may be appended keeps it
   once_after : (before : List Entry) (place job : ℕ) (event : Event) → MayStand before job event → HeldOnce (state_of before) → HeldOnce (after place job event (state_of before))
   once_after before place job (Applied object mode) may h = created place object (state_of before) h
   once_after before place job (Deleted target) may h = deleted target (state_of before) h

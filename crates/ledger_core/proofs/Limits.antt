@@ -148,7 +148,7 @@ unused_again : (place : ℕ) (pod : Key) (s : State) → ObjectsKept s → Objec
 unused_again place pod s h =
     record { nodes = h.nodes; slices = h.slices; classes = h.classes; claims = freed_kept place pod (claims_by (at_key s.pods pod)) s.claims h.claims; pods = changed PodFits pod _ s.pods h.pods (λ p k. k) }
 
--- an entry that may stand keeps them
+-- an entry that may be appended keeps them
 kept_after : (before : List Entry) (place job : ℕ) (event : Event) → MayStand before job event → ObjectsKept (state_of before) → ObjectsKept (after place job event (state_of before))
 kept_after before place job (Applied x mode) may h = created place x (state_of before) may.valid.limits h
 kept_after before place job (Deleted t) may h = deleted t (state_of before) h

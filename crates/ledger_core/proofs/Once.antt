@@ -82,7 +82,7 @@ front_by id p xs ys k true same none is later =
     absurd (cc)
 front_by id p xs ys k false same none is later = ap (λ b. cond b (Some p.1) (looked id xs)) same ∙ later
 
--- a device that is behind isn't in front
+-- a device that is in the second list isn't in the first
 pub once_front : (id : DeviceId) (xs ys : Pairs) (k : Key) → Once (xs ++ ys) → looked id ys ≡ Some k → looked id xs ≡ None
 once_front id [] ys k o is = refl
 once_front id (p ∷ xs) ys k o is = front_by id p xs ys k (device_eq p.0 id) refl o.0 is (once_front id xs ys k o.1 is)
@@ -92,7 +92,7 @@ back_by : (id : DeviceId) (p : DeviceId × Key) (xs ys : Pairs) (k : Key) (b : B
 back_by id p xs ys k true same none is later = absent_back id xs ys (ap (λ (d : DeviceId). looked d (xs ++ ys)) (sym (device_same p.0 id same)) ∙ none)
 back_by id p xs ys k false same none is later = later is
 
--- one that is in front isn't behind
+-- one that is in the first isn't in the second
 pub once_back : (id : DeviceId) (xs ys : Pairs) (k : Key) → Once (xs ++ ys) → looked id xs ≡ Some k → looked id ys ≡ None
 once_back id [] ys k o is = absurd (cc)
 once_back id (p ∷ xs) ys k o is = back_by id p xs ys k (device_eq p.0 id) refl o.0 is (λ e. once_back id xs ys k o.1 e)
@@ -139,7 +139,7 @@ looked_out id xs k ds ys o = out_by id xs k ds ys (is_among id ds) refl o
 
 -- ---- of a state
 
--- where a device is, it stands at an index
+-- a device that is there is at an index
 record Standing (id : DeviceId) (ps : Pairs) : Type 0 where
   at : ℕ
   pair : DeviceId × Key

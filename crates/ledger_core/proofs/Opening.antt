@@ -48,7 +48,7 @@ abbrev pub KeysDiffer : List Key → Type 0
 KeysDiffer [] = Unit {0}
 KeysDiffer (k ∷ ks) = Away k ks × KeysDiffer ks
 
--- ---- keys, each at its first place
+-- ---- keys, each at its first index
 
 away_if : (k l : Key) (seen ks : List Key) (b : Bool) → list_any (λ m. key_eq m l) seen ≡ b → list_any (λ m. key_eq m k) seen ≡ true → Away k (first_places seen ks)
     → Away k (first_places (l ∷ seen) ks) → Away k (cond b (first_places seen ks) (l ∷ first_places (l ∷ seen) ks))
@@ -73,7 +73,7 @@ pub firsts_differ : (ks seen : List Key) → KeysDiffer (first_places seen ks)
 firsts_differ [] seen = tt
 firsts_differ (l ∷ ks) seen = differ_if l seen ks (list_any (λ m. key_eq m l) seen) (firsts_differ ks seen) (firsts_differ ks (l ∷ seen))
 
--- ---- the claims that a pod wants
+-- ---- the claims that a pod needs
 
 abbrev EachFree : Claims → List ResourceClaim → Type 0
 EachFree claims [] = Unit {0}

@@ -1,4 +1,4 @@
--- A plan that was true at its place, and against which nothing stands now, may be reserved.
+-- A plan that was true at its index, and that doesn't fail now, may be reserved.
 use Rattle.std.proofs.Common.{ℕ, ◌≡◌, ◌∙◌, List, [], ◌∷◌, Bool, true, false, not, cond, Option, None, Some, is_some, is_none, find, filter, length, refl, sym, ap, subst, arith}
 use Rattle.std.specs.List.{AllByRecursion, Contains}
 use Rattle.std.specs.Option.{option_map}
@@ -187,7 +187,7 @@ joined_is s p = refl
 
 -- ---- the plan
 
--- pods of one name and uid have the same claims at any two places of a legal history
+-- pods of one name and uid have the same claims at any two indexes of a legal history
 abbrev pub UidsKeep : Type 0
 UidsKeep = (h : List Entry) (first second : ℕ) (key : Key) (p q : PodState) → Legal h → at_key (state_at h first).pods key ≡ Some p → at_key (state_at h second).pods key ≡ Some q → p.pod.uid ≡ q.pod.uid
     → claims_of p ≡ claims_of q
@@ -232,7 +232,7 @@ holds_by allocates then now pod plan p t fits keys idle none =
 state_at-end : (h : List Entry) → state_at h (length h) ≡ state_of h
 state_at-end h = ap state_of (take_all (length h) h (omega arith))
 
--- nothing stands against the plan, so it may be reserved
+-- the plan doesn't fail, so it may be reserved
 pub may_reserve : UidsKeep → Fits → Allocates → (before : List Entry) (pod : Key) (plan : Plan) → Legal before → IsPlanned before pod plan → first_refusal (state_of before) (Schedule pod) ≡ None
     → failing (state_of before) pod plan ≡ None → MayReserve before pod plan
 may_reserve uids fit allocates before pod plan legal planned unrefused none =

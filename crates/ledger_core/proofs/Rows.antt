@@ -1,4 +1,4 @@
--- What stands at a number in a table that was changed.
+-- What is at a number in a table that was changed.
 use Rattle.std.proofs.Common.{ℕ, ◌≡◌, ◌∙◌, ◌<◌, List, [], ◌∷◌, Bool, true, false, cond, eqb, None, Some, refl, sym, ap, arith, eq-eqb, ne_eqb}
 use Rattle.std.specs.Ordering.{nat_cmp, is_eq, MatchOrdering, match_ordering}
 use Rattle.std.specs.declared.cmp.Ordering.{Ordering}

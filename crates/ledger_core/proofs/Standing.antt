@@ -1,4 +1,4 @@
--- The table of stands.
+-- The table of the jobs' states.
 use Rattle.std.proofs.Common.{ℕ, ◌≡◌, ◌∙◌, ◌+◌, ◌++◌, List, [], ◌∷◌, Bool, true, false, cond, eqb, length, Option, None, Some, Ok, Err, OnOk, OnErr, refl, sym, ap, is_some, eq-eqb}
 use Rattle.std.specs.Prelude.{Result}
 use Rattle.std.specs.Option.{unwrap_or}
@@ -45,7 +45,7 @@ pick_same : (b : Bool) (w w' x x' : JobState) → (b ≡ true → w ≡ w') → 
 pick_same true w w' x x' e f = e refl
 pick_same false w w' x x' e f = f
 
--- the stands of a history, with one entry more
+-- the jobs' states after a history, with one entry more
 pub stands_more : (es : List Entry) (stands stands' : List (ℕ × JobState)) (e : Entry) → ((j : ℕ) → stand_in stands j ≡ stand_of es j)
     → ((j : ℕ) → stand_in stands' j ≡ cond (eqb e.job j) (stand_after (stand_in stands e.job) (length es + 1) e.event) (stand_in stands j))
     → (j : ℕ) → stand_in stands' j ≡ stand_of (es ++ e ∷ []) j

@@ -1,4 +1,4 @@
--- Pods of one name and uid have the same claims at any two places of a legal history.
+-- Pods of one name and uid have the same claims at any two indexes of a legal history.
 use Rattle.std.proofs.Common.{ℕ, ◌+◌, ◌<◌, ◌≤◌, ◌≡◌, ◌∙◌, ◌⊎◌, inl, inr, ⊎_elim, List, [], ◌∷◌, ◌++◌, None, Some, length, take, drop, take-take, take-append-drop, length-append, refl, sym, ap, subst, arith}
 use Rattle.std.proofs.lemmas.Bool.{cases_lt}
 use Rattle.object_fields.specs.declared.key.Key.{Key}
@@ -38,7 +38,7 @@ use Rattle.ledger_core.proofs.Keyed.{AllAt, all_changed, all_put, removed_case}
 abbrev Was : Pods → Key → PodState → Type 0
 Was old key q = (r : PodState) × (at_key old key ≡ Some r) × (q.pod.uid ≡ r.pod.uid) × (claims_of q ≡ claims_of r)
 
--- the pod is new, with the place as its uid, or was there
+-- the pod is new, with the index as its uid, or was there
 abbrev NewOrWas : ℕ → Pods → Key → PodState → Type 0
 NewOrWas place old key q = (q.pod.uid ≡ place) ⊎ Was old key q
 
@@ -91,7 +91,7 @@ step_follows law h e legal step =
 
 -- ---- uids
 
--- each uid is a place of the history
+-- each uid is at most the length of the history
 abbrev Within : List Entry → Type 0
 Within h = AllAt (λ key q. q.pod.uid ≤ length h) (state_of h).pods
 
@@ -110,7 +110,7 @@ within_more law h e legal within step =
 within_now : SameClaims → (h : List Entry) → Legal h → Within h
 within_now law h legal = always Within within_first (λ g e l w s. within_more law g e l w s) h legal
 
--- what is at a key after this place is newer, or has the uid and the claims of the pod that was there
+-- what is at a key after this index is newer, or has the uid and the claims of the pod that was there
 abbrev NewerOr : ℕ → PodState → PodState → Type 0
 NewerOr n p q = (n < q.pod.uid) ⊎ ((q.pod.uid ≡ p.pod.uid) × (claims_of q ≡ claims_of p))
 
@@ -138,7 +138,7 @@ since_first key p h there = (
   λ q at. let same : q ≡ p = some_same p q (sym there ∙ at) in inr (ap (λ (x : PodState). x.pod.uid) same, ap (λ (x : PodState). claims_of x) same),
 )
 
--- a pod at an earlier place, and one of its uid later
+-- a pod at an earlier index, and one of its uid later
 later_claims : SameClaims → (front back : List Entry) (key : Key) (p q : PodState) → Legal (front ++ back) → at_key (state_of front).pods key ≡ Some p → at_key (state_of (front ++ back)).pods key ≡ Some q → p.pod.uid ≡ q.pod.uid
     → claims_of p ≡ claims_of q
 later_claims law front back key p q legal there at uid =

@@ -10,7 +10,7 @@ use Rattle.cluster.specs.Denied.{first_refusal, or_else}
 use Rattle.cluster.specs.Ready.{IsReady}
 use Rattle.plan_check.specs.Failing.{failing_status}
 
--- what stands against the grant of a status write, as a refusal
+-- the failure of the grant of a status write, as a refusal
 abbrev pub grant_refusal : State → Command → Option Refusal
 grant_refusal s (command.Invalid error) = None
 grant_refusal s (command.Apply object mode) = None

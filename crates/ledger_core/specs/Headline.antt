@@ -1,4 +1,4 @@
--- What a legal history says of its grants and its verdicts.
+-- What holds for the grants and the verdicts of a legal history.
 use Rattle.std.specs.Prelude.{ℕ, ◌≡◌, ◌≢◌, ◌≤◌, ◌<◌, false, List, [], ◌∷◌, None, Some, Contains, length, take}
 use Rattle.std.specs.Map.{keys_of}
 use Rattle.walk.specs.Walk.{Item, Part}
@@ -54,7 +54,7 @@ pub record IsAdoptionOf (before : List Entry) (claim : Key) (status : ClaimStatu
 abbrev pub HasNone : State → Pod → List ℕ → Type 0
 HasNone s pod node = (choice : List ℕ) (grants : List Grant) → IsAllocation s (wanted s pod) node choice grants → ⊥
 
--- the walk of the node has more items than the search looked at, and those are neither full nor a fault
+-- the walk of the node has more items than the search looked at, and those are neither `Full` nor `Fault`
 pub record IsOverBudget (s : State) (pod : Pod) (node : List ℕ) (steps : ℕ) : Type 0 where
   pub here : other_claim s pod node ≡ None
   pub more : steps < length (walk_on s pod node)
@@ -96,11 +96,11 @@ pub record NoneTaken (s : State) (pod : Pod) (nodes : List Passed) : Type 0 wher
   pub fault : (p : Passed) (fault : SelectorFault) → Contains nodes p → p.cause ≡ Fault fault → (steps : ℕ) × IsFault s pod steps p.node fault
   pub budget : (p : Passed) (steps : ℕ) → Contains nodes p → p.cause ≡ Budget steps → IsOverBudget s pod p.node steps
   pub other : (p : Passed) (claim : Key) → Contains nodes p → p.cause ≡ Other claim → IsElsewhere s pod p.node claim
-  -- a node whose cause is neither a fault nor its budget has no allocation for the pod
+  -- a node whose cause is neither `Fault` nor `Budget` has no allocation for the pod
   pub clear : (p : Passed) → Contains nodes p → is_fault p.cause ≡ false → is_budget p.cause ≡ false → other_claim s pod p.node ≡ None → HasNone s pod p.node
   -- where each cause is that the node has no allocation, no node has one
   pub none : ((p : Passed) → Contains nodes p → p.cause ≡ Unsat) → (node : List ℕ) → HasNone s pod node
-  -- where no cause is a fault or a budget, which is `unsatisfiable`, no node has an allocation for the pod
+  -- if no cause is `Fault` or `Budget`, which is `unsatisfiable`, no node has an allocation for the pod
   pub unsatisfiable : has_fault nodes ≡ false → has_budget nodes ≡ false → (node : List ℕ) → other_claim s pod node ≡ None → HasNone s pod node
 
 abbrev pub IsReasonOf : State → Key → Pod → Reason → Type 0
@@ -108,7 +108,7 @@ IsReasonOf s key pod (reason.Missing claim) = IsMissing s pod claim
 IsReasonOf s key pod (reason.Users claim) = IsCrowded s key pod claim
 IsReasonOf s key pod (reason.Nodes nodes) = NoneTaken s pod nodes
 
--- At the verdict's place among these entries the pod was there and Idle, and its reason was true.
+-- At the verdict's index among these entries the pod was there and Idle, and its reason was true.
 pub record IsVerdictOf (before : List Entry) (pod : Key) (verdict : Verdict) : Type 0 where
   pub at : verdict.at ≤ length before
   pub state : PodState

@@ -27,11 +27,11 @@ appended h job event = record h { entries = h.entries ++ record { job = job; eve
 abbrev pub at : {V : Type 0} → List (ℕ × V) → ℕ → Option V
 at table n = lookup (is_at (nat_cmp n)) table
 
--- the row of a job in the table of stands; a job without one is Fresh
+-- the row of a job in the table of the jobs' states; a job without one is Fresh
 abbrev pub stand_in : List (ℕ × JobState) → ℕ → JobState
 stand_in stands job = unwrap_or (at stands job) Fresh
 
--- the entries are a legal history, and the state, its holders and each job's stand are those after them
+-- the entries are a legal history, and the state, its holders and each job's state are those after them
 pub record IsKept (entries : List Entry) (state : State) (holders : Holders) (stands : List (ℕ × JobState)) (limit : ℕ) : Type 0 where
   pub legal : Legal entries
   pub state_is : state ≡ state_of entries

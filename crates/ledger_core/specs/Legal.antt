@@ -18,7 +18,7 @@ use Rattle.ledger_core.specs.Released.{MayRelease}
 use Rattle.ledger_core.specs.Adopted.{MayAdopt}
 use Rattle.ledger_core.specs.Denied.{MayDeny}
 
--- where an event of a job may stand; that a job has failed as often as it says is for its stand to allow
+-- when an event of a job may be appended; that a job has failed as often as it says is for its state to allow
 abbrev pub MayStand : List Entry → ℕ → Event → Type 0
 MayStand before job (Applied object mode) = MayApply (state_of before) object mode
 MayStand before job (Deleted target) = MayDelete (state_of before) target

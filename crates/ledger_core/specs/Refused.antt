@@ -10,7 +10,7 @@ use Rattle.cluster.specs.History.{state_at, state_of}
 use Rattle.alloc_rules.specs.Plans.{PlanTrue}
 use Rattle.plan_check.specs.Failing.{failing}
 
--- the plan was true at its place, its pod can be scheduled still, and this is the first that stands against the plan now
+-- the plan was true at its index, its pod can still be scheduled, and this is the plan's first failure now
 pub record MayRefuse (before : List Entry) (pod : Key) (plan : Plan) (why : Failure) : Type 0 where
   pub at : plan.at ≤ length before
   pub true_then : PlanTrue (state_at before plan.at) pod plan

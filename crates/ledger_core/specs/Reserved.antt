@@ -14,12 +14,12 @@ use Rattle.cluster.specs.History.{state_at, state_of}
 use Rattle.alloc_rules.specs.Plans.{PlanTrue, Holds}
 use Rattle.plan_check.specs.Failing.{failing}
 
--- the plan was true at its place
+-- the plan was true at its index
 pub record IsPlanned (before : List Entry) (pod : Key) (plan : Plan) : Type 0 where
   pub at : plan.at ≤ length before
   pub true_then : PlanTrue (state_at before plan.at) pod plan
 
--- the plan was true at its place, and nothing stands against it now
+-- the plan was true at its index, and doesn't fail now
 pub record MayReserve (before : List Entry) (pod : Key) (plan : Plan) : Type 0 where
   pub at : plan.at ≤ length before
   pub true_then : PlanTrue (state_at before plan.at) pod plan

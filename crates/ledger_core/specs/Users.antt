@@ -26,7 +26,7 @@ HasBusyUsers pods claim c = (pod : Key) → is_some (at_key c.users pod) ≡ tru
 pub record UsersAreBusy (s : State) : Type 0 where
   pub each : EachOf (λ e. HasBusyUsers s.pods e.0 e.1) s.claims
 
--- the pod stands at its own key; where it is taken or bound, each of its claims has it as a user, and where it is
+-- the pod is at its own key; where it is taken or bound, each of its claims has it as a user, and where it is
 -- bound, each of its uses is written
 pub record UsesItsClaims (s : State) (key : Key) (pod : PodState) : Type 0 where
   pub own : pod.pod.object.key ≡ key

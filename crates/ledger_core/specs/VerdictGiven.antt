@@ -6,7 +6,7 @@ use Rattle.cluster.specs.declared.plan.Verdict.{Verdict}
 use Rattle.cluster.specs.History.{state_at}
 use Rattle.alloc_rules.specs.Plans.{VerdictTrue}
 
--- the verdict is true at its place
+-- the verdict is true at its index
 pub record MayJudge (before : List Entry) (pod : Key) (verdict : Verdict) : Type 0 where
   pub at : verdict.at ≤ length before
   pub true_then : VerdictTrue (state_at before verdict.at) pod verdict

@@ -28,7 +28,7 @@ use allocations::{budget_is_true, grants_hold_once};
 use cluster::same_is_equal;
 use plan_check::checked_is_allocation;
 
-/// Each entry of a legal history may follow the entries before it, and each front of a legal history
+/// Each entry of a legal history may follow the entries before it, and each prefix of a legal history
 /// is legal.
 pub fn legal_steps()
     ensures step { (front : List Entry) (e : Entry) (back : List Entry) → Legal (front ++ e ∷ back) → Step front e }
@@ -43,11 +43,11 @@ pub fn grants_are_allocations()
         Legal (front ++ record { job = job; event = Event.Reserved pod plan } ∷ back) → IsGrantOf front pod plan }
 {}
 
-/// Each verdict of a legal history is true at its place. A claim that it names isn't there, or has 256
+/// Each verdict of a legal history is true at its index. A claim that it names isn't there, or has 256
 /// users other than the pod. Of the nodes that it names, which are all, a node whose cause says so
-/// had no allocation, and where no cause is a fault or the budget, no node had an allocation for
+/// had no allocation, and if no cause is `Fault` or `Budget`, no node had an allocation for
 /// the pod; the walk of a node whose search ended with its budget is longer, and the items that were
-/// looked at are neither an allocation nor a fault; a claim whose grant is elsewhere has it on another node.
+/// looked at are neither `Full` nor `Fault`; a claim whose grant is elsewhere has it on another node.
 pub fn verdicts_are_true()
     ensures { (front back : List Entry) (job : ℕ) (pod : Key) (verdict : Verdict) →
         Legal (front ++ record { job = job; event = Event.VerdictGiven pod verdict } ∷ back) → IsVerdictOf front pod verdict }
@@ -88,7 +88,7 @@ pub fn pods_stay_taken()
         (state : PodState) × ((node : List ℕ) × IsTaken (state_of h) pod job node state) }
 {}
 
-/// Pods of one name and uid have the same claims at any two places of a legal history.
+/// Pods of one name and uid have the same claims at any two indexes of a legal history.
 pub fn uids_keep_claims()
     ensures { (h : List Entry) (first second : ℕ) (key : Key) (p q : PodState) → Legal h →
         at_key (state_at h first).pods key ≡ Some p → at_key (state_at h second).pods key ≡ Some q →
@@ -106,7 +106,7 @@ pub fn adoptions_are_allocations()
 }
 
 /// Each user of a claim is a pod that is taken or bound, and names the claim, after a legal history and
-/// at each place of it: a pod that is Idle uses no claim.
+/// at each index of it: a pod that is Idle uses no claim.
 pub fn users_are_busy()
     ensures now { (h : List Entry) → Legal h → UsersAreBusy (state_of h) }
     ensures always { (h : List Entry) (place : ℕ) → Legal h → UsersAreBusy (state_at h place) }
@@ -115,7 +115,7 @@ pub fn users_are_busy()
     same_is_equal();
 }
 
-/// After a legal history and at each place of it, a pod that is taken or bound uses each of its
+/// After a legal history and at each index of it, a pod that is taken or bound uses each of its
 /// claims, and the uses of one that is bound are written.
 pub fn pods_use_claims()
     ensures now { (h : List Entry) → Legal h → PodsUseClaims (state_of h) }
@@ -125,13 +125,13 @@ pub fn pods_use_claims()
 }
 
 /// Each object keeps the limits and name rules of the API references of `v1` and of
-/// `resource.k8s.io/v1` after a legal history, and at each place of it.
+/// `resource.k8s.io/v1` after a legal history, and at each index of it.
 pub fn objects_keep_limits()
     ensures now { (h : List Entry) → Legal h → ObjectsKept (state_of h) }
     ensures always { (h : List Entry) (place : ℕ) → Legal h → ObjectsKept (state_at h place) }
 {}
 
-/// Each device has one holder after a legal history, and at each place of it: no device is held
+/// Each device has one holder after a legal history, and at each index of it: no device is held
 /// twice, by two claims or by one.
 pub fn one_holder()
     ensures now { (h : List Entry) → Legal h → HeldOnce (state_of h) }

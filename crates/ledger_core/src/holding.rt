@@ -101,7 +101,7 @@ fn leave_lost(holders: &mut Held, lost: &[Shared<Granted>])
 
 // ---- a plan's grants
 
-/// Gives the claims of a plan their devices, which are free. `AllocError` comes only if memory runs out,
+/// Gives the claims of a plan their devices, which are free. `AllocError` is returned only if memory runs out,
 /// and then each device is held as it was.
 fn hold_plan(alloc: Global, holders: &mut Held, grants: &[Grant]) -> Result<(), AllocError>
     requires { (id : DeviceId) → left_each grants.now id (holder_in holders.old id) ≡ holder_in holders.old id }
@@ -142,7 +142,7 @@ fn reserve_held(
 }
 
 /// Makes a plan's grants, whose devices are free, and returns the pod's key and the plan again.
-/// `AllocError` comes only if memory runs out, and then the state is as it was, and each device is held
+/// `AllocError` is returned only if memory runs out, and then the state is as it was, and each device is held
 /// as it was.
 pub fn reserve(
     alloc: Global,
@@ -255,8 +255,8 @@ fn free_held(
     Ok(())
 }
 
-/// Takes the uses of a pod away, by the entry at this place, and returns its key again. `AllocError`
-/// comes only if memory runs out, and then nothing changed.
+/// Takes the uses of a pod away, by the entry at this index, and returns its key again. `AllocError`
+/// is returned only if memory runs out, and then nothing changed.
 pub fn free(
     alloc: Global,
     state: &mut State,
@@ -344,7 +344,7 @@ fn remove_with(
     }
 }
 
-/// Takes an object away, and returns its kind and name again. `AllocError` comes only if memory runs
+/// Takes an object away, and returns its kind and name again. `AllocError` is returned only if memory runs
 /// out, and then nothing changed.
 pub fn remove(
     alloc: Global,
@@ -387,7 +387,7 @@ fn status_results(alloc: Global, status: &ClaimStatus) -> Result<Seq<DeviceResul
     Ok(results)
 }
 
-/// Gives a claim the devices of results without admin access, which are free. `AllocError` comes only if
+/// Gives a claim the devices of results without admin access, which are free. `AllocError` is returned only if
 /// memory runs out, and then each device is held as it was.
 fn hold_results(
     alloc: Global,
@@ -433,8 +433,8 @@ fn adopt_held(
     }
 }
 
-/// Grants a claim what a status write says, whose devices are free, by the entry at this place, and
-/// returns the claim's key again. `AllocError` comes only if memory runs out, and then the state is as
+/// Grants a claim what a status write says, whose devices are free, by the entry at this index, and
+/// returns the claim's key again. `AllocError` is returned only if memory runs out, and then the state is as
 /// it was, and each device is held as it was.
 pub fn adopt(
     alloc: Global,

@@ -12,7 +12,7 @@ ghost use Rattle.cluster.specs.State.{claims_of};
 ghost use Rattle.ledger_core.specs.GoesOn.{GoesOn};
 ghost use Rattle.cluster.specs.History.{state_of, stand_of};
 
-/// What one entry more does to the state after a history, and to the stand of each job.
+/// What one entry more does to the state after a history, and to the state of each job.
 pub fn histories_grow()
     ensures state { (h : List Entry) (e : Entry) → state_of (h ++ e ∷ []) ≡ after (length h + 1) e.job e.event (state_of h) }
     ensures stand { (h : List Entry) (e : Entry) (job : ℕ) → stand_of (h ++ e ∷ []) job ≡ (if e.job == job then stand_after (stand_of h job) (length h + 1) e.event else stand_of h job) }

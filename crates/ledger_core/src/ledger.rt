@@ -51,7 +51,7 @@ use std::marker::Model;
 /// An entry that was appended.
 #[derive(Clone, Copy, Debug, PartialEq, Eq, Drop)]
 pub struct Done {
-    /// Its place, from 1.
+    /// Its index, from 1.
     pub place: u64,
     /// What became of the command.
     pub outcome: Outcome,
@@ -133,14 +133,14 @@ impl Ledger {
         &self.holders
     }
 
-    /// The claim that holds a device, if one does. Takes no memory.
+    /// The claim that holds a device, if one does. Allocates nothing.
     pub fn holder(&self, device: &DeviceId) -> Option<&Key>
         ensures { option_copied result ≡ lookup (λ d. device_eq d device.now) (held (state_of self.now.entries)) }
     {
         self.holders.holder(device)
     }
 
-    /// The entry at a place, from 1.
+    /// The entry at an index, from 1.
     pub fn entry(&self, place: u64) -> Option<&Entry>
         ensures { option_copied result ≡ entry_at self.now.entries place }
     {
@@ -150,18 +150,18 @@ impl Ledger {
         self.entries.get((place - 1) as usize)
     }
 
-    /// What the job's entries leave.
+    /// The state of a job after its entries.
     pub fn stand(&self, job: u64) -> JobState
         ensures { result ≡ stand_of self.now.entries job }
     {
         stand_in(&self.stands, job)
     }
 
-    /// Applies an object whose selectors are compiled, by the mode: it is created, with the entry's place
+    /// Applies an object whose selectors are compiled, by the mode: it is created, with the entry's index
     /// as its uid and its version, or updated, and then it keeps its uid and what was granted, and its
-    /// version becomes the place. If a refusal of the command holds (`State::first_refusal`), the
+    /// version becomes that index. If a refusal of the command holds (`State::first_refusal`), the
     /// entry is a denial that carries the object, the mode and the first such, and the state stays
-    /// as it was. `Full` comes if the history has its limit of entries, and `Memory` only if memory
+    /// as it was. `Full` is returned if the history has its limit of entries, and `Memory` only if memory
     /// runs out; then nothing changed.
     pub fn apply(
         &mut self,
@@ -189,7 +189,7 @@ impl Ledger {
 
     /// Takes the object of a kind and name away. If a refusal of the command holds
     /// (`State::first_refusal`), the entry is a denial that carries the target and the first such, and
-    /// the state stays as it was. `Full` comes if the history has its limit of entries, and `Memory`
+    /// the state stays as it was. `Full` is returned if the history has its limit of entries, and `Memory`
     /// only if memory runs out; then nothing changed.
     pub fn delete(&mut self, alloc: Global, job: u64, target: &Target) -> Result<Done, LedgerError>
         requires stand { allows (stand_of self.old.entries job) (Deleted target.now) ≡ true }
@@ -210,8 +210,8 @@ impl Ledger {
     }
 
     /// Refuses the document of an object whose fields have this first error, and changes nothing but
-    /// the history. `Full` comes where the history has its limit of entries, and `Memory` only where
-    /// memory runs out or where the error is want of memory itself; then nothing changed.
+    /// the history. `Full` is returned if the history has its limit of entries, and `Memory` only if
+    /// memory runs out or if the error itself is out of memory; then nothing changed.
     pub fn deny(&mut self, job: u64, error: FieldError) -> Result<Done, LedgerError>
         requires { allows (stand_of self.old.entries job) (Denied (Invalid error) refusal.Invalid) ≡ true }
         ensures ok { OnOk result (self.new ≡ appended self.old job (Denied (Invalid error) refusal.Invalid)) }
@@ -231,8 +231,8 @@ impl Ledger {
     /// Begins to schedule a pod: if a refusal of the command holds (`State::schedule_refusal`), the entry
     /// is a denial that carries the pod and the first such, and the state stays as it was; else the
     /// pod is there and Idle, nothing is appended, and a snapshot of the present state is returned. `Full`
-    /// comes if a denial is due and the history has its limit of entries, and `Memory` only if memory runs
-    /// out; then nothing changed.
+    /// is returned if the command is to be denied and the history has its limit of entries, and `Memory` only
+    /// if memory runs out; then nothing changed.
     pub fn begin(&mut self, alloc: Global, job: u64, pod: &Key) -> Result<Start, LedgerError>
         requires { may_try (stand_of self.old.entries job) ≡ true }
         ensures begins { IfOk result (λ start. Begins self.old self.new job pod.now start) }
@@ -254,10 +254,10 @@ impl Ledger {
         }
     }
 
-    /// Makes the grants of a plan that was true at its place, if nothing stands against it now, and takes the
-    /// pod for the job. If the pod can't be scheduled any more, the entry is a denial, and if the plan fails
+    /// Makes the grants of a plan that was true at its index, if the plan doesn't fail now, and takes the pod
+    /// for the job. If the pod can't be scheduled any more, the entry is a denial, and if the plan fails
     /// against the present state (`plan_check::check`), it is a refusal that carries the first failure; then
-    /// the state stays as it was. `Full` comes if the history has its limit of entries, and `Memory` only if
+    /// the state stays as it was. `Full` is returned if the history has its limit of entries, and `Memory` only if
     /// memory runs out; then nothing changed.
     pub fn reserve(
         &mut self,
@@ -355,7 +355,7 @@ impl Ledger {
         })
     }
 
-    /// Says that a pod can't be scheduled, by a verdict that was true at its place.
+    /// Says that a pod can't be scheduled, by a verdict that was true at its index.
     pub fn record_verdict(
         &mut self,
         alloc: Global,
@@ -410,7 +410,7 @@ impl Ledger {
 
     /// Takes the uses of a bound pod away: claims without users lose their grants, and the pod is Idle again.
     /// If a refusal of the command holds (`State::release_refusal`), the entry is a denial that carries the
-    /// pod and the first such, and the state stays as it was. `Full` comes if the history has its limit of
+    /// pod and the first such, and the state stays as it was. `Full` is returned if the history has its limit of
     /// entries, and `Memory` only if memory runs out; then nothing changed.
     pub fn release(&mut self, alloc: Global, job: u64, pod: &Key) -> Result<Done, LedgerError>
         requires { is_fresh (stand_of self.old.entries job) ≡ true }
@@ -433,7 +433,7 @@ impl Ledger {
     /// Grants a claim what a status write says, published and without users. If a refusal of the command
     /// holds (`State::status_refusal`), or else the grant isn't an allocation of the claim
     /// (`plan_check::check_status`), the entry is a denial that carries the claim, the status and the first
-    /// such, and the state stays as it was. `Full` comes if the history has its limit of entries, and
+    /// such, and the state stays as it was. `Full` is returned if the history has its limit of entries, and
     /// `Memory` only if memory runs out; then nothing changed.
     pub fn adopt(
         &mut self,
@@ -538,7 +538,7 @@ impl Ledger {
         })
     }
 
-    /// Reserves by a plan for a pod that is there and Idle, or says what stands against the plan.
+    /// Reserves by a plan for a pod that is there and Idle, or records why the plan fails.
     fn reserve_idle(
         &mut self,
         alloc: Global,
@@ -565,7 +565,7 @@ impl Ledger {
         }
     }
 
-    /// Says what stands against a plan.
+    /// Records why a plan fails.
     fn refuse_plan(
         &mut self,
         alloc: Global,
@@ -593,7 +593,7 @@ impl Ledger {
         })
     }
 
-    /// Reserves by a plan that nothing stands against.
+    /// Reserves by a plan that doesn't fail.
     fn take(&mut self, alloc: Global, job: u64, pod: &Key, plan: &Plan) -> Result<Done, LedgerError>
         requires stand { may_try (stand_of self.old.entries job) ≡ true }
         requires reserved { MayReserve self.old.entries pod.now plan.now }
@@ -776,7 +776,7 @@ fn no_holders(alloc: Global) -> Result<Shared<Held>, AllocError>
     Shared::new(alloc, Held::new(alloc))
 }
 
-/// Takes all memory for an entry, and puts its object.
+/// Allocates all memory for an entry, and puts its object.
 fn put_object(
     alloc: Global,
     entries: &mut Vec<Entry>,

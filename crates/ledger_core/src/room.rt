@@ -9,10 +9,10 @@ use cluster::{Entry, Event, JobState};
 use dra_values::Table;
 use std::alloc::AllocError;
 
-/// Each job's stand; a job without a row is Fresh.
+/// Each job's state; a job without a row is Fresh.
 pub type Stands = Table<u64, JobState>;
 
-/// Makes room for an entry of a job and for its stand, and returns the entry's place.
+/// Makes room for an entry of a job and for its state, and returns the entry's index.
 pub fn make_room(
     entries: &mut Vec<Entry>,
     stands: &mut Stands,
@@ -37,7 +37,7 @@ pub fn make_room(
     Ok(len + 1)
 }
 
-/// Appends an entry that there is room for, and puts its job where it leaves it.
+/// Appends an entry that there is room for, and sets its job to the state that it leaves.
 pub fn append(entries: &mut Vec<Entry>, stands: &mut Stands, job: u64, event: Event)
     requires room { vec_len entries.old < vec_capacity entries.old }
     requires row { is_some (at stands.old job) ≡ true }
@@ -52,7 +52,7 @@ pub fn append(entries: &mut Vec<Entry>, stands: &mut Stands, job: u64, event: Ev
     entries.push_reserved(Entry { job, event });
 }
 
-/// The stand of a job.
+/// The state of a job.
 pub fn stand_in(stands: &Stands, job: u64) -> JobState
     ensures { result ≡ stand_in stands.now job }
 {
@@ -74,7 +74,7 @@ fn make_row(stands: &mut Stands, job: u64) -> Result<(), AllocError>
     }
 }
 
-/// Puts a job that has a row at this stand.
+/// Sets a job that has a row to this state.
 fn set_stand(stands: &mut Stands, job: u64, stand: JobState)
     requires { is_some (at stands.old job) ≡ true }
     ensures { (j : ℕ) → stand_in stands.new j ≡ (if job == j then stand else stand_in stands.old j) }
@@ -95,7 +95,7 @@ pub fn failures(stand: JobState) -> u64
     }
 }
 
-/// What an event leaves of a job that stood so.
+/// The state of a job after an event, from its state before.
 fn stand_after(stand: JobState, place: u64, event: &Event) -> JobState
     requires { failures stand < 2 ^ 48 }
     ensures { result ≡ stand_after stand place event.now }

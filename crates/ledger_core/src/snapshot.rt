@@ -37,7 +37,7 @@ impl Snapshot {
         Snapshot { at, state, holders }
     }
 
-    /// How many entries stood in the history.
+    /// How many entries were in the history.
     pub fn at(&self) -> u64
         ensures { result ≡ self.now.at }
     {

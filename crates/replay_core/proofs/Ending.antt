@@ -70,7 +70,7 @@ part_of options before now done c old new n s sound met =
       full = omega (arith, same, s.limit_is, met.full, met.count_is, sound.within);
     }
 
--- a command of which a front of the lines is printed
+-- a command of which a prefix of the lines is printed
 short_command : LinesLaw → (options : ReplayOptions) (left before now next : Option (List ℕ)) (done : List (ℕ × Command)) (at : ℕ) (c : Command) (old new : Work) → Standing options before now done old
     → TellsFirst left (done ++ (at, c) ∷ []) → IsSound new.ledger → PrintedShort options c old new now next → EndsShort options left before next
 short_command lines options left before now next done at c old new s tells sound (inl ran) = record {
@@ -100,7 +100,7 @@ full_command lines options left before now next done at c old new n s tells soun
       (appends_more before now next (lines_from 0 old.ledger.entries) (new_lines old.ledger new.ledger) s.printed met.printed);
 }
 
--- the front of what the script begins with
+-- a prefix of what the script begins with
 tells_before : (left : Option (List ℕ)) (done more : List (ℕ × Command)) → TellsFirst left (done ++ more) → TellsFirst left done
 tells_before left done more tells bytes e = let t = tells bytes e in (prepend more t.0, t.1 ∙ sym (prepend_more done more t.0))
 
@@ -192,7 +192,7 @@ over_document options left before was written a b left_a left_b work work_now do
   standing = m.standing;
 }
 
--- want of memory between two commands
+-- out of memory between two commands
 pub memory_short : (options : ReplayOptions) (left now before written : Option (List ℕ)) (at : ℕ) (work : Work) → Progress options left now before written at work → EndsShort options left before written
 memory_short options left now before written at work p = record {
   text = lines_from 0 work.ledger.entries;
@@ -210,7 +210,7 @@ none_within : (at : ℕ) (taken : List ℕ) → NoneWhole the_limits at taken �
 none_within at taken (inl e) = ap (script_by false) e
 none_within at taken (inr (place, e)) = ap (script_by false) e
 
--- a fault of the input
+-- an error of the input
 pub read_short : (options : ReplayOptions) (left left_now before written : Option (List ℕ)) (a : Split) (left_a : Option (List ℕ)) (work : Work) → Progress options left (remaining a left_a) before written a.at work
     → IsCut the_limits a left_a left_now → EndsRead options left left_now before written
 read_short options left left_now before written a left_a work p cut = record {

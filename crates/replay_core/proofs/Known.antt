@@ -37,11 +37,11 @@ take_over (x ∷ xs) ys n =
     let e : length (x ∷ xs) + n ≡ suc (length xs + n) = omega arith in
     ap (λ k. take k (x ∷ (xs ++ ys))) e ∙ ap (λ l. x ∷ l) (take_over xs ys n)
 
--- what is written whole, and then a front
+-- what is written whole, and then a prefix
 pub appends_front : (a b c : Option (List ℕ)) (x y : List ℕ) → Appends a b x → AppendsFront b c y → AppendsFront a c (x ++ y)
 appends_front a b c x y p q = (length x + q.0, subst (λ (l : List ℕ). Appends a c l) (sym (take_over x y q.0)) (appends_more a b c x (take q.0 y) p q.1))
 
--- all of it is a front
+-- all of it is a prefix
 pub front_all : (a b : Option (List ℕ)) (x : List ℕ) → Appends a b x → AppendsFront a b x
 front_all a b x p = (length x, subst (λ (l : List ℕ). Appends a b l) (sym (take_all (length x) x (omega arith))) p)
 

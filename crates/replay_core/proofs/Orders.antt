@@ -70,7 +70,7 @@ ran_alone job c o budget attempts old new e extends limit run =
       };
     }
 
--- a job that ran alone, and met the limit of the history
+-- a job that ran alone, and reached the limit of the history
 pub met_alone : (job : ℕ) (c : Command) (o : Order) (budget attempts : ℕ) (old new : History) (n : ℕ) → order_of attempts c ≡ Some o → Extends (job ∷ []) old.entries new.entries → new.limit ≡ old.limit
     → runs.JobBegun (run_after job o budget old.entries) new.entries → length new.entries ≡ n → new.limit ≤ n → Met job c budget attempts old new n
 met_alone job c o budget attempts old new n e extends limit begun count full =

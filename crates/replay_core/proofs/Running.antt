@@ -56,7 +56,7 @@ RunOf-more b a done mid at c seg n is run built job =
     subst (λ (cs : List Command). RunFrom b a 0 [] cs (mid ++ seg)) (sym (commands_more done at c))
     (RunFrom-more b a 0 [] (commands_of done) mid c seg run built (subst (λ (k : ℕ). JobRun k c b a mid seg) eq job))
 
--- a job's entries leave other jobs as they stood
+-- a job's entries leave the states of other jobs as they were
 pub own_only : StandLaw → (job : ℕ) (before seg : List Entry) (other : ℕ) → AllOwn job seg → (job ≡ other → ⊥) → stand_of (before ++ seg) other ≡ stand_of before other
 unfolding AllOwn
 own_only law job before [] other own apart = ap (λ (h : List Entry). stand_of h other) (append-nil before)

@@ -1,4 +1,4 @@
--- What the entries of a run tell of searches.
+-- What the entries of a run state about searches.
 use Rattle.std.proofs.Common.{ℕ, ◌+◌, ◌≡◌, ◌∙◌, ◌⊎◌, inl, inr, List, [], ◌∷◌, ◌++◌, length, refl, sym, ap, subst, arith, append_assoc, append-nil, length-append}
 use Rattle.cluster.specs.declared.entry.Entry.{Entry}
 use Rattle.commands.specs.declared.command.Command.{Command}
@@ -6,7 +6,7 @@ use Rattle.sched_job.specs.Histories.{Each}
 use Rattle.sched_job.specs.Runs.{JobKept, JobStep, Run, Timed}
 use Rattle.replay_core.specs.Jobs.{AllOwn, JobRun, RunFrom, RunOf, run_after}
 
--- the entry tells of a search of its job's run, which looks at so many items of a node's walk
+-- the entry states the result of a search of its job's run, which looks at so many items of a node's walk
 abbrev pub TellsOf : ℕ → List Entry → Entry → Type 0
 TellsOf budget before e = (c : Run) × (c.budget ≡ budget) × Timed c before e.event
 
@@ -21,7 +21,7 @@ unfolding AllOwn
 own_at job [] e back own = own.0
 own_at job (d ∷ front) e back own = own_at job front e back own.1
 
--- an entry of a job tells so
+-- an entry of a job states such a result
 made_tells : (job : ℕ) (c : Command) (budget attempts : ℕ) (before front : List Entry) (e : Entry) (back : List Entry) → JobRun job c budget attempts before (front ++ e ∷ back) → TellsOf budget (before ++ front) e
 made_tells job c budget attempts before front e back run =
     let kept : JobKept (run_after job run.order budget before) ((before ++ front) ++ e ∷ back) =
@@ -42,7 +42,7 @@ run_goes budget attempts n before (c ∷ cs) after r =
     let more = run_goes budget attempts (n + 1) (before ++ r.0) cs after r.3 in
     record { rest = r.0 ++ more.rest; is = more.is ∙ append_assoc before r.0 more.rest }
 
--- where an element of two lists joined stands
+-- where an element of two joined lists is
 pub record InFirst (xs ys front : List Entry) (e : Entry) (back : List Entry) : Type 0 where
   pub more : List Entry
   pub is : xs ≡ front ++ e ∷ more
@@ -83,7 +83,7 @@ none_longer before front e back is =
     let part : length (front ++ e ∷ back) ≡ length front + length (e ∷ back) = length-append front (e ∷ back) in
     omega (arith, all, part)
 
--- an entry of a run tells of a search within its budget
+-- an entry of a run states the result of a search within its budget
 run_tells : (budget attempts n : ℕ) (before : List Entry) (cs : List Command) (front : List Entry) (e : Entry) (back : List Entry) → RunFrom budget attempts n before cs (before ++ (front ++ e ∷ back)) → TellsOf budget (before ++ front) e
 unfolding RunFrom
 run_tells budget attempts n before [] front e back is = absurd (none_longer before front e back is)

@@ -13,6 +13,6 @@ stops_by : (options : ReplayOptions) (at : ℕ) (c : Command) (old new : Work) (
 stops_by options at c old new before after port.Failed m = inr m
 stops_by options at c old new before after port.Memory m = inr (inr m)
 
--- a command that met the limit, with a front of its lines printed
+-- a command that reached the limit, with a prefix of its lines printed
 pub stops_met : (options : ReplayOptions) (at : ℕ) (c : Command) (old new : Work) (before after : Option (List ℕ)) (e : PortError) (s : Status) → s ≡ output_status e → MetShort options c old new before after → Stops options at c old new before after s
 stops_met options at c old new before after e s is m = subst (λ (t : Status). Stops options at c old new before after t) (sym is) (stops_by options at c old new before after e m)

@@ -12,7 +12,7 @@ pub record Ran (job : ℕ) (c : Command) (budget attempts : ℕ) (old new : Hist
   pub is : new ≡ record old { entries = old.entries ++ segment }
   pub run : JobRun job c budget attempts old.entries segment
 
--- the job of a command of a supported form was begun, and met the limit of the history
+-- the job of a command of a supported form was begun, and reached the limit of the history
 pub record Met (job : ℕ) (c : Command) (budget attempts : ℕ) (old new : History) (count : ℕ) : Type 0 where
   pub built : is_built c ≡ true
   pub segment : List Entry

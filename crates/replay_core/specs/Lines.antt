@@ -17,7 +17,7 @@ use Rattle.replay_core.specs.Built.{is_built}
 use Rattle.replay_core.specs.Script.{most_input}
 use Rattle.replay_core.specs.Doing.{Ran, Met}
 
--- the status for a fault of the output
+-- the status for an error of the output
 abbrev pub output_status : PortError → Status
 output_status port.Failed = status.Write
 output_status port.Memory = status.Memory
@@ -39,7 +39,7 @@ new_lines old new = lines_from (length old.entries) (drop (length old.entries) n
 abbrev pub RanNext : ReplayOptions → Command → Work → Work → Type 0
 RanNext o c old new = Ran (old.commands + 1) c o.budget o.attempts old.ledger new.ledger
 
--- the command met the limit
+-- the command reached the limit
 abbrev pub MetNext : ReplayOptions → Command → Work → Work → ℕ → Type 0
 MetNext o c old new n = Met (old.commands + 1) c o.budget o.attempts old.ledger new.ledger n
 
@@ -55,12 +55,12 @@ pub record Undone (c : Command) (old : Work) (before after : Option (List ℕ)) 
   pub unbuilt : is_built c ≡ false
   pub printed : Appends before after []
 
--- the command met the limit, and its lines are printed
+-- the command reached the limit, and its lines are printed
 pub record MetPrinted (options : ReplayOptions) (c : Command) (old new : Work) (before after : Option (List ℕ)) (n : ℕ) : Type 0 where
   pub met : MetNext options c old new n
   pub printed : Appends before after (new_lines old.ledger new.ledger)
 
--- a front of the command's lines is printed
+-- a prefix of the command's lines is printed
 pub record RanShort (options : ReplayOptions) (c : Command) (old new : Work) (before after : Option (List ℕ)) : Type 0 where
   pub built : is_built c ≡ true
   pub ran : RanNext options c old new
@@ -74,7 +74,7 @@ pub record MetShort (options : ReplayOptions) (c : Command) (old new : Work) (be
 abbrev pub PrintedShort : ReplayOptions → Command → Work → Work → Option (List ℕ) → Option (List ℕ) → Type 0
 PrintedShort o c old new before after = RanShort o c old new before after ⊎ MetShort o c old new before after
 
--- why a command that stands at an offset wasn't done
+-- why a command at an offset wasn't done
 abbrev pub Stops : ReplayOptions → ℕ → Command → Work → Work → Option (List ℕ) → Option (List ℕ) → Status → Type 0
 Stops o at c old new before after status.Done = ⊥
 Stops o at c old new before after status.Usage = ⊥

@@ -31,11 +31,11 @@ pub record IsPart (options : ReplayOptions) (done : List (ℕ × Command)) (c : 
   pub begun : JobBegun (length done + 1) c options.budget options.attempts before segment
   pub full : options.entries ≡ length h
 
--- what the script is, where the input tells its bytes
+-- what the script is, where the input exposes its contents
 abbrev pub Tells : Option (List ℕ) → Script → Type 0
 Tells left script = (bytes : List ℕ) → left ≡ Some bytes → script_of bytes ≡ script
 
--- what the script begins with, where the input tells its bytes
+-- what the script begins with, where the input exposes its contents
 abbrev pub TellsFirst : Option (List ℕ) → List (ℕ × Command) → Type 0
 TellsFirst left done = (bytes : List ℕ) → left ≡ Some bytes → (rest : Script) × (script_of bytes ≡ prepend done rest)
 
@@ -65,7 +65,7 @@ pub record EndsNotYet (options : ReplayOptions) (at : ℕ) (left before after : 
   pub unbuilt : is_built command ≡ false
   pub written : Appends before after (lines_from 0 history)
 
--- the commands before one that met the limit were done, and a part of that one
+-- the commands before one that reached the limit were done, and a part of that one
 pub record EndsFull (options : ReplayOptions) (count : ℕ) (left before after : Option (List ℕ)) : Type 0 where
   pub done : List (ℕ × Command)
   pub at : ℕ
@@ -76,7 +76,7 @@ pub record EndsFull (options : ReplayOptions) (count : ℕ) (left before after :
   pub count_is : count ≡ length history
   pub written : Appends before after (lines_from 0 history)
 
--- the commands of the documents that stand whole in what was taken were done
+-- the commands of the documents that are whole in what was taken were done
 pub record EndsRead (options : ReplayOptions) (left left_now before after : Option (List ℕ)) : Type 0 where
   pub taken : List ℕ
   pub consumed : Consumes left left_now taken
@@ -94,7 +94,7 @@ pub record IsLines (options : ReplayOptions) (left : Option (List ℕ)) (text : 
   pub run : IsRun options done history
   pub is : text ≡ lines_from 0 history
 
--- the same, with those of a part of the next command, which met the limit
+-- the same, with those of a part of the next command, which reached the limit
 pub record IsPartLines (options : ReplayOptions) (left : Option (List ℕ)) (text : List ℕ) : Type 0 where
   pub done : List (ℕ × Command)
   pub at : ℕ
@@ -112,7 +112,7 @@ pub record IsText (options : ReplayOptions) (left : Option (List ℕ)) (text : L
   pub run : IsRun options done history
   pub is : text ≡ text_of history (length done)
 
--- what was written is a front of such lines, or of the whole text
+-- what was written is a prefix of such lines, or of the whole text
 pub record EndsShort (options : ReplayOptions) (left before after : Option (List ℕ)) : Type 0 where
   pub text : List ℕ
   pub due : IsLines options left text ⊎ (IsPartLines options left text ⊎ IsText options left text)

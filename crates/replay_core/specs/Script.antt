@@ -12,7 +12,7 @@ pub data Ending : Type 0 where
   Clean : Ending
   -- what was taken of the input ended
   Cut : Ending
-  -- what stands there isn't a command
+  -- what is there isn't a command
   Bad : (at : ℕ) → Ending
   -- the input is longer than it may be
   Long : Ending
@@ -68,7 +68,7 @@ script_from ended at bytes = script_by ended (documents_at the_limits at bytes)
 abbrev pub script_of : List ℕ → Script
 script_of bytes = script_from true 0 bytes
 
--- the commands of the documents that stand whole in the front of an input
+-- the commands of the documents that are whole in a prefix of an input
 abbrev pub script_within : List ℕ → Script
 script_within bytes = script_from false 0 bytes
 

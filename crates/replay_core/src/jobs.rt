@@ -17,9 +17,9 @@ use std::alloc::Global;
 /// takes the object away, a Release one, which takes the uses of its pod away; an Invalid has one, which
 /// refuses it with its error. A Schedule has one for the reservation, one for each claim of the pod in order
 /// and one for the binding, or one for the verdict. Where a refusal of the command holds, its one entry is
-/// the denial. `Stop::NotBuilt` comes if the command is of a form that isn't supported yet, and the ledger
-/// stays as it was. `Stop::Full` comes if the history has as many entries as it may have and one more is
-/// due, and `Stop::Memory` only if memory runs out: the entries that were made before stay.
+/// the denial. `Stop::NotBuilt` is returned if the command's form isn't supported yet, and the ledger is
+/// unchanged. `Stop::Full` is returned if the history has as many entries as it may have and one more is
+/// expected, and `Stop::Memory` only if memory runs out: the entries that were made before stay.
 pub fn do_command(
     alloc: Global,
     ledger: &mut Ledger,

@@ -10,7 +10,7 @@ ghost use Rattle.commands.specs.declared.command.Command.{Command};
 ghost use Rattle.replay_core.specs.Jobs.{RunOf};
 
 /// In the run of commands with a budget, each plan and each verdict is what searches of the nodes
-/// within that budget give at its place.
+/// within that budget return at its index.
 pub fn runs_search_within()
     ensures plans { (budget attempts : ℕ) (commands : List Command) (front back : List Entry) (job : ℕ) (pod : Key) (plan : Plan) →
         RunOf budget attempts commands (front ++ record { job = job; event = Event.Reserved pod plan } ∷ back) → PlanBy (state_at front plan.at) pod budget plan }

@@ -69,14 +69,14 @@ fn input_status(error: DocError) -> Status
 /// Does the commands of an input in order, each as a job of a ledger of at most `entries` entries, with
 /// searches within the budget, and prints the lines of each once it is done, and the summary at the end.
 ///
-/// The status says what the script is, if the input tells its bytes, which of its commands were
-/// done, and what was written, if the output tells it (`Ends`). With `Done` that is the whole text of
-/// a legal history, the summary at its end. With `Memory` and `Write` it is a front of the lines of
+/// The status says what the script is, if the input exposes its contents, which of its commands were
+/// done, and what was written, if the output exposes it (`Ends`). With `Done` that is the whole text of
+/// a legal history, the summary at its end. With `Memory` and `Write` it is a prefix of the lines of
 /// some first commands or of the whole text, perhaps all of it; with every other status none of the
 /// summary was written. What the entries of a legal history mean is the laws of `ledger_core`.
 ///
 /// Each command that was done, or begun, is of a supported form in the state before it. Each plan and
-/// each verdict is what searches of the nodes within the budget of the options give, at its place. With
+/// each verdict is what searches of the nodes within the budget of the options return, at its index. With
 /// each status the history has at most `entries` entries, and where one more was expected it has
 /// exactly so many.
 pub fn replay<S: Source, K: Sink>(

@@ -3,7 +3,7 @@
 pub enum Status {
     /// All was done.
     Done,
-    /// The words aren't a command.
+    /// The arguments aren't a command.
     Usage,
     /// The document at this offset isn't a command.
     Document(u64),
@@ -13,9 +13,9 @@ pub enum Status {
     Read,
     /// The output failed.
     Write,
-    /// The history has so many entries and one more is due, or the input is longer than so many
+    /// The history has so many entries and one more is expected, or the input is longer than so many
     /// bytes.
     Limit(u64),
-    /// The document at this offset is a command of a form that this program doesn't do yet.
+    /// The document at this offset is a command whose form this program doesn't support yet.
     NotYet(u64),
 }

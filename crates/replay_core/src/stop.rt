@@ -7,9 +7,9 @@ use std::alloc::{AllocError, AllocFailed};
 /// Why a command wasn't done.
 #[derive(Clone, Copy, Debug, PartialEq, Eq, Drop)]
 pub enum Stop {
-    /// It is of a form that isn't done yet.
+    /// Its form isn't supported yet.
     NotBuilt,
-    /// The history has so many entries, and one more is due.
+    /// The history has so many entries, and one more is expected.
     Full(u64),
     /// Memory ran out.
     Memory,

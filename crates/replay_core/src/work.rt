@@ -24,7 +24,7 @@ pub struct Work {
     pub commands: u64,
 }
 
-/// The status for a fault of the output.
+/// The status for an error of the output.
 pub fn write_status(error: PortError) -> Status
     ensures { result ≡ output_status error }
 {

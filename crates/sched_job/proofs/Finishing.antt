@@ -89,7 +89,7 @@ assumed None e f = absurd cc
 assumed (Some (Assumed had)) e f = (had, refl)
 assumed (Some Written) e f = absurd cc
 
--- what is due of a pod that is there
+-- what is next for a pod that is there
 due_is : (s : State) (job : ℕ) (pod : Key) (o : Option PodState) (d : Due) → at_key s.pods pod ≡ o → due_by s job pod o ≡ d → (d ≡ due.Nothing → ⊥) → (p : PodState) × (o ≡ Some p) × (is_taken_by job p.phase ≡ true) × (due_for (next_claim s pod p) ≡ d)
 due_is s job pod None d there e some = absurd (some (sym e))
 due_is s job pod (Some p) d there e some = pick (is_taken_by job p.phase) refl e

@@ -1,4 +1,4 @@
--- What one entry more does to what is said of each entry, to a job's last entry and to the state at a place.
+-- What one entry more does to what holds for each entry, to a job's last entry and to the state at an index.
 use Rattle.std.proofs.Common.{ℕ, ◌≡◌, ◌∙◌, ◌+◌, ◌≤◌, ◌++◌, List, [], ◌∷◌, Bool, true, false, cond, eqb, length, sym, ap, subst, arith, append-nil, append_assoc, eq-eqb}
 use Rattle.std.proofs.lemmas.List.{take-append-le}
 use Rattle.cluster.specs.declared.entry.Entry.{Entry}
@@ -23,7 +23,7 @@ told_more step a n (d ∷ es) e =
     let eq : n + 1 + length es + 1 ≡ n + length (d ∷ es) + 1 = omega arith in
     told_more step (step a (n + 1) d) (n + 1) es e ∙ ap (λ (k : ℕ). step (told step (step a (n + 1) d) (n + 1) es) k e) eq
 
--- the place of a job's last entry after one more
+-- the index of a job's last entry after one more
 pub last_more : (h : List Entry) (e : Entry) (job : ℕ) → last_place (h ++ e ∷ []) job ≡ cond (eqb e.job job) (length h + 1) (last_place h job)
 unfolding last_place
 last_more h e job =
@@ -47,11 +47,11 @@ pub last_within : (h : List Entry) (job : ℕ) → last_place h job ≤ length h
 unfolding last_place
 last_within h job = let r = last_from_within job 0 0 h (omega arith) in omega arith
 
--- the state at a place stays, however the history grows
+-- the state at an index stays, however the history grows
 pub state_stays : (h es : List Entry) (at : ℕ) → at ≤ length h → state_at (h ++ es) at ≡ state_at h at
 state_stays h es at le = ap state_of (take-append-le at h es le)
 
--- what one entry more does to a job's stand
+-- what one entry more does to a job's state
 abbrev pub Grows : Type 0
 Grows = (h : List Entry) (e : Entry) (job : ℕ) → stand_of (h ++ e ∷ []) job ≡ cond (eqb e.job job) (stand_after (stand_of h job) (length h + 1) e.event) (stand_of h job)
 

@@ -373,7 +373,7 @@ fits_command c h (Schedule pod attempts) kept s = fits_stage c h pod kept s
 fits_command c h (Release pod) kept s = tt
 fits_command c h (Adopt claim status) kept s = tt
 
--- a work that is running meets the condition of a turn
+-- a work that is running satisfies the condition of a turn
 pub running_fits : (c : Run) (h : List Entry) (w : Work) → Running c h w → Fits h w
 running_fits c h w r = subst (λ (x : Command). FitsCommand h x w.stage) (sym r.command) (fits_command c h c.command w.stage r.staged)
 

@@ -266,7 +266,7 @@ ended_by (stand.Conflicted k) kept p e open_yet = not_ended_by kept p e
 ended_by (stand.Failed k) kept p e open_yet = not_ended_by kept p e
 ended_by (stand.Ended q) kept p e open_yet = cc
 
--- where a turn is followed by another one, no search is due
+-- where a turn is followed by another one, no search is next
 pub thought_again : (budget : ℕ) (st : JobState) (cmd : Command) (kept made : Stage) → answer st made ≡ next.Again → made ≡ kept → Thought budget cmd kept made
 thought_again budget st cmd kept made e is = subst (λ (x : Stage). Thought budget cmd x made) is (thought_unseen budget cmd made (again_by st made e))
 
@@ -287,7 +287,7 @@ think_by (stand.Conflicted k) kept e = refl
 think_by (stand.Failed k) kept e = refl
 think_by (stand.Ended p) kept e = absurd cc
 
--- where a search is due, the job hasn't ended
+-- where a search is next, the job hasn't ended
 pub think_open : (st : JobState) (kept : Stage) → answer st kept ≡ next.Think → is_ended st ≡ false
 think_open st kept e = think_by st kept e
 

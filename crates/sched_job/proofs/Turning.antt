@@ -69,7 +69,7 @@ of_pod c h pod attempts is kept e other there mine named =
     let r = each_there (λ before d. d.job ≡ c.job → JobStep c before d.event) [] h e there.0 there.1 there.2 kept in
     about (attempts_of c.command) attempts pod other e.event ((r.1 mine).of_command ∙ is) named
 
--- what the ledger says of a job that has a pod
+-- what the ledger states about a job that has a pod
 abbrev pub StaysTaken : Type 0
 StaysTaken = (h : List Entry) (job : ℕ) (pod : Key) → Legal h → ((e : Entry) (other : Key) → Contains h e → e.job ≡ job → pod_in e.event ≡ Some other → other ≡ pod) → has_pod (stand_of h job) ≡ true → (state : PodState) × ((node : List ℕ) × IsTaken (state_of h) pod job node state)
 
@@ -193,7 +193,7 @@ seen_thinks (stand.Conflicted k) h e = refl
 seen_thinks (stand.Failed k) h e = refl
 seen_thinks (stand.Ended p) h e = absurd cc
 
--- a turn that appends nothing says that a search is due
+-- a turn that appends nothing says that a search is next
 pub answers : StaysTaken → (c : Run) (h : List Entry) (w : Work) → Legal h → Running c h w → is_ended (stand_of h w.job) ≡ false → move_of h w ≡ None → answer (stand_of h w.job) (stage_after h w) ≡ next.Think
 answers stays c h w legal r open_yet none = ap (answer (stand_of h w.job)) (thinks stays c h w legal r open_yet none) ∙ seen_thinks (stand_of h w.job) h open_yet
 

@@ -11,6 +11,6 @@ Each P before (e ∷ es) = P before e × Each P (before ++ e ∷ []) es
 abbrev pub next_last : ℕ → ℕ → ℕ → Entry → ℕ
 next_last job last place e = if e.job == job then place else last
 
--- the place of the job's last entry, or 0
+-- the index of the job's last entry, or 0
 unfoldable pub last_place : List Entry → ℕ → ℕ
 last_place h job = told (next_last job) 0 0 h

@@ -38,7 +38,7 @@ use Rattle.sched_job.specs.declared.work.Stage.{Stage}
 use Rattle.sched_job.specs.declared.work.Stage.TheVariants as stage
 use Rattle.sched_job.specs.declared.work.Work.{Work}
 
--- with the event that is due, if one is
+-- with the event that is next, if one is
 abbrev pub moved : History → ℕ → Option Event → History
 moved h job None = h
 moved h job (Some event) = appended h job event
@@ -185,7 +185,7 @@ abbrev pub FitsChoice : List Entry → Key → Decision → Type 0
 FitsChoice h pod (Reserve plan) = IsPlanned h pod plan
 FitsChoice h pod (Judge verdict) = MayJudge h pod verdict
 
--- what was chosen is true at its place in this history
+-- what was chosen is true at its index in this history
 abbrev pub FitsStage : List Entry → Key → Stage → Type 0
 FitsStage h pod stage.Ready = Unit {0}
 FitsStage h pod (stage.Seen seen) = Unit {0}

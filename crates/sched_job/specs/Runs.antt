@@ -75,7 +75,7 @@ command_of attempts (Denied command refusal) = denied_command attempts command
 
 -- ---- when an entry of the job may come
 
--- The place of an attempt is neither before the job began, nor before its last entry, nor past the entries, and fewer
+-- The index of an attempt is neither before the job began, nor before its last entry, nor past the entries, and fewer
 -- attempts than it has have failed.
 pub record IsTry (c : Run) (before : List Entry) (at : ℕ) : Type 0 where
   pub from : c.from ≤ at
@@ -84,12 +84,12 @@ pub record IsTry (c : Run) (before : List Entry) (at : ℕ) : Type 0 where
   pub may : may_try (stand_of before c.job) ≡ true
   pub left : failures (stand_of before c.job) < attempts_of c.command
 
--- the plan is what searches within the budget find at its place
+-- the plan is what searches within the budget find at its index
 pub record TriedPlan (c : Run) (before : List Entry) (pod : Key) (plan : Plan) : Type 0 where
   pub try : IsTry c before plan.at
   pub by : PlanBy (state_at before plan.at) pod c.budget plan
 
--- the verdict is what searches within the budget tell at its place
+-- the verdict is what searches within the budget return at its index
 pub record TriedVerdict (c : Run) (before : List Entry) (pod : Key) (verdict : Verdict) : Type 0 where
   pub try : IsTry c before verdict.at
   pub by : VerdictBy (state_at before verdict.at) pod c.budget verdict
@@ -109,7 +109,7 @@ Timed c before (Released pod) = Unit {0}
 Timed c before (Adopted claim status) = Unit {0}
 Timed c before (Denied command refusal) = failures (stand_of before c.job) < attempts_of c.command
 
--- an entry of the job: it comes after the job began, is of the command, and tells what searches within the budget find
+-- an entry of the job: it comes after the job began, is of the command, and states what searches within the budget find
 pub record JobStep (c : Run) (before : List Entry) (event : Event) : Type 0 where
   pub after : c.from ≤ length before
   pub of_command : command_of (attempts_of c.command) event ≡ c.command
@@ -157,12 +157,12 @@ Counted c (stand.Conflicted failed) = IsUnderWay c failed
 Counted c (stand.Failed failed) = HasFailed c failed
 Counted c (stand.Ended place) = Unit {0}
 
--- the snapshot is of the state at its place, at which an attempt may be made
+-- the snapshot is of the state at its index, at which an attempt may be made
 pub record IsSeen (c : Run) (h : List Entry) (seen : Snapshot) : Type 0 where
   pub try : IsTry c h seen.at
   pub state : seen.state ≡ state_at h seen.at
 
--- the plan is true at its place, and what searches within the budget find there
+-- the plan is true at its index, and what searches within the budget find there
 pub record ChosenPlan (c : Run) (h : List Entry) (pod : Key) (plan : Plan) : Type 0 where
   pub tried : TriedPlan c h pod plan
   pub holds : PlanTrue (state_at h plan.at) pod plan

@@ -19,7 +19,7 @@ use Rattle.sched_job.specs.Runs.{Run, Running, JobRun, JobBegun, attempts_of, is
 
 -- ---- the search between two turns
 
--- what was chosen is the decision on the pod in the snapshot's state, at its place
+-- what was chosen is the decision on the pod in the snapshot's state, at its index
 pub record IsDecided (seen : Snapshot) (pod : Key) (budget : ℕ) (made : Stage) : Type 0 where
   pub choice : Decision
   pub is : made ≡ Chosen choice
@@ -46,7 +46,7 @@ Thought budget (Adopt claim status) stage made = made ≡ stage
 
 -- ---- steps
 
--- one turn of the work, and the search where it is due
+-- one turn of the work, and the search if one is next
 pub record OneTurn (budget : ℕ) (H H' : History) (w w' : Work) : Type 0 where
   pub moves : H' ≡ moved H w.job (move_of H.entries w)
   pub job : w'.job ≡ w.job

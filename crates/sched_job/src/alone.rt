@@ -14,10 +14,10 @@ use ledger_core::{Ledger, LedgerError};
 use std::alloc::Global;
 
 /// Runs a job that has no entry yet to its end, by turns and searches, with no other job between them.
-/// Returns the place of its last entry. Whatever it returns, the history extends the old one by entries of
-/// this job alone, none of which is a refusal of its plan, a
-/// conflict or contended; there are at most 35 of them for each attempt and one more. `Full` comes only if the history has its limit of entries, and `Memory` only if memory
-/// runs out: the entries that were made before stay, and the job was begun.
+/// Returns the index of its last entry. Whatever it returns, the history extends the old one by entries of
+/// this job alone, none of which is a refusal of its plan, a conflict or contended; there are at most 35 of
+/// them for each attempt and one more. `Full` is returned only if the history has its limit of entries, and
+/// `Memory` only if memory runs out: the entries that were made before stay, and the job was begun.
 pub fn run_alone(
     alloc: Global,
     ledger: &mut Ledger,

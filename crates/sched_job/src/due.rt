@@ -48,7 +48,7 @@ fn due_of_pod(
     }
 }
 
-/// Whether the pod is there, and taken by the job. Takes no memory.
+/// Whether the pod is there, and taken by the job. Allocates nothing.
 pub fn is_taken(state: &State, job: u64, pod: &Key) -> bool
     ensures { result ≡ taken_by job (at_key state.now.pods pod.now) }
 {

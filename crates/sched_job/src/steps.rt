@@ -21,7 +21,7 @@ fn is_ended(stand: JobState) -> bool
     }
 }
 
-/// One turn of the work, and the search where it is due, unless its job has ended. Returns how many turns
+/// One turn of the work, and the search if one is next, unless its job has ended. Returns how many turns
 /// that were.
 pub fn go(
     alloc: Global,
@@ -73,11 +73,11 @@ fn go_at(
     go(alloc, ledger, &mut works[at], budget)
 }
 
-/// Makes one turn for each step, of the work at that index, with the search after it where one is due; a
+/// Makes one turn for each step, of the work at that index, with the search after it if one is next; a
 /// work whose job has ended is passed over. Returns how many turns there were. Whatever it returns, the
 /// history extends the old one by entries of these jobs, each job that has ended was run to its end, and
-/// each other one was begun. `Full` comes only if the history has its limit of entries, and `Memory` only
-/// if memory runs out.
+/// each other one was begun. `Full` is returned only if the history has its limit of entries, and `Memory`
+/// only if memory runs out.
 pub fn run_steps(
     alloc: Global,
     ledger: &mut Ledger,

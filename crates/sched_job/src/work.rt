@@ -37,7 +37,7 @@ pub enum Command {
 pub enum Stage {
     /// Nothing.
     Ready,
-    /// A search is due over this snapshot.
+    /// A search over this snapshot is next.
     Seen(Snapshot),
     /// What a search found.
     Chosen(Decision),
@@ -58,12 +58,12 @@ pub enum Next {
     Think,
     /// By another turn.
     Again,
-    /// It has ended: this is the place of its last entry.
+    /// It has ended: this is the index of its last entry.
     Ended(u64),
 }
 
 impl Work {
-    /// The work of a job that has no entry yet. Takes no memory.
+    /// The work of a job that has no entry yet. Allocates nothing.
     pub fn new(job: u64, command: Command) -> Work
         ensures { result ≡ record { job = job; command = command; stage = Stage.Ready } }
     {
@@ -75,8 +75,8 @@ impl Work {
     }
 
     /// Makes the job's next step, which appends at most one entry: the one that the history so far, the
-    /// command and the last search ask for (`move_of`). It returns `Ended` if and only if the job has
-    /// ended, `Think` if a snapshot of the present state was taken, and else `Again`. `Full` comes only if
+    /// command and the last search require (`move_of`). It returns `Ended` if and only if the job has
+    /// ended, `Think` if a snapshot of the present state was taken, and else `Again`. `Full` is returned only if
     /// the history has its limit of entries, and `Memory` only if memory runs out; then nothing changed.
     pub fn turn(&mut self, alloc: Global, ledger: &mut Ledger) -> Result<Next, LedgerError>
         requires { Fits ledger.old.entries self.old }
@@ -100,7 +100,7 @@ impl Work {
         Ok(answer(ledger.stand(self.job), &self.stage))
     }
 
-    /// Makes the search that is due over a snapshot, in which each search of a node looks at no more items
+    /// Makes the search that is next over a snapshot, in which each search of a node looks at no more items
     /// of its walk than the budget says, and drops the snapshot. It reads no ledger. `AllocError` only
     /// if memory runs out.
     pub fn think(&mut self, alloc: Global, budget: u64) -> Result<(), AllocError>
