@@ -1,4 +1,4 @@
--- What is decided is true, and is what searches within the budget tell.
+-- What is decided is true, and is what searches within the budget show.
 use Rattle.std.proofs.Common.{ℕ, zero, suc, ◌≡◌, ◌∙◌, List, [], ◌∷◌, ◌++◌, Bool, true, false, cond, not, Option, None, Some, take, refl, sym, ap, subst, arith}
 use Rattle.std.specs.List.{All, AllByRecursion, Contains, find, take_while}
 use Rattle.std.specs.List.Sorted.{IsStrictlySortedBy}

@@ -1,4 +1,4 @@
--- Nothing stands against a true plan.
+-- A true plan holds.
 use Rattle.std.proofs.Common.{ℕ, ◌≡◌, ◌∙◌, List, Bool, Some, sym, subst}
 use Rattle.std.specs.List.{Contains, find, position_or_len, slice_get}
 use Rattle.std.specs.Map.{keys_of}
@@ -31,7 +31,7 @@ contains_at xs i x e = (i, slice_get_within xs i x e, get_or_from_slice_get xs i
 contains_found : {X : Type 0} (t : X → Bool) (xs : List X) (x : X) → find t xs ≡ Some x → Contains xs x
 contains_found t xs x e = contains_at xs (position_or_len t xs) x (sym (find_at t xs) ∙ e)
 
--- what the law of walks says of full items
+-- what the law of walks states about full items
 abbrev pub Fulls : Type 0
 Fulls = (s : State) (pod : Pod) (node : List ℕ) (x : Item) → IsSome (at_name s.inventory.nodes node) → Contains (walk_on s pod node) x → x.mark ≡ Full
     → IsAllocation s (wanted s pod) node x.choice (grants_at (input_for s pod node) x)

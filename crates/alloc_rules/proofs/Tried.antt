@@ -1,4 +1,4 @@
--- What a search of a node tells, as the answer of its search says.
+-- What a search of a node shows, by its outcome.
 use Rattle.std.proofs.Common.{ℕ, ◌≡◌, ◌∙◌, List, Option, None, Some, refl, sym, ap, subst}
 use Rattle.std.specs.Option.{option_map}
 use Rattle.walk.specs.Walk.{Item, Mark, Part, Full, Fault}

@@ -19,7 +19,7 @@ is_idle_by (Some p) = is_idle p.phase
 abbrev pub is_idle_pod : State → Key → Bool
 is_idle_pod s pod = is_idle_by (at_key s.pods pod)
 
--- the plan is made at the place, is true there, and is what searches within the budget find
+-- the plan is made at the index, is true there, and is what searches within the budget find
 pub record IsReserve (s : State) (pod : Key) (budget at : ℕ) (plan : Plan) : Type 0 where
   pub place : plan.at ≡ at
   pub holds : PlanTrue s pod plan

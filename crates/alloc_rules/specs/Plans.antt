@@ -31,7 +31,7 @@ CauseTrue s pod node (cause.Fault fault) = (budget : ℕ) × IsFault s pod budge
 CauseTrue s pod node (cause.Budget budget) = IsBudget s pod budget node
 CauseTrue s pod node (cause.Other claim) = other_claim s pod node ≡ Some claim
 
--- the cause is what a search within the budget tells
+-- the cause is what a search within the budget shows
 abbrev pub CauseBy : State → Pod → ℕ → List ℕ → Cause → Type 0
 CauseBy s pod budget node cause.Unsat = FindsNone s pod budget node
 CauseBy s pod budget node (cause.Fault fault) = IsFault s pod budget node fault
@@ -58,8 +58,8 @@ pub record MaySearch (s : State) (pod : Key) (state : PodState) : Type 0 where
   pub there : missing_claim s state.pod.object ≡ None
   pub room : full_claim s pod state.pod.object ≡ None
 
--- The plan is true of the state at its place: it takes the first node by name that has an
--- allocation, and grants the first one that the walk of that node meets.
+-- The plan is true of the state at its index: it takes the first node by name that has an
+-- allocation, and grants the first one that the walk of that node reaches.
 pub record PlanTrue (s : State) (pod : Key) (plan : Plan) : Type 0 where
   pub state : PodState
   pub may_search : MaySearch s pod state
@@ -84,7 +84,7 @@ pub record PlanBy (s : State) (pod : Key) (budget : ℕ) (plan : Plan) : Type 0 
   pub found : outcome_on s state.pod.object plan.node budget ≡ Ended item
   pub full : item.mark ≡ Full
 
--- Nothing stands against the plan at this state: the pod and its claims are those that the plan
+-- The plan holds at this state: the pod and its claims are those that the plan
 -- knew, and the grants are an allocation.
 pub record Holds (s : State) (pod : Key) (plan : Plan) : Type 0 where
   pub state : PodState
@@ -118,7 +118,7 @@ ReasonTrue s pod state (reason.Missing claim) = missing_claim s state.pod.object
 ReasonTrue s pod state (reason.Users claim) = IsFirstFull s pod state claim
 ReasonTrue s pod state (reason.Nodes nodes) = NodesTrue s pod state nodes
 
--- the verdict is true of the state at its place
+-- the verdict is true of the state at its index
 pub record VerdictTrue (s : State) (pod : Key) (verdict : Verdict) : Type 0 where
   pub state : PodState
   pub idle : IsIdle s pod state
@@ -129,7 +129,7 @@ ReasonBy s pod budget (reason.Missing claim) = Unit {0}
 ReasonBy s pod budget (reason.Users claim) = Unit {0}
 ReasonBy s pod budget (reason.Nodes nodes) = All (λ p. CauseBy s pod budget p.node p.cause) nodes
 
--- the verdict is what searches within the budget tell
+-- the verdict is what searches within the budget show
 pub record VerdictBy (s : State) (pod : Key) (budget : ℕ) (verdict : Verdict) : Type 0 where
   pub state : PodState
   pub there : at_key s.pods pod ≡ Some state

@@ -25,7 +25,7 @@ pub record FindsGrants (s : State) (pod : Pod) (budget : ℕ) (node : List ℕ) 
   pub full : item.mark ≡ Full
   pub grants_are : grants ≡ grants_at (input_for s pod node) item
 
--- what the node has is what a search of it tells
+-- what the node has is what a search of it shows
 abbrev pub IsTried : State → Pod → ℕ → List ℕ → Tried → Type 0
 IsTried s pod budget node (tried.Found grants) = FindsGrants s pod budget node grants
 IsTried s pod budget node (tried.Passed cause) = CauseBy s pod budget node cause
@@ -36,7 +36,7 @@ tried_of budget outcome.Unsat = tried.Passed cause.Unsat
 tried_of budget (outcome.Fault fault) = tried.Passed (cause.Fault fault)
 tried_of budget outcome.Budget = tried.Passed (cause.Budget budget)
 
--- these nodes, and no others, are passed over, each with what a search of it tells
+-- these nodes, and no others, are passed over, each with what a search of it shows
 pub record AllPassed (s : State) (pod : Pod) (budget : ℕ) (names : List (List ℕ)) (passed : List Passed) : Type 0 where
   pub names_are : nodes_of passed ≡ names
   pub causes : AllByRecursion (λ p. CauseBy s pod budget p.node p.cause) passed

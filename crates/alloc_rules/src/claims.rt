@@ -99,7 +99,7 @@ pub fn granted(alloc: Global, state: &State, claims: &[Key]) -> Result<Seq<Key>,
     Ok(granted)
 }
 
-/// Puts the key of a claim at the end, where the claim has a grant.
+/// Puts the key of a claim at the end, if the claim has a grant.
 fn push_granted(
     granted: &mut Seq<Key>,
     alloc: Global,
@@ -139,7 +139,7 @@ pub fn known_claims(
     Ok(known)
 }
 
-/// Puts what a plan knows of a claim at the end, where the claim is there.
+/// Puts what a plan knows of a claim at the end, if the claim is there.
 fn push_known(
     known: &mut Seq<KnownClaim>,
     alloc: Global,

@@ -51,11 +51,11 @@ fn is_idle(phase: &Phase) -> bool
 /// The verdict names the first of its claims that is missing, or else the first that has as many users
 /// as it may have, the pod not among them. Otherwise the nodes are tried in the order of their names:
 /// the plan takes the first node on which a search finds an allocation and which has the grants of the
-/// claims that the pod joins; where there is none, the verdict has the cause of each node.
+/// claims that the pod joins; if there is none, the verdict has the cause of each node.
 ///
-/// `holders` are the devices that the state's claims hold. `at` is how many entries stood in the history
+/// `holders` are the devices that the state's claims hold. `at` is how many entries were in the history
 /// whose state this is, and `budget` how many items of a node's walk a search may look at.
-/// `AllocError` comes only if memory runs out.
+/// `AllocError` is returned only if memory runs out.
 pub fn decide(
     alloc: Global,
     state: &State,

@@ -15,9 +15,8 @@ ghost use Rattle.alloc_rules.specs.Plans.{Holds};
 
 use allocations::{changes_hold_once, grants_hold_once};
 
-/// Each device has one holder: it is so where there is nothing yet, and every change keeps it so. A
-/// change that reserves keeps it where nothing stands against the plan, however many claims the plan
-/// grants or joins.
+/// Each device has one holder: it is so if there is nothing yet, and every change keeps it so. A
+/// change that reserves keeps it if the plan holds, however many claims the plan grants or joins.
 pub fn one_holder_is_kept()
     ensures empty { HeldOnce empty_state }
     ensures applied { (place : ℕ) (object : Object) (s : State) → HeldOnce s → HeldOnce (with_object place object s) }

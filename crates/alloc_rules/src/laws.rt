@@ -5,8 +5,8 @@ ghost use Rattle.alloc_rules.specs.Plans.{Holds, PlanTrue};
 
 use allocations::walk_is_allocations;
 
-/// Nothing stands against a true plan at the state that it was made for: its grants are an
-/// allocation of the pod's claims there.
+/// A true plan holds at the state that it was made for: its grants are an allocation of the pod's
+/// claims there.
 pub fn plan_holds()
     ensures { (s : State) (pod : Key) (plan : Plan) → PlanTrue s pod plan → Holds s pod plan }
 {

@@ -29,7 +29,7 @@ pub struct Taken {
     pub grants: Seq<Grant>,
 }
 
-/// What a search within the budget tells of its node.
+/// What a search within the budget shows of its node.
 fn tried_of(budget: u64, outcome: Outcome) -> Tried
     ensures { result ≡ tried_of budget outcome }
 {

@@ -111,7 +111,7 @@ problems_alike v a b drawn h =
     good_alike v a b drawn (open_slots (with_counters v a drawn) c) l h
     ∙ ap (λ (ss : List Slot). is_good (with_counters v b drawn) ss l) (slots_alike v a b drawn c))))
 
--- ---- its answer
+-- ---- its outcome
 
 grants_alike : (v : SearchInput) (a b : List (DeviceId × Key)) (drawn : CounterId → ℕ) (c l : List ℕ) → grants_at (with_counters v a drawn) c l ≡ grants_at (with_counters v b drawn) c l
 unfolding asking.asked matching seats slots grants_of grants_at
@@ -137,7 +137,7 @@ answer_alike v a b drawn budget h =
     ap (λ (p : Problem). answer_by (with_counters v a drawn) (outcome budget (walk p))) (problems_alike v a b drawn h)
     ∙ answers_alike v a b drawn (outcome budget (walk (problem_of (with_counters v b drawn))))
 
--- the answer is that of the held ones among the devices
+-- the outcome is that of the held ones among the devices
 pub same_answer : (v : SearchInput) (h : Holders) (pairs : List (DeviceId × Key)) (drawn : CounterId → ℕ) (budget : ℕ) → AreHeld h pairs
     → answer_of (with_counters v pairs drawn) budget ≡ answer_of (with_counters v (held_among h v.devices) drawn) budget
 same_answer v h pairs drawn budget a = answer_alike v pairs (held_among h v.devices) drawn budget (λ p n. held_alike h pairs v.devices p.position a n)

@@ -1,4 +1,4 @@
--- What the end of a walk says of a board, and what is answered.
+-- What the end of a walk implies for a board, and what is returned.
 use Rattle.std.proofs.Common.{ℕ, zero, suc, ◌<◌, ◌≡◌, ◌⊎◌, List, [], ◌∷◌, length, take, get_or, Some, refl, sym, ap, ◌∙◌, subst, inl, inr, arith}
 use Rattle.std.specs.List.{Contains}
 use Rattle.walk.specs.Walk.{Faulty, Fault, Full, Hopeless, IsAllocation, IsItem, Item, MayBe, Open, Part, Problem, Shape, walk}

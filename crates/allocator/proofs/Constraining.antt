@@ -118,7 +118,7 @@ left_more claim picked old now i a b e f t u =
     subst (λ (z : List ClaimAgreement). EachLeft claim picked z (take (i + 1) (set now i b))) (sym e)
     (subst (EachLeft claim picked (take i old ++ a ∷ [])) (sym f) (left_next claim picked (take i old) (take i now) a b t u))
 
--- one agreement more that gave the result back
+-- one agreement more from which the result was removed
 pub left_step : (claim : ℕ) (picked : constraints.Pick) (old now : List ClaimAgreement) (i : ℕ) (a b : ClaimAgreement) → i < length old → length now ≡ length old → drop i now ≡ drop i old → a ≡ get_or now i a
     → EachLeft claim picked (take i old) (take i now) → Left claim picked a b → EachLeft claim picked (take (i + 1) old) (take (i + 1) (set now i b))
 left_step claim picked old now i a b h n e f t u = left_more claim picked old now i a b (front_old old i a h (was_there old now i a h n e f)) (front_new now i b (omega (arith, h, n))) t u

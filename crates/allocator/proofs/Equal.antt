@@ -1,4 +1,4 @@
--- Device ids are equal where the test says so.
+-- Device ids are equal if the test says so.
 use Rattle.std.proofs.Common.{ℕ, ◌≡◌, List, true, ◌&&◌, sym}
 use Rattle.std.specs.Cmp.Lexicographic.{same_text}
 use Rattle.std.proofs.lemmas.Bool.{and_from, and_parts}

@@ -90,7 +90,7 @@ drawn_now v held kept ps h = fun_ext (λ k. let e = total_is v held (λ k. drawn
 pub placed_push : (v : SearchInput) (ps : List Pick) (p : Pick) (k : CounterId) → placed_draws v (ps ++ p ∷ []) k ≡ placed_draws v ps k + amount k (draws v p)
 placed_push v ps p k = omega (arith, sum_by-append (λ q. amount k (draws v q)) ps (p ∷ []))
 
--- the input stays as the device draws or gives back
+-- the input stays the same as the device draws, or as its draw is undone
 pub same_input : (v : SearchInput) (held : List (DeviceId × Key)) (old new : CounterId → ℕ) → ((k : CounterId) → new k ≡ old k) → with_counters v held new ≡ with_counters v held old
 same_input v held old new h = ap (with_counters v held) (fun_ext h)
 

@@ -1,4 +1,4 @@
--- Elements of lists by their places.
+-- Elements of lists by their indices.
 use Rattle.std.proofs.Common.{ℕ, zero, suc, ◌+◌, ◌<◌, ◌≡◌, List, [], ◌∷◌, Some, map, length, drop, get_or, refl, sym, ap, ◌∙◌, arith}
 use Rattle.std.specs.List.{Contains, slice_get}
 use Rattle.std.proofs.Math.Seq.{drop-cons}

@@ -36,7 +36,7 @@ use Rattle.allocator.proofs.Placed.{nothing_placed}
 abbrev pub board_of : RowsFields → List (DeviceId × Key) → Run → Placed
 board_of rows held r = record { rows = rows; held = held; totals = r.totals; taken = placed (input_of rows) r.slots.items r.positions.items; choice = r.chosen.items; positions = r.positions.items }
 
--- ---- answers
+-- ---- results
 
 pub on_ok : {T E : Type 0} (r : Result T E) (P Q : Type 0) → (P → Q) → OnOk r P → OnOk r Q
 on_ok (Ok x) P Q f p = f p

@@ -9,7 +9,7 @@ use Rattle.request_rules.specs.Rules.{Pick, agrees}
 use Rattle.request_rules.specs.Joining.{seen_all, seen_some}
 use Rattle.allocator.specs.declared.agreements.ClaimAgreement.{ClaimAgreement}
 
--- the device, where there is one, as constraints see it
+-- the device, if there is one, as constraints see it
 abbrev pub result_at : SearchInput → Pick → List constraints.Pick
 result_at v p = seen_some p.label (slice_get v.devices p.position)
 

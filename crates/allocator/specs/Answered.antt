@@ -1,4 +1,4 @@
--- What a search answers.
+-- What a search returns.
 use Rattle.std.specs.Prelude.{ℕ, List, Option, None, Some, map, option_map}
 use Rattle.walk.specs.Walk.{Item, Mark, Part, Full, Fault, walk}
 use Rattle.walk.specs.Outcome as walks
@@ -18,7 +18,7 @@ use Rattle.allocator.specs.declared.outcome.Outcome.TheVariants as outcome
 abbrev pub device_result : NamedResult → DeviceResult
 device_result r = record { name = r.name; device = r.device; admin = r.admin }
 
--- the results of the claim at a place, among devices that are placed
+-- the results of the claim at an index, among devices that are placed
 abbrev pub granted : SearchInput → ℕ → List Pick → List DeviceResult
 granted w i ps = map device_result (map named_result (results_at i (map (result_of w) ps)))
 
@@ -37,12 +37,12 @@ ended_by w x Part = None
 ended_by w x Full = Some (outcome.Found (grants_at w x.choice x.positions))
 ended_by w x Fault = option_map (λ f. outcome.Fault (selector_fault f)) (fault_of w x.choice)
 
--- what is answered where the walk has this outcome
+-- what is returned if the walk has this outcome
 abbrev pub answer_by : SearchInput → walks.Outcome → Option Outcome
 answer_by w (walks.Ended x) = ended_by w x x.mark
 answer_by w walks.Unsat = Some outcome.Unsat
 answer_by w walks.Budget = Some outcome.Budget
 
--- the answer of a search within a budget of so many items of its walk
+-- the outcome of a search within a budget of so many items of its walk
 unfoldable pub answer_of : SearchInput → ℕ → Option Outcome
 answer_of w budget = answer_by w (outcome budget (walk (problem_of w)))

@@ -8,7 +8,7 @@ use Rattle.counter_sets.specs.Totals.{Tabled, keeps}
 use Rattle.request_rules.specs.Lists.{Each, or_else}
 use Rattle.request_rules.specs.Input.{SearchInput}
 
--- the value of a counter, where the slice of one of the devices has it
+-- the value of a counter, if the slice of one of the devices has it
 abbrev pub value_among : List Offered → CounterId → Option ℕ
 value_among [] c = None
 value_among (o ∷ os) c = or_else (counter_value o.slice c) (value_among os c)

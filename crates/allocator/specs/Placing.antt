@@ -58,7 +58,7 @@ input_at v held kept ps = with_counters v held (λ k. drawn_in kept k - placed_d
 
 -- ---- one device more
 
--- the device at the position may stand in the slot, if there is one
+-- the device at the position may be placed in the slot, if there is one
 abbrev pub next_by : SearchInput → List rules.Pick → (least x : ℕ) → Option asking.Slot → Bool
 next_by w ps least x None = false
 next_by w ps least x (Some s) = fills w s least x && may_join w ps (record { label = s.asked.label; position = x })

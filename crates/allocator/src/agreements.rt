@@ -17,7 +17,7 @@ use std::alloc::{AllocError, Global};
 /// A constraint of a claim, over the devices that are placed for the claim.
 #[derive(Drop)]
 pub struct ClaimAgreement<'a> {
-    /// The place of the claim.
+    /// The index of the claim.
     pub claim: usize,
     pub agreement: Agreement<'a>,
 }
@@ -47,7 +47,7 @@ impl<'a> ClaimAgreement<'a> {
         self.agreement.take(picked);
     }
 
-    /// Gives back the result of the claim that was taken last.
+    /// Removes the result of the claim that was taken last.
     fn leave(&mut self, claim: usize, picked: &Picked<'_>)
         ensures { Left claim picked.now self.old self.new }
     {
@@ -81,7 +81,7 @@ pub fn take_all<'a>(agreements: &mut Vec<ClaimAgreement<'a>>, claim: usize, pick
     }
 }
 
-/// Gives back the result of the claim that was taken last.
+/// Removes the result of the claim that was taken last.
 pub fn leave_all(agreements: &mut Vec<ClaimAgreement>, claim: usize, picked: &Picked)
     ensures { EachLeft claim picked.now agreements.old.items agreements.new.items }
 {

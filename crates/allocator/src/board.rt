@@ -79,7 +79,7 @@ impl<'a> RequestBoard<'a> {
         }
     }
 
-    /// The grants of the claims, where the devices that are placed are an allocation.
+    /// The grants of the claims, if the devices that are placed are an allocation.
     pub fn grants(&self, alloc: Global, claims: &[WantedClaim]) -> Result<Seq<Grant>, AllocError>
         requires whole { shape_of (board_setting self.now).input self.now.choice ≡ Open (length self.now.positions) }
         requires claims { claims.now ≡ (board_setting self.now).input.claims }
@@ -94,7 +94,7 @@ impl<'a> RequestBoard<'a> {
         )
     }
 
-    /// The fault of the choice, where it has one.
+    /// The selector error of the choice, which has one.
     pub fn fault(&self, alloc: Global) -> Result<SelectorFault, AllocError>
         requires { shape_of (board_setting self.now).input self.now.choice ≡ Faulty }
         ensures { IfOk result (λ fault. option_map selector_fault (fault_of (board_setting self.now).input self.now.choice) ≡ Some fault) }

@@ -23,7 +23,7 @@ fn selector_fault(fault: FaultPlace) -> SelectorFault
     }
 }
 
-/// The fault of a choice that has one.
+/// The selector error of a choice that has one.
 pub fn fault_at(alloc: Global, rows: &Rows, choice: &[usize]) -> Result<SelectorFault, AllocError>
     requires { shape_of (input_of rows.now) choice.now ≡ Faulty }
     ensures { IfOk result (λ fault. option_map answered.selector_fault (fault_of (input_of rows.now) choice.now) ≡ Some fault) }

@@ -11,6 +11,6 @@ pub enum Outcome {
     /// A selector is neither true nor false of a device, for a choice that comes before each
     /// allocation.
     Fault(SelectorFault),
-    /// There are more items than the budget, and none within it is an allocation or a fault.
+    /// There are more items than the budget, and none within it is an allocation or a selector error.
     Budget,
 }

@@ -51,7 +51,7 @@ fn agrees<'a>(rows: &'a Rows<'a>, agreements: &[ClaimAgreement], pick: Pick) -> 
     all_fit(agreements, rows.row(pick.row).claim, &picked)
 }
 
-/// Whether one device more may stand beside those that are placed.
+/// Whether one device more may be placed with those that are placed.
 fn may_join<'a>(
     rows: &'a Rows<'a>,
     held: &HeldDevices,
@@ -94,7 +94,7 @@ pub fn slot_at(slots: &[Slot], at: usize) -> Option<Slot>
     }
 }
 
-/// The device for the next slot, if it may stand there.
+/// The device for the next slot, if it may be placed there.
 fn next_pick<'a>(
     rows: &'a Rows<'a>,
     held: &HeldDevices,

@@ -66,7 +66,7 @@ fn answer_on(
     outcome_of(alloc, wants, board, answer)
 }
 
-/// Searches the rows with these totals, and gives them back as they were.
+/// Searches the rows with these totals, and returns them as they were.
 fn search_totals<'a>(
     alloc: Global,
     rows: &'a Rows<'a>,
@@ -137,8 +137,8 @@ fn search_rows<'a>(
 /// Searches the devices of a node for the least allocation of the claims, within a budget of so many
 /// items of the walk.
 ///
-/// The answer is exactly the outcome of the walk of these devices and claims within the budget: the
-/// least allocation as a grant for each claim, a fault that stands before each allocation, that there
+/// The result is exactly the outcome of the walk of these devices and claims within the budget: the
+/// least allocation as a grant for each claim, a selector error that comes before each allocation, that there
 /// is neither, or that the budget is spent before one of these is known. `holders` are the devices
 /// that claims hold; `totals` has the counters of the devices, with what the held devices draw, and is
 /// as it was after the search. `AllocError` only if memory runs out; nothing is known of the totals

@@ -19,7 +19,7 @@ use counter_sets::Totals;
 use pool_view::DeviceRef;
 use request_rows::{Row, Rows, Seat, Slot};
 
-/// Whether a device may sit so, after the position before it.
+/// Whether the seat allows the position after the last one.
 fn seated(seat: Seat, last: Option<usize>, position: usize) -> bool
     ensures { result ≡ rules.seated (seat_seen seat) (least_by last) position }
 {
@@ -33,7 +33,7 @@ fn seated(seat: Seat, last: Option<usize>, position: usize) -> bool
     }
 }
 
-/// Whether the device at the position meets the request of the slot, and sits as it is due.
+/// Whether the device at the position satisfies the request of the slot, and is allowed by the slot's seat.
 pub fn fills(rows: &Rows, slot: Slot, last: Option<usize>, position: usize) -> bool
     requires { slot.row < length (all_asked (input_of rows.now)) }
     ensures { result ≡ rules.fills (input_of rows.now) (slot_seen (input_of rows.now) slot) (least_by last) position }
@@ -59,7 +59,7 @@ fn excludes(claim: usize, admin: bool, other_claim: usize, other_admin: bool) ->
     claim == other_claim || (!admin && !other_admin)
 }
 
-/// Whether the two results may stand together. Devices of a node are the same only at one position.
+/// Whether the two results may be placed together. Devices of a node are the same only at one position.
 fn apart(rows: &Rows, other: Pick, pick: Pick) -> bool
     requires other { IsPick (input_of rows.now) other }
     requires pick { IsPick (input_of rows.now) pick }
@@ -74,7 +74,7 @@ fn apart(rows: &Rows, other: Pick, pick: Pick) -> bool
     !excludes(one.claim, one.admin, two.claim, two.admin)
 }
 
-/// Whether the device may stand beside each of those that are placed.
+/// Whether the device may be placed with each of those that are placed.
 pub fn all_apart(rows: &Rows, slots: &[Slot], positions: &[usize], pick: Pick) -> bool
     requires placing { IsPlacing (input_of rows.now) slots.now positions.now }
     requires pick { IsPick (input_of rows.now) pick }
@@ -129,7 +129,7 @@ pub fn draw(rows: &Rows, totals: &mut Totals, pick: Pick)
     totals.draw(device);
 }
 
-/// Gives back what the device draws for the result.
+/// Returns to the counters what the device draws for the result.
 pub fn give_back(rows: &Rows, totals: &mut Totals, pick: Pick)
     requires { IsPick (input_of rows.now) pick }
     ensures drawn { (k : CounterId) → drawn_in totals.new k ≡ drawn_in totals.old k - amount k (draws (input_of rows.now) (pick_seen (input_of rows.now) pick)) }

@@ -18,7 +18,7 @@ use Rattle.object_fields.specs.declared.qualified.QualName.{QualName}
 use Rattle.pool_view.specs.Names.{text_eq}
 use Rattle.cluster.specs.Same.{same_ask, same_attribute, same_constraint, same_exactly, same_kind, same_mode, same_pod_claim, same_pod_claims, same_request, same_spec, same_subrequest, same_truth}
 
--- a test that tells equality
+-- a test that decides equality
 pub record Exact {A : Type 0} (same : A → A → Bool) : Type 0 where
   pub sound : (x y : A) → same x y ≡ true → x ≡ y
   pub whole : (x : A) → same x x ≡ true

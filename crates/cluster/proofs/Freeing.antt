@@ -1,4 +1,4 @@
--- Putting the claims into their places without the pod's uses takes the uses away.
+-- Putting the claims back at their keys without the pod's uses takes the uses away.
 use Rattle.std.proofs.Common.{ℕ, ◌≡◌, ◌∙◌, List, [], ◌∷◌, Bool, true, false, ◌||◌, cond, Option, None, Some, map, option_map, refl, sym, ap}
 use Rattle.std.specs.List.{list_any}
 use Rattle.std.specs.Option.{option_map_or}
@@ -51,7 +51,7 @@ same_by_eq a b e =
 key_itself : (k : Key) → key_eq k k ≡ true
 key_itself k = rw (text_exact.whole k.namespace, text_exact.whole k.name) refl
 
--- ---- what stands at a key of a table with another value
+-- ---- what is at a key of a table with another value
 
 some_same : (v w : ClaimState) → Some v ≡ Some w → v ≡ w
 some_same v w e = cc
@@ -61,7 +61,7 @@ here_by : (test : Key → Bool) (b : Bool) (e : Key × ClaimState) (es : Claims)
 here_by test true e es v w is there later = rw (is) (rw (is) refl)
 here_by test false e es v w is there later = rw (is) (rw (is) (later there))
 
--- what is put in the stead of another
+-- what is put instead of another
 set_here : (test : Key → Bool) (es : Claims) (v w : ClaimState) → lookup test es ≡ Some v → lookup test (set_value test es w) ≡ Some w
 set_here test [] v w there = absurd (cc)
 set_here test (e ∷ es) v w there = here_by test (test e.0) e es v w refl there (λ g. set_here test es v w g)

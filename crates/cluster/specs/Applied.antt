@@ -13,23 +13,23 @@ use Rattle.cluster.specs.declared.state.Phase.TheVariants.{Idle}
 use Rattle.cluster.specs.declared.state.State.{State}
 use Rattle.cluster.specs.Tables.{changed_or_new}
 
--- a claim that a place creates
+-- a claim that the entry at an index creates
 abbrev pub new_claim : ℕ → ResourceClaim → ClaimState
 new_claim place x = record { claim = created place x; grant = None; users = [] }
 
--- a claim that a place updates, with its grant and its users
+-- a claim that the entry at an index updates, with its grant and its users
 abbrev pub updated_claim : ℕ → ResourceClaim → ClaimState → ClaimState
 updated_claim place x c = record c { claim = updated place x c.claim }
 
--- a pod that a place creates
+-- a pod that the entry at an index creates
 abbrev pub new_pod : ℕ → Pod → PodState
 new_pod place x = record { pod = created place x; phase = Idle }
 
--- a pod that a place updates, as far as it has come
+-- a pod that the entry at an index updates, as far as it has come
 abbrev pub updated_pod : ℕ → Pod → PodState → PodState
 updated_pod place x p = record p { pod = updated place x p.pod }
 
--- the state with an object that the place creates, or updates where one of its kind and name is there
+-- the state with an object that the entry at the index creates, or updates if one of its kind and name is there
 abbrev pub with_object : ℕ → Object → State → State
 with_object place (object.Node x) s = record s { inventory = with_node place x s.inventory }
 with_object place (object.Slice x) s = record s { inventory = with_slice place x s.inventory }

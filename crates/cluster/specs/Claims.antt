@@ -15,7 +15,7 @@ use Rattle.cluster.specs.declared.plan.KnownClaim.{KnownClaim}
 abbrev pub claim_keys : Pod → List Key
 claim_keys p = map (λ c. record { namespace = p.key.namespace; name = c.claim }) p.claims
 
--- those that aren't among the seen ones, each at its first place
+-- those that aren't among the seen ones, each at its first occurrence
 abbrev pub first_places : List Key → List Key → List Key
 first_places seen [] = []
 first_places seen (k ∷ ks) = if list_any (λ l. key_eq l k) seen then first_places seen ks else k ∷ first_places (k ∷ seen) ks

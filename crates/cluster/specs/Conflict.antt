@@ -8,6 +8,6 @@ use Rattle.cluster.specs.JobState.{failures}
 abbrev pub with_conflict : State → State
 with_conflict s = s
 
--- its job has met another version, after as many failed attempts
+-- its job has found another version, after as many failed attempts
 abbrev pub conflict_leaves : JobState → JobState
 conflict_leaves st = stand.Conflicted (failures st)

@@ -26,7 +26,7 @@ use Rattle.cluster.specs.declared.state.State.{State}
 use Rattle.cluster.specs.Same.{same_pod_claims, same_spec}
 use Rattle.cluster.specs.State.{has_room, is_idle, is_there}
 
--- the refusal, where it holds
+-- the refusal, if it holds
 abbrev pub when : Bool → Refusal → Option Refusal
 when holds r = if holds then Some r else None
 

@@ -21,7 +21,7 @@ use Rattle.cluster.specs.Released.{with_released, released_leaves}
 use Rattle.cluster.specs.Adopted.{with_adopted, adopted_leaves}
 use Rattle.cluster.specs.Denied.{with_denial, denied_leaves}
 
--- the state after an entry of a job at a place
+-- the state after an entry of a job at an index
 abbrev pub after : ℕ → ℕ → Event → State → State
 after place job (Applied object mode) s = with_object place object s
 after place job (Deleted target) s = without_object target s
@@ -37,7 +37,7 @@ after place job (Released pod) s = with_released place pod s
 after place job (Adopted claim status) s = with_adopted place claim status s
 after place job (Denied command refusal) s = with_denial s
 
--- the stand after an entry of the job at a place
+-- the job's state after its entry at an index
 abbrev pub stand_after : JobState → ℕ → Event → JobState
 stand_after st place (Applied object mode) = applied_leaves place
 stand_after st place (Deleted target) = deleted_leaves place
@@ -53,7 +53,7 @@ stand_after st place (Released pod) = released_leaves place
 stand_after st place (Adopted claim status) = adopted_leaves place
 stand_after st place (Denied command refusal) = denied_leaves place
 
--- a job that stands so may make the entry
+-- a job in this state may make the entry
 abbrev pub allows : JobState → Event → Bool
 allows st (Applied object mode) = is_fresh st
 allows st (Deleted target) = is_fresh st

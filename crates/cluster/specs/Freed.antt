@@ -14,7 +14,7 @@ use Rattle.cluster.specs.declared.state.Use.TheVariants.{Assumed, Written}
 use Rattle.cluster.specs.State.{claims_of}
 use Rattle.cluster.specs.Tables.{changed_at, with_phase}
 
--- a claim whose written use goes gets the place as its version
+-- a claim whose written use goes gets the index as its version
 abbrev pub freed_version : ℕ → Use → ℕ → ℕ
 freed_version place (Assumed seen) version = version
 freed_version place Written version = place
@@ -32,7 +32,7 @@ freed_by place pod None c = c
 freed_by place pod (Some use_of) c =
     record c { claim = record c.claim { version = freed_version place use_of c.claim.version }; grant = grant_left (without_user pod c.users) c.grant; users = without_user pod c.users }
 
--- the claim without the pod's use, where it has one
+-- the claim without the pod's use, if it has one
 abbrev pub freed : ℕ → Key → ClaimState → ClaimState
 freed place pod c = freed_by place pod (at_key c.users pod) c
 

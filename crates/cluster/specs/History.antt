@@ -7,7 +7,7 @@ use Rattle.cluster.specs.declared.state.State.{State}
 use Rattle.cluster.specs.Events.{after, stand_after}
 use Rattle.cluster.specs.State.{empty_state}
 
--- What the entries es make of a, one after another, by what each does at its place; n entries stand
+-- What the entries es make of a, one after another, by what each does at its index; n entries are
 -- before them.
 unfoldable pub told : {A : Type 0} → (A → ℕ → Entry → A) → A → ℕ → List Entry → A
 told step a n [] = a
@@ -24,7 +24,7 @@ state_of h = told next_state empty_state 0 h
 abbrev pub state_at : List Entry → ℕ → State
 state_at h place = state_of (take place h)
 
--- the entry at a place, from 1
+-- the entry at an index, from 1
 abbrev pub entry_at : List Entry → ℕ → Option Entry
 entry_at h place = if place == 0 then None else slice_get h (place - 1)
 

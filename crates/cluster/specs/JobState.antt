@@ -1,4 +1,4 @@
--- How a job stands.
+-- The state of a job.
 use Rattle.std.specs.Prelude.{ℕ, Bool, true, false}
 use Rattle.cluster.specs.declared.entry.JobState.{JobState}
 use Rattle.cluster.specs.declared.entry.JobState.TheVariants as stand
@@ -35,7 +35,7 @@ has_failed (stand.Conflicted k) = false
 has_failed (stand.Failed k) = true
 has_failed (stand.Ended place) = false
 
--- it has met another version of a claim
+-- it has found another version of a claim
 abbrev pub is_conflicted : JobState → Bool
 is_conflicted stand.Fresh = false
 is_conflicted (stand.Reserved k) = false

@@ -1,4 +1,4 @@
--- What a pod's claims are without its uses, made before any of it is put into its place.
+-- What a pod's claims are without its uses, made before any of it is put at its key.
 use Rattle.std.specs.Prelude.{ℕ, List, [], ◌∷◌, Option, None, Some, map, option_map}
 use Rattle.object_fields.specs.declared.key.Key.{Key}
 use Rattle.api_cluster.specs.declared.types.Pod.{Pod}
@@ -10,7 +10,7 @@ use Rattle.cluster.specs.declared.state.PodState.{PodState}
 use Rattle.cluster.specs.Freed.{freed}
 use Rattle.cluster.specs.Tables.{changed_at}
 
--- a claim without the pod's use, where it is there
+-- a claim without the pod's use, if it is there
 abbrev pub leaving_at : ℕ → Key → List (Key × ClaimState) → Key → Leaving
 leaving_at place pod claims k = record { claim = k; state = option_map (freed place pod) (at_key claims k) }
 
@@ -30,7 +30,7 @@ abbrev pub left_at : Key → Option ClaimState → List (Key × ClaimState) → 
 left_at k None claims = claims
 left_at k (Some c) claims = changed_at k (λ _. c) claims
 
--- the claims with each of these in its place
+-- the claims with each of these put at its key
 abbrev pub left : List Leaving → List (Key × ClaimState) → List (Key × ClaimState)
 left [] claims = claims
 left (l ∷ ls) claims = left ls (left_at l.claim l.state claims)

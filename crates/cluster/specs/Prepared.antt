@@ -1,4 +1,4 @@
--- What a plan's claims get for its pod, made before any of it is put into its place.
+-- What a plan's claims get for its pod, made before any of it is put at its key.
 use Rattle.std.specs.Prelude.{ℕ, false, List, [], ◌∷◌, ◌++◌, Option, None, Some, map}
 use Rattle.std.specs.BTreeMap.{insert_entry}
 use Rattle.object_fields.specs.declared.key.Key.{Key}
@@ -28,7 +28,7 @@ granted_use node pod claims g =
 abbrev pub uses_of : Key → Plan → List (Key × ClaimState) → List Prepared
 uses_of pod plan claims = map (granted_use plan.node pod claims) plan.grants ++ map (joined_use pod claims) plan.joins
 
--- the grant, where there is a new one
+-- the grant, if there is a new one
 abbrev pub newer : Option Granted → Option Granted → Option Granted
 newer None old = old
 newer (Some g) old = Some g

@@ -9,7 +9,7 @@ use Rattle.cluster.specs.declared.object.Object.{Object}
 use Rattle.cluster.specs.declared.object.Object.TheVariants as object
 use Rattle.ready_objects.specs.Ready.{class_ready, claim_ready}
 
--- the object, where its selectors compile, or the error of the first that doesn't
+-- the object, if its selectors compile, or the error of the first that doesn't
 abbrev pub ready_of : Object → Result Object FieldError
 ready_of (object.Node x) = Ok (object.Node x)
 ready_of (object.Slice x) = Ok (object.Slice x)
@@ -35,7 +35,7 @@ pub record ArePart (x : Object) (kept : Kept) : Type 0 where
   pub same : object_of kept ≡ x
   pub ready : IsReady x
 
--- What is kept of an object is the object, where its selectors compile, unless memory ran out.
+-- What is kept of an object is the object, if its selectors compile, unless memory ran out.
 abbrev pub Keeps : Object → Result Kept FieldError → Type 0
 Keeps x (Ok kept) = ArePart x kept
 Keeps x (Err e) = UnlessMemory e.kind (ready_of x ≡ Err e)

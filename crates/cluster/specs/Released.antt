@@ -1,4 +1,4 @@
--- A bound pod gives its claims back.
+-- A bound pod releases its claims.
 use Rattle.std.specs.Prelude.{ℕ}
 use Rattle.object_fields.specs.declared.key.Key.{Key}
 use Rattle.cluster.specs.declared.entry.JobState.{JobState}

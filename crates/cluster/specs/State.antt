@@ -34,7 +34,7 @@ is_there s (object.Class x) = is_some (at_name s.classes x.name)
 is_there s (object.Claim x) = is_some (at_key s.claims x.key)
 is_there s (object.Pod x) = is_some (at_key s.pods x.key)
 
--- all slices with the object have at most the devices that they may have, where a slice stands in the stead of
+-- all slices with the object have at most the devices that they may have, where a slice replaces
 -- the one of its name
 abbrev pub has_room : State → Object → Bool
 has_room s (object.Node x) = true
@@ -71,7 +71,7 @@ is_written (Some Written) = true
 abbrev pub has_written : State → Key → Key → Bool
 has_written s pod claim = is_written (use_in pod (at_key s.claims claim))
 
--- the pod's claims, each at its first place
+-- the pod's claims, each at its first occurrence
 abbrev pub claims_of : PodState → List Key
 claims_of p = first_places [] (claim_keys p.pod.object)
 

@@ -28,7 +28,7 @@ is_budget (cause.Fault fault) = false
 is_budget (cause.Budget steps) = true
 is_budget (cause.Other claim) = false
 
--- one of the nodes has a selector's fault
+-- one of the nodes has a selector's error
 abbrev pub has_fault : List Passed → Bool
 has_fault nodes = list_any (λ p. is_fault p.cause) nodes
 

@@ -14,8 +14,8 @@ pub struct Entry {
 /// What an entry does.
 #[derive(Drop)]
 pub enum Event {
-    /// Creates an object, whose uid and version are the entry's place, or updates one that is there,
-    /// which keeps its uid and gets the entry's place as its version.
+    /// Creates an object, whose uid and version are the entry's index, or updates one that is there,
+    /// which keeps its uid and gets the entry's index as its version.
     Applied {
         object: Object,
         mode: Mode,
@@ -103,7 +103,7 @@ pub enum Mode {
     Create,
     /// An object that is there.
     Update,
-    /// An update where an object of its kind and name is there, and else a new one.
+    /// An update if an object of its kind and name is there, and else a new one.
     Apply,
 }
 
@@ -154,10 +154,10 @@ pub enum JobState {
     Fresh,
     /// It has reserved for its pod.
     Reserved(u64),
-    /// It has met another version of a claim than the one it assumed.
+    /// It has found another version of a claim than the one it assumed.
     Conflicted(u64),
     /// Its last attempt has failed.
     Failed(u64),
-    /// Its last entry is at this place.
+    /// Its last entry is at this index.
     Ended(u64),
 }

@@ -18,7 +18,7 @@ pub enum Failure {
     /// The results of this claim aren't those that its requests ask for, by their order, their names,
     /// admin access, number, positions or difference, or are more than 32.
     Shape(Key),
-    /// A result's device, which doesn't meet its request.
+    /// A result's device, which doesn't satisfy its request.
     SelectorNo(DeviceId),
     /// The device on which a selector of a request is neither true nor false.
     SelectorFault(DeviceId),

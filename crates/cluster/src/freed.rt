@@ -19,8 +19,8 @@ pub struct Leaving {
     state: Option<ClaimState>,
 }
 
-/// What the claims of a pod are without its uses, by the entry at this place; none if the pod isn't
-/// there. `AllocError` comes only if memory runs out.
+/// What the claims of a pod are without its uses, by the entry at this index; none if the pod isn't
+/// there. `AllocError` is returned only if memory runs out.
 pub fn prepare_free(
     alloc: Global,
     claims: &Table<Key, ClaimState>,
@@ -84,7 +84,7 @@ fn freed_at(
     }
 }
 
-/// The claim without the pod's use, where it has one.
+/// The claim without the pod's use, if it has one.
 fn freed(alloc: Global, place: u64, pod: &Key, state: &ClaimState) -> Result<ClaimState, AllocError>
     ensures { IfOk result (λ s. s ≡ freed place pod.now state.now) }
 {
@@ -163,7 +163,7 @@ fn grant_left(
     }
 }
 
-/// Puts what was prepared into the claims. Takes no memory.
+/// Puts what was prepared into the claims. Allocates nothing.
 pub fn leave(claims: &mut Table<Key, ClaimState>, claims_left: Vec<Leaving>)
     ensures { claims.new ≡ left claims_left.items claims.old }
 {
@@ -181,7 +181,7 @@ fn put(claims: &mut Table<Key, ClaimState>, leaving: Leaving)
     }
 }
 
-/// Puts a claim into the stead of the one at its key, where it is there.
+/// Replaces the claim at a key, if it is there.
 fn set_state(claims: &mut Table<Key, ClaimState>, claim: &Key, state: ClaimState)
     ensures { claims.new ≡ changed_at claim.now (λ _. state) claims.old }
 {

@@ -17,7 +17,7 @@ pub enum Kept {
 }
 
 impl Kept {
-    /// One more owner of the same object. Takes no memory; `AllocError` only if the count of owners is
+    /// One more owner of the same object. Allocates nothing; `AllocError` only if the count of owners is
     /// full.
     pub fn share(&self) -> Result<Kept, AllocError>
         ensures { IfOk result (λ other. other ≡ self.now) }

@@ -18,7 +18,7 @@ pub enum Object {
 }
 
 impl Object {
-    /// One more owner of the same object. Takes no memory; `AllocError` only if the count of owners is
+    /// One more owner of the same object. Allocates nothing; `AllocError` only if the count of owners is
     /// full.
     pub fn share(&self) -> Result<Object, AllocError>
         ensures { IfOk result (λ other. other ≡ self.now) }

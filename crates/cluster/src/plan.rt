@@ -26,9 +26,9 @@ pub struct Grant {
 #[derive(Drop)]
 pub struct SelectorFault {
     pub claim: Key,
-    /// The name of the result that the request is due.
+    /// The name of the result that is expected for the request.
     pub request: Text,
-    /// The selector's place among those of the class and then of the request, from 0.
+    /// The selector's index among those of the class and then of the request, from 0.
     pub selector: usize,
     pub device: DeviceId,
     pub cause: device_match::Cause,
@@ -39,7 +39,7 @@ pub struct SelectorFault {
 pub enum Cause {
     /// It has no allocation for the pod.
     Unsat,
-    /// The search of the node ended at a selector's fault.
+    /// The search of the node ended at a selector's error.
     Fault(SelectorFault),
     /// The search of the node made so many steps, which were all that it might make, without an end.
     Budget(u64),
@@ -71,10 +71,10 @@ pub struct Known {
     pub claims: Seq<KnownClaim>,
 }
 
-/// What a search found for a pod at a place of the history.
+/// What a search found for a pod at an index of the history.
 #[derive(Drop)]
 pub struct Plan {
-    /// The number of entries that stood in the history.
+    /// The number of entries that were in the history.
     pub at: u64,
     pub node: Text,
     /// The nodes before this one in the order of names.
@@ -86,10 +86,10 @@ pub struct Plan {
     pub known: Known,
 }
 
-/// That a pod can't be scheduled at a place of the history.
+/// That a pod can't be scheduled at an index of the history.
 #[derive(Drop)]
 pub struct Verdict {
-    /// The number of entries that stood in the history.
+    /// The number of entries that were in the history.
     pub at: u64,
     pub reason: Reason,
 }
@@ -125,7 +125,7 @@ impl Duplicate for Grant {
 }
 
 impl SelectorFault {
-    /// An equal fault.
+    /// An equal error.
     pub fn copy(&self, alloc: Global) -> Result<SelectorFault, AllocError>
         ensures { IfOk result (λ copy. copy ≡ self.now) }
     {

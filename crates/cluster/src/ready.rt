@@ -41,7 +41,7 @@ pub struct ReadyParts {
 impl Ready {
     /// Compiles the selectors of an object, if it is a class or a claim. The error is that of the first
     /// that doesn't compile, in the order in which the fields are read: of kind `Selector` with its
-    /// stage, at its `cel.expression`. Memory may come at any time.
+    /// stage, at its `cel.expression`. An error of kind `Memory` may be returned at any time.
     pub fn of(alloc: Global, object: Object) -> Result<Ready, FieldError>
         ensures { Reads result (ready_of object) }
     {
@@ -57,7 +57,7 @@ impl Ready {
         &self.object
     }
 
-    /// One more owner of the same object and of its compiled selectors. Takes no memory; `AllocError`
+    /// One more owner of the same object and of its compiled selectors. Allocates nothing; `AllocError`
     /// only if the count of owners is full.
     pub fn share(&self) -> Result<Ready, AllocError>
         ensures { IfOk result (λ other. other ≡ self.now) }
@@ -68,7 +68,7 @@ impl Ready {
         })
     }
 
-    /// The object, and the same as the state keeps it. Takes no memory.
+    /// The object, and the same as the state keeps it. Allocates nothing.
     pub fn into_parts(self) -> ReadyParts
         ensures object { result.object ≡ self }
         ensures kept { ArePart self result.kept }

@@ -18,7 +18,7 @@ impl State {
     ghost use Rattle.cluster.specs.declared.entry.Mode.TheVariants.{Create, Update};
     ghost use Rattle.cluster.specs.declared.entry.Refusal.TheVariants as refusal;
 
-    /// The first refusal of a command that holds, or `None` where none does. `AllocError` comes only
+    /// The first refusal of a command that holds, or `None` if none does. `AllocError` is returned only
     /// if memory runs out.
     ///
     /// | Command | Refusals in order |
@@ -26,7 +26,7 @@ impl State {
     /// | a document with an error | Invalid |
     /// | to create an object | Exists, Devices |
     /// | to update an object | NotFound, Conflict, Immutable, Devices |
-    /// | to apply an object | as an update where one of its kind and name is there, else as a creation |
+    /// | to apply an object | as an update if one of its kind and name is there, else as a creation |
     /// | to delete an object | NotFound, InUse |
     /// | to schedule a pod | NotFound, Busy, Bound |
     /// | to release a pod | NotFound, Busy, NotBound |
@@ -50,7 +50,7 @@ impl State {
         }
     }
 
-    /// The first refusal that holds of an object to be applied. Takes no memory.
+    /// The first refusal that holds of an object to be applied. Allocates nothing.
     pub fn apply_refusal(&self, object: &Object, mode: Mode) -> Option<Refusal>
         ensures { result ≡ first_refusal self.now (Apply object.now mode) }
     {
@@ -67,7 +67,7 @@ impl State {
         }
     }
 
-    /// The first refusal that holds of an object to be taken away. Takes no memory.
+    /// The first refusal that holds of an object to be taken away. Allocates nothing.
     pub fn delete_refusal(&self, target: &Target) -> Option<Refusal>
         ensures { result ≡ first_refusal self.now (Delete target.now) }
     {
@@ -80,7 +80,7 @@ impl State {
         }
     }
 
-    /// The first refusal that holds of a pod to be scheduled. `AllocError` comes only if memory runs
+    /// The first refusal that holds of a pod to be scheduled. `AllocError` is returned only if memory runs
     /// out.
     pub fn schedule_refusal(&self, alloc: Global, pod: &Key) -> Result<Option<Refusal>, AllocError>
         ensures { IfOk result (λ refusal. refusal ≡ first_refusal self.now (Schedule pod.now)) }
@@ -91,7 +91,7 @@ impl State {
         }
     }
 
-    /// The first refusal that holds of a pod to be released. Takes no memory.
+    /// The first refusal that holds of a pod to be released. Allocates nothing.
     pub fn release_refusal(&self, pod: &Key) -> Option<Refusal>
         ensures { result ≡ first_refusal self.now (Release pod.now) }
     {
@@ -101,7 +101,7 @@ impl State {
         }
     }
 
-    /// The first refusal that holds of a status write, before its grant is looked at. Takes no memory.
+    /// The first refusal that holds of a status write, before its grant is looked at. Allocates nothing.
     pub fn status_refusal(&self, claim: &Key, status: &ClaimStatus) -> Option<Refusal>
         ensures { result ≡ first_refusal self.now (Adopt claim.now status.now) }
     {
@@ -180,8 +180,8 @@ impl State {
         }
     }
 
-    /// Whether all slices with the object have at most 65,536 devices, where a slice stands in the stead
-    /// of the one of its name.
+    /// Whether all slices with the object have at most 65,536 devices, where a slice replaces the
+    /// one of its name.
     fn has_room(&self, object: &Object) -> bool
         ensures { result ≡ has_room self.now object.now }
     {

@@ -18,7 +18,7 @@ pub struct Prepared {
     users: Shared<Table<Key, Use>>,
 }
 
-/// What the claims of a plan get for the pod. `AllocError` comes only if memory runs out.
+/// What the claims of a plan get for the pod. `AllocError` is returned only if memory runs out.
 pub fn prepare(
     alloc: Global,
     claims: &Table<Key, ClaimState>,
@@ -127,7 +127,7 @@ fn users_with(
     }
 }
 
-/// Puts what was prepared into the claims. Takes no memory.
+/// Puts what was prepared into the claims. Allocates nothing.
 pub fn place(claims: &mut Table<Key, ClaimState>, uses: Vec<Prepared>)
     ensures { claims.new ≡ placed uses.items claims.old }
 {

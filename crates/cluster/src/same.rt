@@ -65,7 +65,7 @@ impl Same for PodResourceClaim {
     }
 }
 
-/// Whether two claims have the same spec. Takes no memory.
+/// Whether two claims have the same spec. Allocates nothing.
 #[tactic(auto, unfolding(crate::specs::Same::same_spec))]
 pub fn same_spec(first: &ResourceClaim, second: &ResourceClaim) -> bool
     ensures { result ≡ same_spec first.now second.now }
@@ -74,7 +74,7 @@ pub fn same_spec(first: &ResourceClaim, second: &ResourceClaim) -> bool
         && are_same(first.constraints.as_slice(), second.constraints.as_slice())
 }
 
-/// Whether two pods name the same claims, in order. Takes no memory.
+/// Whether two pods name the same claims, in order. Allocates nothing.
 #[tactic(auto, unfolding(crate::specs::Same::same_pod_claims))]
 pub fn same_pod_claims(first: &Pod, second: &Pod) -> bool
     ensures { result ≡ same_pod_claims first.now second.now }

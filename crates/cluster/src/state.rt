@@ -129,7 +129,7 @@ impl State {
     ghost use Rattle.cluster.specs.Deleted.{without_object};
     ghost use Rattle.cluster.specs.Applied.{with_object};
 
-    /// The state in which nothing is there. `AllocError` comes only if memory runs out.
+    /// The state in which nothing is there. `AllocError` is returned only if memory runs out.
     pub fn new(alloc: Global) -> Result<State, AllocError>
         ensures { IfOk result (λ state. state ≡ empty_state) }
     {
@@ -145,9 +145,9 @@ impl State {
         })
     }
 
-    /// Puts an object that there is room for at its name, by the entry at this place: it is updated and
-    /// keeps its uid where one of its kind and name is there, and else it is created. A claim that is
-    /// updated keeps its grant and its users, and a pod how far it has come. `AllocError` comes only
+    /// Puts an object that there is room for at its name, by the entry at this index: it is updated and
+    /// keeps its uid if one of its kind and name is there, and else it is created. A claim that is
+    /// updated keeps its grant and its users, and a pod how far it has come. `AllocError` is returned only
     /// if memory runs out, and then nothing changed.
     pub fn put(&mut self, alloc: Global, place: u64, kept: Kept) -> Result<(), AllocError>
         requires { has_room self.old (object_of kept) ≡ true }
@@ -172,7 +172,7 @@ impl State {
         }
     }
 
-    /// Takes the object of a kind and name away, if it is there. `AllocError` comes only if memory runs
+    /// Takes the object of a kind and name away, if it is there. `AllocError` is returned only if memory runs
     /// out, which the change of a shared table may need, and then nothing changed.
     pub fn remove(&mut self, alloc: Global, target: &Target) -> Result<(), AllocError>
         ensures ok { OnOk result (self.new ≡ without_object target.now self.old) }
@@ -204,7 +204,7 @@ impl State {
     ghost use Rattle.cluster.specs.Adopted.{with_adopted};
 
     /// Makes the plan's grants, makes the pod an assumed user of each claim that is granted or joined,
-    /// and takes the pod for a job. All memory is taken before the first change: `AllocError` comes only
+    /// and takes the pod for a job. All memory is allocated before the first change: `AllocError` is returned only
     /// if memory runs out, and then nothing changed.
     pub fn reserve(
         &mut self,
@@ -225,7 +225,7 @@ impl State {
         Ok(())
     }
 
-    /// Writes the pod's use of the claim, which publishes its grant. `AllocError` comes only if memory
+    /// Writes the pod's use of the claim, which publishes its grant. `AllocError` is returned only if memory
     /// runs out, which the change of a shared table may need, and then nothing changed.
     pub fn write(
         &mut self,
@@ -241,9 +241,9 @@ impl State {
         Ok(())
     }
 
-    /// Takes away the pod's uses of its claims, by the entry at this place, and leaves the pod Idle. A
-    /// claim whose written use goes gets the place as its version, and one without users loses its grant.
-    /// `AllocError` comes only if memory runs out, and then nothing changed.
+    /// Takes away the pod's uses of its claims, by the entry at this index, and leaves the pod Idle. A
+    /// claim whose written use goes gets the index as its version, and one without users loses its grant.
+    /// `AllocError` is returned only if memory runs out, and then nothing changed.
     pub fn free(&mut self, alloc: Global, place: u64, pod: &Key) -> Result<(), AllocError>
         ensures ok { OnOk result (self.new ≡ without_uses place pod.now self.old) }
         ensures err { OnErr result (self.new ≡ self.old) }
@@ -256,8 +256,8 @@ impl State {
         Ok(())
     }
 
-    /// Grants a claim what a status write says, published and without users, by the entry at this place.
-    /// `AllocError` comes only if memory runs out, and then nothing changed.
+    /// Grants a claim what a status write says, published and without users, by the entry at this index.
+    /// `AllocError` is returned only if memory runs out, and then nothing changed.
     pub fn adopt(
         &mut self,
         alloc: Global,
@@ -273,7 +273,7 @@ impl State {
         Ok(())
     }
 
-    /// Binds the pod to a node. `AllocError` comes only if memory runs out, and then nothing changed.
+    /// Binds the pod to a node. `AllocError` is returned only if memory runs out, and then nothing changed.
     pub fn bind(&mut self, alloc: Global, pod: &Key, node: Text) -> Result<(), AllocError>
         ensures ok { OnOk result (self.new ≡ with_bound pod.now node self.old) }
         ensures err { OnErr result (self.new ≡ self.old) }
@@ -293,7 +293,7 @@ impl State {
         Ok(())
     }
 
-    /// An equal state, which shares its tables with this one. Takes no memory; `AllocError` only if a
+    /// An equal state, which shares its tables with this one. Allocates nothing; `AllocError` only if a
     /// count of owners is full.
     pub fn share(&self) -> Result<State, AllocError>
         ensures { IfOk result (λ other. other ≡ self.now) }
@@ -307,7 +307,7 @@ impl State {
     }
 }
 
-/// Writes the pod's use of a claim, where it is there.
+/// Writes the pod's use of a claim, if it is there.
 #[tactic(auto, using(std::proofs::lemmas::Map::Steps::set_value_same))]
 fn write_claim(
     alloc: Global,
@@ -325,7 +325,7 @@ fn write_claim(
     Ok(())
 }
 
-/// Writes the pod's use of a claim, and publishes its grant. All memory is taken before the first
+/// Writes the pod's use of a claim, and publishes its grant. All memory is allocated before the first
 /// change.
 fn write_use(alloc: Global, state: &mut ClaimState, place: u64, pod: &Key) -> Result<(), AllocError>
     ensures ok { OnOk result (state.new ≡ written_by place pod.now state.old) }
@@ -338,7 +338,7 @@ fn write_use(alloc: Global, state: &mut ClaimState, place: u64, pod: &Key) -> Re
     Ok(())
 }
 
-/// Publishes a grant, where there is one.
+/// Publishes a grant, if there is one.
 fn publish(alloc: Global, grant: &mut Option<Shared<Granted>>) -> Result<(), AllocError>
     ensures ok { OnOk result (grant.new ≡ option_map as_published grant.old) }
     ensures err { OnErr result (grant.new ≡ grant.old) }
@@ -349,7 +349,7 @@ fn publish(alloc: Global, grant: &mut Option<Shared<Granted>>) -> Result<(), All
     Ok(())
 }
 
-/// Changes how a pod uses a claim, where it does.
+/// Changes how a pod uses a claim, if it does.
 fn set_use(users: &mut Table<Key, Use>, pod: &Key, how: Use)
     ensures { users.new ≡ changed_at pod.now (λ _. how) users.old }
 {
@@ -391,7 +391,7 @@ fn device_result(alloc: Global, picked: &StatusResult) -> Result<DeviceResult, A
     })
 }
 
-/// Grants a claim what a status write says, where it is there.
+/// Grants a claim what a status write says, if it is there.
 fn set_grant(claims: &mut Table<Key, ClaimState>, place: u64, claim: &Key, grant: Shared<Granted>)
     ensures { claims.new ≡ changed_at claim.now (λ c. record c { claim = record c.claim { version = place }; grant = Some grant }) claims.old }
 {
@@ -401,7 +401,7 @@ fn set_grant(claims: &mut Table<Key, ClaimState>, place: u64, claim: &Key, grant
     }
 }
 
-/// Puts a pod into another phase, where it is there.
+/// Puts a pod into another phase, if it is there.
 fn set_phase(pods: &mut Table<Key, PodState>, pod: &Key, phase: Phase)
     ensures { pods.new ≡ with_phase pod.now phase pods.old }
 {
@@ -435,7 +435,7 @@ fn put_claim(
     }
 }
 
-/// Updates a claim, where it is there.
+/// Updates a claim, if it is there.
 fn update_claim(
     claims: &mut Table<Key, ClaimState>,
     place: u64,
@@ -471,7 +471,7 @@ fn put_pod(
     }
 }
 
-/// Updates a pod, where it is there.
+/// Updates a pod, if it is there.
 fn update_pod(pods: &mut Table<Key, PodState>, place: u64, key: &Key, pod: Shared<Pod>)
     ensures { pods.new ≡ changed_at key.now (updated_pod place pod) pods.old }
 {

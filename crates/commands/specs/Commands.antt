@@ -23,7 +23,7 @@ use Rattle.commands.specs.declared.command.Command.TheVariants.{Apply, Invalid, 
 
 -- ---- namespace and name
 
--- `default` where there is none, else it is a text
+-- `default` if there is none, else it is a text
 abbrev pub namespace_in : Option Data → Option (List ℕ)
 namespace_in None = Some (codes "default")
 namespace_in (Some v) = as_str v
@@ -120,11 +120,11 @@ apply_in d (Some is.Unprepare) = None
 apply_in d (Some is.Reopen) = None
 apply_in d (Some is.Together) = None
 
--- a command before others, where all of them are there
+-- a command before others, if all of them are there
 abbrev pub before : Option Command → Option (List Command) → Option (List Command)
 before c cs = option_and_then (λ first. option_map (λ rest. first ∷ rest) cs) c
 
--- for each of the items in order the command that applies it, where each is an object
+-- for each of the items in order the command that applies it, if each is an object
 abbrev pub apply_each : Items → Option (List Command)
 apply_each no_items = Some []
 apply_each (item d ds) = before (apply_in d (document_of d)) (apply_each ds)
@@ -142,7 +142,7 @@ schedule_of d = option_map Schedule (key_of d)
 abbrev pub release_of : Data → Option Command
 release_of d = option_map Release (key_of d)
 
--- a command that isn't built, where its fields read
+-- a command that isn't supported, if its fields read
 abbrev pub not_built : Bool → Option Command
 not_built b = if b then Some NotBuilt else None
 

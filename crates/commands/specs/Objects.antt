@@ -22,7 +22,7 @@ object_of ResourceClaim d = claim_of d >>= λ x. Ok (object.Claim x)
 object_of Node d = node_of d >>= λ x. Ok (object.Node x)
 object_of Pod d = pod_of d >>= λ x. Ok (object.Pod x)
 
--- the object, where it reads and its selectors compile, or the first error: that of a field comes
+-- the object, if it reads and its selectors compile, or the first error: that of a field comes
 -- before those of the selectors
 abbrev pub ready_object : ObjectKind → Data → Result Object FieldError
 ready_object kind d = object_of kind d >>= ready_of

@@ -16,7 +16,7 @@ use std::str;
 /// What a document asks for.
 #[derive(Drop)]
 pub enum Command {
-    /// Updates an object where one of its kind and name is there, and else creates it.
+    /// Updates an object if one of its kind and name is there, and else creates it.
     Apply(Ready),
     /// Applies an object whose fields, or else whose selectors, have this first error.
     Invalid(FieldError),
@@ -26,12 +26,12 @@ pub enum Command {
     Schedule(Key),
     /// Takes the uses of the bound pod of that key away.
     Release(Key),
-    /// A command of a form that this program doesn't do yet.
+    /// A command that this program doesn't support yet.
     NotBuilt,
 }
 
-/// The commands that the bytes of a document are, in order, None where they aren't commands.
-/// `AllocError` comes only where memory runs out.
+/// The commands that the bytes of a document are, in order, None if they aren't commands.
+/// `AllocError` is returned only if memory runs out.
 ///
 /// A document is one JSON object in UTF-8. Its `apiVersion` and `kind` say what it is:
 ///
@@ -47,11 +47,11 @@ pub enum Command {
 ///
 /// The kinds of `resource.k8s.io/v1` and `v1` are those of the Kubernetes API reference; the
 /// documents of `dra.replay/v1` are this project's own. `name` is any text; `namespace` is any
-/// text, and `default` where it is missing or null. A document whose fields don't read so is no
+/// text, and `default` if it is missing or null. A document whose fields don't read so is no
 /// command, nor is a List or a Together with a member that isn't allowed there. A List is one
-/// command for each of its items, and none where it is empty; every other document is one command.
+/// command for each of its items, and none if it is empty; every other document is one command.
 /// An object is always a command, whatever its fields: it is Invalid, with the first error in their
-/// order, where they don't read.
+/// order, if they don't read.
 pub fn read_commands(alloc: Global, document: &[u8]) -> Result<Option<Seq<Command>>, AllocError>
     ensures { IfOk result (λ cs. cs ≡ spec.commands_of_document document.now) }
 {
@@ -111,7 +111,7 @@ fn alone(alloc: Global, command: Option<Command>) -> Result<Option<Seq<Command>>
     Ok(Some(commands))
 }
 
-/// The commands of a List, None where its `items` aren't a list of objects.
+/// The commands of a List, None if its `items` aren't a list of objects.
 fn list(alloc: Global, value: &Value) -> Result<Option<Seq<Command>>, AllocError>
     ensures { IfOk result (λ cs. cs ≡ spec.listed (view value.now)) }
 {
@@ -143,7 +143,7 @@ fn apply_item(alloc: Global, value: &Value) -> Result<Option<Command>, AllocErro
     }
 }
 
-/// The command that applies the object, or Invalid where it doesn't read.
+/// The command that applies the object, or Invalid if it doesn't read.
 fn apply(alloc: Global, kind: ObjectKind, value: &Value) -> Result<Command, AllocError>
     ensures { IfOk result (λ c. c ≡ spec.apply_of kind (view value.now)) }
 {
@@ -186,7 +186,7 @@ fn release(alloc: Global, value: &Value) -> Result<Option<Command>, AllocError>
     }
 }
 
-/// NotBuilt where the fields of a document read, None where they don't.
+/// NotBuilt if the fields of a document read, None if they don't.
 fn not_built(reads: bool) -> Option<Command>
     ensures { result ≡ spec.not_built reads }
 {

@@ -33,18 +33,18 @@ pub enum Document {
     Unprepare,
     /// The kubelet is closed and opened again.
     Reopen,
-    /// Commands that run at once.
+    /// Commands that run at the same time.
     Together,
 }
 
-/// The text of that member, None where it is missing or of another type.
+/// The text of that member, None if it is missing or of another type.
 pub fn text_at<'a>(value: &'a Value, name: &str) -> Option<&'a str>
     ensures { option_map (λ s. s.now) result ≡ text_at name.now (view value.now) }
 {
     value.get(name).and_then(Value::as_str)
 }
 
-/// What the value is as a document, None where it is no object or has another apiVersion or kind.
+/// What the value is as a document, None if it is no object or has another apiVersion or kind.
 pub fn document_of(value: &Value) -> Option<Document>
     ensures { result ≡ document_of (view value.now) }
 {

@@ -12,7 +12,7 @@ use std::alloc::{AllocError, Global};
 /// The most members of a Together (this project's own rule).
 const TOGETHER_MOST: usize = 256;
 
-/// The command's `namespace`: `default` where it is missing or null, None where it is of another
+/// The command's `namespace`: `default` if it is missing or null, None if it is of another
 /// type than text.
 fn namespace(value: &Value) -> Option<&str>
     ensures { option_map (λ s. s.now) result ≡ spec.namespace_of (view value.now) }
@@ -23,7 +23,7 @@ fn namespace(value: &Value) -> Option<&str>
     }
 }
 
-/// The key that a command's `namespace` and `name` give, None where one of them doesn't read.
+/// The key that a command's `namespace` and `name` make, None if one of them doesn't read.
 pub fn read_key(alloc: Global, value: &Value) -> Result<Option<Key>, AllocError>
     ensures { IfOk result (λ key. key ≡ spec.key_of (view value.now)) }
 {
@@ -43,7 +43,7 @@ pub fn has_key(value: &Value) -> bool
     namespace(value).is_some() && text_at(value, "name").is_some()
 }
 
-/// The object that a Delete's `target`, `namespace` and `name` give, None where one of them doesn't
+/// The object that a Delete's `target`, `namespace` and `name` make, None if one of them doesn't
 /// read.
 pub fn read_target(alloc: Global, value: &Value) -> Result<Option<Target>, AllocError>
     ensures { IfOk result (λ target. target ≡ spec.target_of (view value.now)) }

@@ -1,4 +1,4 @@
--- Two inputs that agree on the counters that their devices draw from have the same answers.
+-- Two inputs that agree on the counters that their devices draw from have the same outcomes.
 use Rattle.std.proofs.Common.{ℕ, suc, ◌+◌, ◌≡◌, List, [], ◌∷◌, ◌++◌, Bool, true, false, not, ◌&&◌, ◌||◌, cond, Option, None, Some, refl, ap, ap₂, ◌∙◌}
 use Rattle.std.proofs.Math.Path.{fun_ext}
 use Rattle.std.specs.List.{Contains, list_all, slice_get, sum_by}

@@ -55,7 +55,7 @@ is_input s claims node totals devices broken wants d b c k =
     (searches.value_among (node_devices s.inventory node)) (searches.value_among devices) (drawn_in totals) (drawn_in totals) (has_broken s.inventory node) broken
     (sym d) (sym c) (ap (λ z. matched_by z) (sym k)) (ap (λ os. searches.value_among os) (sym d)) refl (sym b)
 
--- the answer over the node's devices is the node's
+-- the outcome over the node's devices is the node's
 lifted : (s : State) (claims : List ResourceClaim) (node : List ℕ) (holders : Holders) (totals : Tabled (Tabled (Tabled ℕ))) (devices : List Offered) (broken : Bool) (wants : WantsFields) (budget : ℕ) (found : Outcome)
     → devices ≡ node_devices s.inventory node → broken ≡ has_broken s.inventory node → wants.claims ≡ claims → wants.classes ≡ s.classes → AreHeld holders (held s) → AreCounted holders devices (length devices) totals
     → AreApart (node_devices s.inventory node) → AreOne (usable_slices s.inventory) → NamesDiffer (usable_slices s.inventory) → AreListed (node_devices s.inventory node) (usable_slices s.inventory)

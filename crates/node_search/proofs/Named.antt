@@ -37,7 +37,7 @@ below (x ∷ xs) s zero (suc j) a b lt e f =
 below (x ∷ xs) s (suc i) zero a b lt e f = absurd (omega (arith, lt))
 below (x ∷ xs) s (suc i) (suc j) a b lt e f = below xs s.1 i j a b (omega (arith, lt)) e f
 
--- what stands in strict order, and has one slice at a name
+-- what is in strict order, and has one slice at a name
 pub names_differ : (xs : List ResourceSlice) → IsStrictlySortedBy place_cmp (map place_of xs) → ((x y : ResourceSlice) → Contains xs x → Contains xs y → x.name ≡ y.name → x ≡ y) → NamesDiffer xs
 names_differ xs sorted one i j x y lt e f same =
     let is : x ≡ y = one x y (in_list xs i x e) (in_list xs j y f) same in

@@ -203,7 +203,7 @@ counted_now h kept x old limits put = record {
   drawn_is = λ c some own. put.drawn_is c ∙ ap (λ b. cond b (drawn_by c (offered_held h x)) (drawn_in old c)) own;
 }
 
--- the others stay as they are
+-- the others are unchanged
 counted_still : (h : Holders) (kept : Tabled (Tabled (Tabled ℕ))) (x y : ResourceSlice) (old : Tabled (Tabled (Tabled ℕ))) → Counts h x old kept → IsCounted h old y → x.name ≢ y.name → IsCounted h kept y
 counted_still h kept x y old put before other = record {
   limits = before.limits;
@@ -230,7 +230,7 @@ counted_next h os i o old kept apart before at limits put =
     })
     at now
 
--- ---- the device at a place
+-- ---- the device at an index
 
 device_at : (os : List Offered) (i : ℕ) (o : Offered) → i < length os → o ≡ get_or os i o → slice_get os i ≡ Some o
 device_at os i o lt is = slice_get-get_or os i o lt ∙ ap (λ (p : Offered). Some p) (sym is)
@@ -249,7 +249,7 @@ pub counts_next : (h : Holders) (os : List Offered) (i : ℕ) (o : Offered) (x :
 counts_next h os i o x old kept apart before lt is same limits put =
     counted_next h os i o old kept apart before (device_at os i o lt is) (subst IsWithinLimits same limits) (subst (λ z. Counts h z old kept) same put)
 
--- ---- what the search is told
+-- ---- what the search is given
 
 kept_none_by : (h : Holders) (kept : Tabled (Tabled (Tabled ℕ))) (x : ResourceSlice) (c : CounterId) (b t : Bool) → IsCounted h kept x → has_counters x ≡ b → text_eq x.name c.slice ≡ t → keeps kept c ≡ false → is_some (counter_value x c) ≡ false
 kept_none_by h kept x c false t counted e own none = none_there x x.counters c refl e

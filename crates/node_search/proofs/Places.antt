@@ -1,4 +1,4 @@
--- Elements by their places.
+-- Elements by their indices.
 use Rattle.std.proofs.Common.{ℕ, zero, suc, ◌+◌, ◌<◌, ◌≤◌, ◌≡◌, ◌∙◌, ⊎_elim, List, [], ◌∷◌, ◌++◌, Some, length, map, take, get_or, refl, sym, ap, subst, arith}
 use Rattle.std.specs.List.{All, AllByRecursion, Contains, slice_get}
 use Rattle.std.proofs.lemmas.List.{length-map}
@@ -27,11 +27,11 @@ pub all_joined : {X : Type 0} (P : X → Type 0) (xs ys : List X) → AllByRecur
 all_joined P [] ys h k = k
 all_joined P (x ∷ xs) ys h k = (h.0, all_joined P xs ys h.1 k)
 
--- what a map has at a place, by the list that it is made of
+-- what a map has at an index, by the list that it is made of
 pub item_at : {V X : Type 0} (f : V → X) (vs : List V) (i : ℕ) (v : V) → i < length vs → v ≡ get_or vs i v → slice_get (map f vs) i ≡ Some (f v)
 item_at {V} f vs i v lt is = map_at f vs i v (slice_get-get_or vs i v lt ∙ ap (λ (w : V). Some w) (sym is))
 
--- ---- so far as a place
+-- ---- up to an index
 
 pub until_step : {X : Type 0} (P : X → Type 0) (xs : List X) (i : ℕ) (y : X) → slice_get xs i ≡ Some y → P y → ((j : ℕ) (x : X) → j < i → slice_get xs j ≡ Some x → P x)
     → (j : ℕ) (x : X) → j < i + 1 → slice_get xs j ≡ Some x → P x

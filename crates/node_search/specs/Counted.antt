@@ -22,7 +22,7 @@ of_one None o = false
 of_one (Some o) None = false
 of_one (Some o) (Some p) = text_eq o.slice.name p.slice.name
 
--- the device at the place is of the same slice as the one before it
+-- the device at the index is of the same slice as the one before it
 abbrev pub repeats : List Offered → ℕ → Bool
 repeats os i = if i == 0 then false else of_one (slice_get os (i - 1)) (slice_get os i)
 
@@ -32,11 +32,11 @@ pub record IsCounted (h : Holders) (kept : Tabled (Tabled (Tabled ℕ))) (x : Re
   pub kept_is : (c : CounterId) → has_counters x ≡ true → text_eq x.name c.slice ≡ true → keeps kept c ≡ is_some (counter_value x c)
   pub drawn_is : (c : CounterId) → has_counters x ≡ true → text_eq x.name c.slice ≡ true → drawn_in kept c ≡ drawn_by c (offered_held h x)
 
--- the slices of the devices before a place are counted
+-- the slices of the devices before an index are counted
 pub record AreCounted (h : Holders) (os : List Offered) (n : ℕ) (kept : Tabled (Tabled (Tabled ℕ))) : Type 0 where
   pub each : (j : ℕ) (o : Offered) → j < n → slice_get os j ≡ Some o → IsCounted h kept o.slice
 
--- the counters of a slice are put in place of those of its name, with what its held devices draw
+-- the counters of a slice replace those of its name, with what its held devices draw
 pub record Counts (h : Holders) (x : ResourceSlice) (old new : Tabled (Tabled (Tabled ℕ))) : Type 0 where
   pub kept_is : (c : CounterId) → keeps new c ≡ (if text_eq x.name c.slice then is_some (counter_value x c) else keeps old c)
   pub drawn_is : (c : CounterId) → drawn_in new c ≡ (if text_eq x.name c.slice then drawn_by c (offered_held h x) else drawn_in old c)

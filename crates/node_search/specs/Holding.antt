@@ -12,7 +12,7 @@ use Rattle.cluster.specs.Held.{held_by}
 abbrev pub pairs_of : List (Key × ClaimState) → List (DeviceId × Key)
 pairs_of claims = flat_map (λ e. map (λ d. (d, e.0)) (held_by e.1.grant)) claims
 
--- a claim, where one of its results without admin access is of the device
+-- a claim, if one of its results without admin access is of the device
 abbrev pub holder_by : Key → DeviceId → List DeviceResult → Option Key
 holder_by claim id [] = None
 holder_by claim id (r ∷ rs) = if not r.admin && device_eq r.device id then Some claim else holder_by claim id rs

@@ -7,7 +7,7 @@ use Rattle.cluster.specs.Held.{held}
 use Rattle.counter_sets.specs.Holding.{AreHeld, Holders}
 use Rattle.request_rows.specs.Match.{ClassTable}
 
--- what contracts see of it: the state, and the claims that want devices
+-- what contracts see of it: the state, and the claims that need devices
 pub record SearchFields : Type 0 where
   pub state : State
   pub claims : List ResourceClaim

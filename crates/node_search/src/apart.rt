@@ -8,7 +8,7 @@ ghost use Rattle.node_search.specs.Counting.{NamesDiffer};
 use dra_values::Text;
 use pool_view::{Inventory, devices_of_a_view_differ, usable_slices_differ};
 
-/// States that no two usable slices of an inventory have one name. Takes no memory.
+/// States that no two usable slices of an inventory have one name. Allocates nothing.
 pub fn slices_differ(inventory: &Inventory)
     ensures names { NamesDiffer (usable_slices inventory.now) }
     ensures one { AreOne (usable_slices inventory.now) }
@@ -19,7 +19,7 @@ pub fn slices_differ(inventory: &Inventory)
 }
 
 /// States that no two devices that a node sees have one id, and that each is one of a usable slice's.
-/// Takes no memory.
+/// Allocates nothing.
 pub fn devices_differ(inventory: &Inventory, node: &Text)
     ensures apart { AreApart (node_devices inventory.now node.now) }
     ensures listed { AreListed (node_devices inventory.now node.now) (usable_slices inventory.now) }

@@ -46,7 +46,7 @@ fn count_slice(
     Ok(())
 }
 
-/// Counts the slice of the device at an index, where that has counters and isn't counted yet.
+/// Counts the slice of the device at an index, if that has counters and isn't counted yet.
 fn count_at(
     alloc: Global,
     totals: &mut Totals,

@@ -1,4 +1,4 @@
-//! The search of a node of a state, for a pod: what the searches of all nodes share, and the answer of
+//! The search of a node of a state, for a pod: what the searches of all nodes share, and the outcome of
 //! each.
 #![tactic(auto)]
 

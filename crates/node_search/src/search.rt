@@ -19,7 +19,7 @@ use request_rows::Wants;
 use std::alloc::{AllocError, Global};
 use std::marker::Model;
 
-/// What the searches of all nodes for one pod share: the pools, the claims that want devices, and the
+/// What the searches of all nodes for one pod share: the pools, the claims that need devices, and the
 /// devices that claims hold. Contracts see the state and the claims.
 #[derive(Drop)]
 pub struct PodSearch<'a> {
@@ -41,8 +41,8 @@ impl<'a> Model for PodSearch<'a> {
 
 impl<'a> PodSearch<'a> {
     /// What the searches for a pod share, in a state and with the devices that its claims hold: one
-    /// pass over its slices. The claims that want devices are those of the pod that are there and have
-    /// no grant, each at its first place. `AllocError` only if memory runs out.
+    /// pass over its slices. The claims that need devices are those of the pod that are there and have
+    /// no grant, each at its first occurrence. `AllocError` only if memory runs out.
     pub fn of(
         alloc: Global,
         state: &'a State,
@@ -69,8 +69,8 @@ impl<'a> PodSearch<'a> {
     /// Searches a node of the state for the least allocation of the claims, within a budget of so many
     /// items of the node's walk.
     ///
-    /// The answer is exactly that of the walk within the budget: the least allocation as a grant for
-    /// each claim, a fault that stands before each allocation, that there is neither, or that the
+    /// The result is exactly that of the walk within the budget: the least allocation as a grant for
+    /// each claim, a selector error that comes before each allocation, that there is neither, or that the
     /// budget is spent before one of these is known. What held devices draw is counted for the slices
     /// of the node's devices alone. `AllocError` only if memory runs out.
     pub fn outcome(&self, alloc: Global, node: &Text, budget: u64) -> Result<Outcome, AllocError>

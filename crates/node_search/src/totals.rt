@@ -29,7 +29,7 @@ fn counters_of(alloc: Global, slices: &[&ResourceSlice]) -> Result<Totals, Alloc
     Ok(totals)
 }
 
-/// States that each of the slices keeps its limits. Takes no memory.
+/// States that each of the slices keeps its limits. Allocates nothing.
 fn keep_limits(slices: &[&ResourceSlice])
     ensures { Each IsWithinLimits (map (λ s. s.now) slices.now) }
 {

@@ -54,7 +54,7 @@ fn wanted_among<'a>(
     Ok(wanted)
 }
 
-/// The claims of a pod that are there and have no grant, each at its first place, under the key by which
+/// The claims of a pod that are there and have no grant, each at its first occurrence, under the key by which
 /// the pod names it. `AllocError` only if memory runs out.
 #[tactic(auto, unfolding(allocations::specs::Claims::wanted))]
 pub fn wanted_claims<'a>(

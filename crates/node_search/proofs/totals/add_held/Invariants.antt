@@ -9,7 +9,7 @@ use Rattle.counter_sets.specs.Holding.{AreHeld, Holders}
 use Rattle.counter_sets.specs.Totals.{Tabled, drawn_in, keeps, sum_most}
 use Rattle.node_search.proofs.totals.add_held.Given as goal
 
--- the held devices of the slices before a place are drawn, and nothing is from counters of those behind it
+-- the held devices of the slices before an index are drawn, and nothing is from counters of those behind it
 pub record AreDrawn (before totals : Tabled (Tabled (Tabled ℕ))) (h : Holders) (slices : List ResourceSlice) (at : ℕ) : Type 0 where
   pub same : (c : CounterId) → keeps totals c ≡ keeps before c
   pub drawn_so : (pairs : List (DeviceId × Key)) → AreHeld h pairs → (c : CounterId) → drawn_in totals c ≡ drawn (take at slices) pairs c
