@@ -3,3 +3,4 @@ pub mod Counting
 pub mod Searches
 pub mod Apart
 pub mod Counted
+pub mod Full
