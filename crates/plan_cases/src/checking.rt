@@ -1,0 +1,99 @@
+use crate::documents::line_text;
+use crate::input::{CaseError, cut_word};
+use crate::planning::{Planned, read_plan};
+use crate::setup::Setup;
+use crate::spelling::key;
+use api_claim::ClaimStatus;
+use cluster::{Command, Entry, Event, Failure, Refusal};
+use object_fields::{FieldError, FieldErrorKind, Key};
+use plan_check::{check, check_status};
+use serde_json::Value;
+use std::alloc::Global;
+
+/// What the line of an event has behind a text.
+fn behind(alloc: Global, event: Event, mark: &str) -> Result<String, CaseError> {
+    let line = line_text(alloc, 0, &Entry { job: 0, event })?;
+    match line.as_str().split_once(mark) {
+        Some((_, rest)) => Ok(String::from_str(alloc, rest)?),
+        None => Err(CaseError::BadCase),
+    }
+}
+
+/// A failure of a plan, as the line of its refusal has it.
+fn plan_failure(alloc: Global, planned: Planned, why: Failure) -> Result<String, CaseError> {
+    let event = Event::Refused {
+        pod: planned.pod,
+        plan: planned.plan,
+        why,
+    };
+    behind(alloc, event, " why=")
+}
+
+/// The first failure of a plan.
+pub fn of_plan(alloc: Global, setup: &Setup, text: &str) -> Result<String, CaseError> {
+    let planned = read_plan(alloc, text)?;
+    let state = setup.ledger.state();
+    let holders = setup.ledger.holders();
+    match check(alloc, state, holders, &planned.pod, &planned.plan)? {
+        None => Ok(String::from_str(alloc, "ok")?),
+        Some(why) => plan_failure(alloc, planned, why),
+    }
+}
+
+/// The status write that a document of a claim is.
+fn status_of(alloc: Global, document: &str) -> Result<ClaimStatus, CaseError> {
+    match Value::from_str(alloc, document) {
+        Ok(value) => read(alloc, &value),
+        Err(error) => {
+            if error.is_memory() {
+                Err(CaseError::Memory)
+            } else {
+                Err(CaseError::BadCase)
+            }
+        }
+    }
+}
+
+fn read(alloc: Global, value: &Value) -> Result<ClaimStatus, CaseError> {
+    match ClaimStatus::read(alloc, value) {
+        Ok(status) => Ok(status),
+        Err(error) => Err(reason(&error)),
+    }
+}
+
+fn reason(error: &FieldError) -> CaseError {
+    if error.kind == FieldErrorKind::Memory {
+        CaseError::Memory
+    } else {
+        CaseError::BadCase
+    }
+}
+
+/// A failure of a status write, as the line of its denial has it.
+fn status_failure(
+    alloc: Global,
+    claim: Key,
+    status: ClaimStatus,
+    why: Failure,
+) -> Result<String, CaseError> {
+    let event = Event::Denied {
+        command: Command::Adopt { claim, status },
+        refusal: Refusal::Failure(why),
+    };
+    behind(alloc, event, " Failure ")
+}
+
+/// The first failure of a status write to a claim that exists.
+pub fn of_status(alloc: Global, setup: &Setup, text: &str) -> Result<String, CaseError> {
+    let (name, document) = cut_word(text);
+    let claim = key(alloc, name)?;
+    let status = status_of(alloc, document)?;
+    let state = setup.ledger.state();
+    if state.claims.get(&claim).is_none() {
+        return Err(CaseError::BadCase);
+    }
+    match check_status(alloc, state, setup.ledger.holders(), &claim, &status)? {
+        None => Ok(String::from_str(alloc, "ok")?),
+        Some(why) => status_failure(alloc, claim, status, why),
+    }
+}

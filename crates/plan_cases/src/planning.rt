@@ -1,0 +1,56 @@
+use crate::input::{CaseError, cut_word};
+use crate::spelling::{grant, key, known_claim, known_pod};
+use cluster::{Known, Plan};
+use dra_values::{Seq, Text};
+use object_fields::Key;
+use std::alloc::{AllocError, Global};
+
+/// A pod, and a plan for it.
+#[derive(Drop)]
+pub struct Planned {
+    pub pod: Key,
+    pub plan: Plan,
+}
+
+/// A plan for a pod of that uid and node, which has nothing else yet.
+fn begun(alloc: Global, pod: u64, node: &str) -> Result<Plan, AllocError> {
+    Ok(Plan {
+        at: 0,
+        node: Text::from_str(alloc, node)?,
+        passed: Seq::empty(alloc),
+        grants: Seq::empty(alloc),
+        joins: Seq::empty(alloc),
+        known: Known {
+            pod,
+            claims: Seq::empty(alloc),
+        },
+    })
+}
+
+/// Adds to a plan what a part such as `knew=default/c:5` says.
+fn add_part(alloc: Global, plan: &mut Plan, part: &str) -> Result<(), CaseError> {
+    let Some((name, text)) = part.split_once('=') else {
+        return Err(CaseError::BadCase);
+    };
+    match name {
+        "knew" => plan.known.claims.push(known_claim(alloc, text)?)?,
+        "grant" => plan.grants.push(grant(alloc, text)?)?,
+        "join" => plan.joins.push(key(alloc, text)?)?,
+        _ => return Err(CaseError::BadCase),
+    }
+    Ok(())
+}
+
+/// A plan such as `default/p:6 n1 knew=default/c:5 grant=default/c:gpu@gpu.example.com/n1/gpu-0`.
+pub fn read_plan(alloc: Global, text: &str) -> Result<Planned, CaseError> {
+    let (first, rest) = cut_word(text);
+    let (node, parts) = cut_word(rest);
+    let (pod, uid) = known_pod(alloc, first)?;
+    let mut plan = begun(alloc, uid, node)?;
+    for part in parts.split(' ') {
+        if !part.is_empty() {
+            add_part(alloc, &mut plan, part)?;
+        }
+    }
+    Ok(Planned { pod, plan })
+}
