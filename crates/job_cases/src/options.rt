@@ -1,0 +1,48 @@
+/// How jobs are run.
+#[derive(Clone, Copy, Drop)]
+pub struct Options {
+    /// The most entries of the history.
+    pub entries: u64,
+    /// The most items of a node's walk that a search looks at.
+    pub budget: u64,
+    /// The most attempts to schedule a pod.
+    pub attempts: u64,
+}
+
+impl Options {
+    /// The options with one changed by an argument such as `attempts=2`.
+    fn with_word(self, word: &str) -> Option<Self> {
+        let (key, number) = word.split_once('=')?;
+        let number = number.parse::<u64>().ok()?;
+        match key {
+            "entries" => Some(Options {
+                entries: number,
+                ..self
+            }),
+            "budget" => Some(Options {
+                budget: number,
+                ..self
+            }),
+            "attempts" => Some(Options {
+                attempts: number,
+                ..self
+            }),
+            _ => None,
+        }
+    }
+
+    /// Reads options, with a space between two. Those that are missing are the ones of the program `dra`.
+    pub fn read(words: &str) -> Option<Self> {
+        let mut options = Options {
+            entries: 1_000_000,
+            budget: 100_000,
+            attempts: 32,
+        };
+        for word in words.split(' ') {
+            if !word.is_empty() {
+                options = options.with_word(word)?;
+            }
+        }
+        Some(options)
+    }
+}
