@@ -11,3 +11,5 @@ pub mod Undisturbed
 pub mod Unfailing
 pub mod Fewer
 pub mod Others
+pub mod Carrying
+pub mod Fitting

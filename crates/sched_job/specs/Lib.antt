@@ -4,3 +4,4 @@ pub mod Runs
 pub mod Steps
 pub mod Alone
 pub mod Turns
+pub mod Complete

@@ -2,6 +2,7 @@
 #![tactic(auto)]
 
 mod alone;
+mod complete;
 mod due;
 mod laws;
 mod steps;
@@ -9,6 +10,7 @@ mod turns;
 mod work;
 
 pub use alone::run_alone;
+pub use complete::schedules_are_complete;
 pub use laws::{alone_is_undisturbed, runs_go_on, turns_are_few, turns_move_on};
 pub use steps::run_steps;
 pub use work::{Command, Next, Stage, Work};
