@@ -15,9 +15,19 @@ use Rattle.counter_sets.specs.declared.change.Change.TheVariants.{Draw}
 abbrev pub Holders : Type 0
 Holders = Tabled (Tabled (Tabled Key))
 
+-- the held devices of a pool, by their names
+abbrev pub held_in_pool : Holders → (driver pool : List ℕ) → Tabled Key
+held_in_pool h driver pool = or_empty (at_name (or_empty (at_name h driver)) pool)
+
 -- the claim that holds a device
 unfoldable pub holder_in : Holders → DeviceId → Option Key
-holder_in h id = at_name (or_empty (at_name (or_empty (at_name h id.driver)) id.pool)) id.device
+holder_in h id = at_name (held_in_pool h id.driver id.pool) id.device
+
+-- the holders, and one of the pools
+pub record PoolHolders : Type 0 where
+  pub holders : Holders
+  pub driver : List ℕ
+  pub pool : List ℕ
 
 -- they are these pairs of a device and its claim
 pub record AreHeld (h : Holders) (pairs : List (DeviceId × Key)) : Type 0 where

@@ -1,5 +1,5 @@
-ghost use Rattle.std.specs.Prelude.{◌≡◌, ◌++◌, ◌∷◌, [], List, Option, None, Some, IfOk, OnOk, OnErr, if◌then◌else◌, option_copied};
-ghost use Rattle.pool_view.specs.Names.{at_name, device_eq};
+ghost use Rattle.std.specs.Prelude.{◌≡◌, ◌++◌, ◌∷◌, [], List, Option, None, Some, ◌&&◌, IfOk, OnOk, OnErr, if◌then◌else◌, option_copied};
+ghost use Rattle.pool_view.specs.Names.{at_name, device_eq, text_eq};
 ghost use Rattle.object_fields.specs.declared.key.DeviceId.{DeviceId};
 ghost use Rattle.counter_sets.specs.Totals.{or_empty};
 ghost use Rattle.counter_sets.specs.Holding as spec;
@@ -98,6 +98,18 @@ impl Held {
         find(find_pool(&self.drivers, driver, pool), device)
     }
 
+    /// The held devices of one pool, looked up once for all of them. Allocates nothing.
+    pub fn in_pool<'a>(&'a self, driver: &'a Text, pool: &'a Text) -> HeldInPool<'a>
+        ensures { result ≡ record { holders = self.now; driver = driver.now; pool = pool.now } }
+    {
+        HeldInPool {
+            held: self,
+            driver,
+            pool,
+            devices: find_pool(&self.drivers, driver, pool),
+        }
+    }
+
     /// The same devices, each held by the same claim. `AllocError` is returned only if memory runs out.
     pub fn copy(&self, alloc: Global) -> Result<Held, AllocError>
         ensures { IfOk result (λ copy. copy ≡ self.now) }
@@ -112,6 +124,55 @@ impl Held {
 impl Duplicate for Held {
     fn duplicate(&self, alloc: Global) -> Result<Held, AllocError> {
         self.copy(alloc)
+    }
+}
+
+/// The held devices of one pool. Contracts see the holders of all devices, and the pool.
+#[derive(Drop)]
+pub struct HeldInPool<'a> {
+    held: &'a Held,
+    driver: &'a Text,
+    pool: &'a Text,
+    devices: Option<&'a Devices>,
+}
+
+impl<'a> Model for HeldInPool<'a> {
+    ghost use Rattle.std.specs.Prelude.{◌≡◌, option_copied};
+    ghost use Rattle.counter_sets.specs.Totals.{or_empty};
+    ghost use Rattle.counter_sets.specs.Holding.{PoolHolders, held_in_pool};
+
+    ghost Value = { PoolHolders };
+
+    ghost view = { λ p. record { holders = p.held.now; driver = p.driver.now; pool = p.pool.now } };
+
+    ghost invariant = { λ p. or_empty (option_copied p.devices) ≡ held_in_pool p.held.now p.driver.now p.pool.now };
+}
+
+impl<'a> HeldInPool<'a> {
+    /// The claim that holds the device of that name in the pool.
+    #[tactic(auto, unfolding(crate::specs::Holding::holder_in))]
+    pub fn at(&self, device: &Text) -> Option<&'a Key>
+        ensures { option_copied result ≡ holder_in self.now.holders (record { driver = self.now.driver; pool = self.now.pool; device = device.now }) }
+    {
+        find(self.devices, device)
+    }
+
+    /// Whether it is this pool.
+    fn is_of(&self, driver: &Text, pool: &Text) -> bool
+        ensures { result ≡ (text_eq self.now.pool pool.now && text_eq self.now.driver driver.now) }
+    {
+        *self.pool == *pool && *self.driver == *driver
+    }
+
+    /// The held devices of a pool, which are looked up only if it is another one. Allocates nothing.
+    pub fn or_in_pool(self, driver: &'a Text, pool: &'a Text) -> HeldInPool<'a>
+        ensures { result ≡ record { holders = self.entry.holders; driver = driver.now; pool = pool.now } }
+    {
+        if self.is_of(driver, pool) {
+            self
+        } else {
+            self.held.in_pool(driver, pool)
+        }
     }
 }
 

@@ -9,6 +9,6 @@ mod held;
 mod short;
 mod totals;
 
-pub use held::Held;
+pub use held::{Held, HeldInPool};
 pub use short::Shortage;
 pub use totals::Totals;
