@@ -5,6 +5,7 @@
 mod apart;
 mod counted;
 mod holders;
+mod laws;
 mod search;
 mod totals;
 mod wanted;
