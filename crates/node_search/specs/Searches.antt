@@ -1,19 +1,21 @@
 -- What the searches of all nodes for one pod share.
-use Rattle.std.specs.Prelude.{◌≡◌, List}
+use Rattle.std.specs.Prelude.{◌≡◌, List, Bool}
 use Rattle.api_claim.specs.declared.types.ResourceClaim.{ResourceClaim}
 use Rattle.pool_view.specs.declared.inventory.Inventory.{Inventory}
 use Rattle.cluster.specs.declared.state.State.{State}
 use Rattle.cluster.specs.Held.{held}
 use Rattle.counter_sets.specs.Holding.{AreHeld, Holders}
 use Rattle.request_rows.specs.Match.{ClassTable}
+use Rattle.node_search.specs.Full.{are_plain}
 
 -- what contracts see of it: the state, and the claims that need devices
 pub record SearchFields : Type 0 where
   pub state : State
   pub claims : List ResourceClaim
 
--- it is all of the state
-pub record IsSearch (s : State) (pools : Inventory) (classes : ClassTable) (holders : Holders) : Type 0 where
+-- it is all of the state, and whether the claims ask plainly for devices
+pub record IsSearch (s : State) (pools : Inventory) (classes : ClassTable) (claims : List ResourceClaim) (holders : Holders) (plain : Bool) : Type 0 where
   pub pools_are : pools ≡ s.inventory
   pub classes_are : classes ≡ s.classes
   pub holders_are : AreHeld holders (held s)
+  pub plain_is : plain ≡ are_plain classes claims

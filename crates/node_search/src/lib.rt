@@ -4,6 +4,7 @@
 
 mod apart;
 mod counted;
+mod full;
 mod holders;
 mod laws;
 mod search;

@@ -8,6 +8,8 @@ ghost use Rattle.allocator.specs.Answered.{answer_of};
 
 use crate::apart::{devices_differ, slices_differ};
 use crate::counted::totals_for;
+use crate::full::{all_held, are_plain};
+use crate::laws::full_nodes_have_nothing;
 use crate::wanted::wanted_claims;
 use allocator::{Outcome, search_devices};
 use api_cluster::Pod;
@@ -27,6 +29,8 @@ pub struct PodSearch<'a> {
     pools: Pools<'a>,
     wants: Wants<'a>,
     holders: &'a Held,
+    /// Whether the claims ask plainly for devices.
+    plain: bool,
 }
 
 impl<'a> Model for PodSearch<'a> {
@@ -36,7 +40,7 @@ impl<'a> Model for PodSearch<'a> {
 
     ghost view = { λ s. record { state = s.state.now; claims = s.wants.claims } };
 
-    ghost invariant = { λ s. IsSearch s.state.now s.pools s.wants.classes s.holders.now };
+    ghost invariant = { λ s. IsSearch s.state.now s.pools s.wants.classes s.wants.claims s.holders.now s.plain };
 }
 
 impl<'a> PodSearch<'a> {
@@ -54,6 +58,7 @@ impl<'a> PodSearch<'a> {
     {
         let pools = Pools::of(alloc, &state.inventory)?;
         let claims = wanted_claims(alloc, state, pod)?;
+        let plain = are_plain(&state.classes, &claims);
         let wants = Wants {
             claims,
             classes: &state.classes,
@@ -63,6 +68,7 @@ impl<'a> PodSearch<'a> {
             pools,
             wants,
             holders,
+            plain,
         })
     }
 
@@ -72,14 +78,19 @@ impl<'a> PodSearch<'a> {
     /// The result is exactly that of the walk within the budget: the least allocation as a grant for
     /// each claim, a selector error that comes before each allocation, that there is neither, or that the
     /// budget is spent before one of these is known. What held devices draw is counted for the slices
-    /// of the node's devices alone. `AllocError` only if memory runs out.
+    /// of the node's devices alone, and not if claims that ask plainly for devices find each of them
+    /// held. `AllocError` only if memory runs out.
     pub fn outcome(&self, alloc: Global, node: &Text, budget: u64) -> Result<Outcome, AllocError>
         requires { IsSome (at_name self.now.state.inventory.nodes node.now) }
         ensures { IfOk result (λ found. answer_of (input_of self.now.state self.now.claims node.now) budget ≡ Some found) }
     {
         slices_differ(&self.state.inventory);
         devices_differ(&self.state.inventory, node);
+        full_nodes_have_nothing();
         let devices = self.pools.devices(alloc, node)?;
+        if self.plain && budget > 0 && all_held(&devices, self.holders) {
+            return Ok(Outcome::Unsat);
+        }
         let broken = self.pools.has_broken(node);
         let mut totals = totals_for(alloc, &devices, self.holders)?;
         search_devices(
