@@ -104,6 +104,7 @@ fn decide_for(
 }
 
 /// Decides on a pod whose claims are there and have room for it.
+#[tactic(auto, unfolding(allocations::specs::Claims::joined))]
 fn decide_among(
     alloc: Global,
     state: &State,
@@ -122,9 +123,11 @@ fn decide_among(
     unsat_is_true();
     state.inventory.nodes().in_order();
     let search = PodSearch::of(alloc, state, holders, &pod.pod.object)?;
+    let joins = granted(alloc, state, claims)?;
     let mut passed = Seq::empty(alloc);
     let object = &pod.pod.object;
-    let taken = try_nodes(alloc, state, object, claims, &search, budget, &mut passed)?;
+    let joins = joins.as_slice();
+    let taken = try_nodes(alloc, state, object, joins, &search, budget, &mut passed)?;
     decision_by(alloc, state, pod, claims, at, passed, taken)
 }
 

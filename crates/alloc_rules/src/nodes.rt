@@ -1,7 +1,7 @@
 ghost use Rattle.std.specs.Prelude.{◌≡◌, ◌++◌, [], ◌∷◌, IfOk, IsSome};
 ghost use Rattle.std.specs.Map.{keys_of};
 ghost use Rattle.pool_view.specs.Names.{at_name};
-ghost use Rattle.allocations.specs.Claims.{keys_of_pod, wanted};
+ghost use Rattle.allocations.specs.Claims.{joined, wanted};
 ghost use Rattle.alloc_rules.specs.Tries.{AreTried, IsTried, tried_of};
 
 use crate::claims::first_elsewhere;
@@ -41,22 +41,23 @@ fn tried_of(budget: u64, outcome: Outcome) -> Tried
     }
 }
 
-/// Searches a node for a pod, unless one of the pod's claims has its grant on another node.
+/// Searches a node for a pod, unless one of the pod's claims has its grant on another node. `joins`
+/// are the pod's claims with a grant.
 fn try_node(
     alloc: Global,
     state: &State,
     pod: &Pod,
-    claims: &[Key],
+    joins: &[Key],
     search: &PodSearch,
     node: &Text,
     budget: u64,
 ) -> Result<Tried, AllocError>
-    requires claims { claims.now ≡ keys_of_pod pod.now }
+    requires joins { joins.now ≡ joined state.now pod.now }
     requires search { search.now ≡ record { state = state.now; claims = wanted state.now pod.now } }
     requires there { IsSome (at_name state.now.inventory.nodes node.now) }
     ensures { IfOk result (IsTried state.now pod.now budget node.now) }
 {
-    match first_elsewhere(state, node, claims) {
+    match first_elsewhere(state, node, joins) {
         Some(claim) => Ok(Tried::Passed(Cause::Other(claim.copy(alloc)?))),
         None => Ok(tried_of(budget, search.outcome(alloc, node, budget)?)),
     }
@@ -76,23 +77,24 @@ fn push_passed(
 }
 
 /// Tries the nodes in the order of their names, up to the first that may be taken, and says why each
-/// before it isn't.
+/// before it isn't. `joins` are the pod's claims with a grant: the others aren't looked up again for
+/// each node.
 pub fn try_nodes(
     alloc: Global,
     state: &State,
     pod: &Pod,
-    claims: &[Key],
+    joins: &[Key],
     search: &PodSearch,
     budget: u64,
     passed: &mut Seq<Passed>,
 ) -> Result<Option<Taken>, AllocError>
-    requires claims { claims.now ≡ keys_of_pod pod.now }
+    requires joins { joins.now ≡ joined state.now pod.now }
     requires search { search.now ≡ record { state = state.now; claims = wanted state.now pod.now } }
     requires none { passed.old ≡ [] }
     ensures { IfOk result (AreTried state.now pod.now budget (keys_of state.now.inventory.nodes) passed.new) }
 {
     for (node, _) in state.inventory.nodes().as_map() {
-        match try_node(alloc, state, pod, claims, search, node, budget)? {
+        match try_node(alloc, state, pod, joins, search, node, budget)? {
             Tried::Passed(cause) => push_passed(passed, alloc, node, cause)?,
             Tried::Found(grants) => {
                 let node = node.copy(alloc)?;

@@ -10,7 +10,7 @@ use Rattle.alloc_rules.proofs.nodes.try_node.Goals as goal
 
 pub returns-in_ok-copy-in-Some : goal.returns-in_ok-copy-in-Some
 returns-in_ok-copy-in-Some c =
-    elsewhere c.args.state.now c.args.pod.now c.args.node.now c.args.claims.now c.in-Some.claim.now c.requires.claims (sym c.in-Some.ensures) ∙ ap (λ (k : Key). Some k) (sym c.in_ok-copy-in-Some.ensures)
+    elsewhere c.args.state.now c.args.pod.now c.args.node.now c.args.joins.now c.in-Some.claim.now c.requires.joins (sym c.in-Some.ensures) ∙ ap (λ (k : Key). Some k) (sym c.in_ok-copy-in-Some.ensures)
 
 pub returns-in_ok-outcome-in-None : goal.returns-in_ok-outcome-in-None
 returns-in_ok-outcome-in-None c =
@@ -19,4 +19,4 @@ returns-in_ok-outcome-in-None c =
     let found = c.in_ok-outcome-in-None.field-0 in
     let answered = subst (λ (f : SearchFields). answer_of (input_of f.state f.claims c.args.node.now) c.args.budget ≡ Some found) c.requires.search c.in_ok-outcome-in-None.ensures in
     subst (λ (t : Tried). IsTried s pod c.args.budget c.args.node.now t) (sym c.tried_of.ensures)
-    (searched s pod c.args.budget c.args.node.now c.args.claims.now found c.requires.claims (sym c.in-None.ensures) answered)
+    (searched s pod c.args.budget c.args.node.now c.args.joins.now found c.requires.joins (sym c.in-None.ensures) answered)
