@@ -1,9 +1,8 @@
-ghost use Rattle.std.specs.Prelude.{◌≡◌, ◌<◌, length, is_some, IfOk};
-ghost use Rattle.pool_view.specs.Pools.{id_in};
-ghost use Rattle.counter_sets.specs.Holding.{holder_in};
-ghost use Rattle.allocator.specs.Holding.{held_among, held_at};
+ghost use Rattle.std.specs.Prelude.{◌≡◌, ◌<◌, length, IfOk};
+ghost use Rattle.allocator.specs.Holding.{flags_of, held_among, held_at};
 
-use counter_sets::Held;
+use api_slice::ResourceSlice;
+use counter_sets::{Held, HeldInPool};
 use pool_view::DeviceRef;
 use std::alloc::{AllocError, Global};
 use std::marker::Model;
@@ -29,15 +28,38 @@ impl<'a> Model for HeldDevices<'a> {
     ghost invariant = { λ h. h.flags.items ≡ flags_of h.holders.now h.devices.now };
 }
 
-/// Whether a claim holds the device.
-fn is_held(holders: &Held, device: &DeviceRef) -> bool
-    ensures { result ≡ is_some (holder_in holders.now (id_in device.now)) }
+fn pool_of<'a>(holders: &'a Held, slice: &'a ResourceSlice) -> HeldInPool<'a>
+    ensures { result ≡ record { holders = holders.now; driver = slice.now.driver; pool = slice.now.pool.name } }
 {
-    let slice = device.slice();
-    let name = &device.device().name;
-    holders
-        .at(slice.driver.as_text(), &slice.pool.name, name)
-        .is_some()
+    holders.in_pool(slice.driver.as_text(), &slice.pool.name)
+}
+
+/// Whether a claim holds each of the devices.
+fn flags_of(alloc: Global, devices: &[DeviceRef], holders: &Held) -> Result<Vec<bool>, AllocError>
+    ensures { IfOk result (λ flags. flags.items ≡ flags_of holders.now devices.now) }
+{
+    match devices.first() {
+        None => Ok(Vec::new(alloc)),
+        Some(device) => flags_from(alloc, devices, pool_of(holders, device.slice())),
+    }
+}
+
+/// The same; a pool is looked up once for its devices that follow each other.
+fn flags_from<'a>(
+    alloc: Global,
+    devices: &[DeviceRef<'a>],
+    pool: HeldInPool<'a>,
+) -> Result<Vec<bool>, AllocError>
+    ensures { IfOk result (λ flags. flags.items ≡ flags_of pool.entry.holders devices.now) }
+{
+    let mut pool = pool;
+    let mut flags = Vec::with_capacity(alloc, devices.len())?;
+    for device in devices {
+        let slice = device.slice();
+        pool = pool.or_in_pool(slice.driver.as_text(), &slice.pool.name);
+        flags.push(pool.at(&device.device().name).is_some())?;
+    }
+    Ok(flags)
 }
 
 impl<'a> HeldDevices<'a> {
@@ -49,14 +71,10 @@ impl<'a> HeldDevices<'a> {
     ) -> Result<HeldDevices<'a>, AllocError>
         ensures { IfOk result (λ h. h ≡ record { devices = devices.now; held = held_among holders.now devices.now }) }
     {
-        let mut flags = Vec::new(alloc);
-        for device in devices {
-            flags.push(is_held(holders, device))?;
-        }
         Ok(HeldDevices {
             devices,
             holders,
-            flags,
+            flags: flags_of(alloc, devices, holders)?,
         })
     }
 
