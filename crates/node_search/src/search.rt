@@ -78,8 +78,8 @@ impl<'a> PodSearch<'a> {
     /// The result is exactly that of the walk within the budget: the least allocation as a grant for
     /// each claim, a selector error that comes before each allocation, that there is neither, or that the
     /// budget is spent before one of these is known. What held devices draw is counted for the slices
-    /// of the node's devices alone, and not if claims that ask plainly for devices find each of them
-    /// held. `AllocError` only if memory runs out.
+    /// of the node's devices alone. If the claims ask plainly for devices and all of the node's are
+    /// held, nothing is counted or matched. `AllocError` only if memory runs out.
     pub fn outcome(&self, alloc: Global, node: &Text, budget: u64) -> Result<Outcome, AllocError>
         requires { IsSome (at_name self.now.state.inventory.nodes node.now) }
         ensures { IfOk result (λ found. answer_of (input_of self.now.state self.now.claims node.now) budget ≡ Some found) }
