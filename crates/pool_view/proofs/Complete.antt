@@ -1,10 +1,9 @@
 -- When a pool is usable.
 use Rattle.std.proofs.Common.{ℕ, ◌≡◌, ◌∙◌, List, [], ◌∷◌, Bool, true, false, not, ◌&&◌, ◌||◌, eqb, length, refl, sym, ap}
 use Rattle.std.specs.List.{flat_map, list_any, list_all}
-use Rattle.std.proofs.lemmas.Bool.{and_parts, eqb-true, eq-eqb, ne_eqb}
+use Rattle.std.proofs.lemmas.Bool.{and_parts, eqb-true, eq-eqb}
 use Rattle.api_slice.specs.declared.types.ResourceSlice.{ResourceSlice}
-use Rattle.pool_view.specs.Inventory.{Named}
-use Rattle.pool_view.specs.Pools.{counts_of, counts_differ, device_names, has_twice, highest, is_complete, is_usable, is_used, of_generation, pool_of, slices_of}
+use Rattle.pool_view.specs.Pools.{counts_of, counts_differ, device_names, has_twice, is_complete, is_usable}
 
 agrees_with : (k n : ℕ) (ms : List ℕ) → list_all (λ m. eqb m k) ms ≡ true → n ≡ k → list_any (λ m. not (eqb n m)) ms ≡ false
 agrees_with k n [] h e = refl
@@ -34,17 +33,3 @@ unfolding is_usable
 is_usable_by xs counts names b e f g =
     g ∙ ap (λ ns. is_complete ns && not (has_twice names)) e ∙ ap (λ ns. is_complete (counts_of xs) && not (has_twice ns)) f
     ∙ usable_if (is_complete (counts_of xs)) (counts_differ (counts_of xs)) (has_twice (flat_map device_names xs)) (complete_agrees (counts_of xs))
-
-pub is_used_by : (all : Named ResourceSlice) (x : ResourceSlice) (h : ℕ) (b : Bool) → h ≡ highest (slices_of x.driver x.pool.name all) → x.pool.generation ≡ h
-    → b ≡ is_usable (of_generation h (slices_of x.driver x.pool.name all)) → b ≡ is_used all x
-unfolding is_used pool_of
-is_used_by all x h b e f g =
-    let same : eqb x.pool.generation (highest (slices_of x.driver x.pool.name all)) ≡ true = eq-eqb _ _ (f ∙ e) in
-    g ∙ ap (λ n. is_usable (of_generation n (slices_of x.driver x.pool.name all))) e
-    ∙ sym (ap (λ c. c && is_usable (of_generation (highest (slices_of x.driver x.pool.name all)) (slices_of x.driver x.pool.name all))) same)
-
-pub is_unused_by : (all : Named ResourceSlice) (x : ResourceSlice) (h : ℕ) → h ≡ highest (slices_of x.driver x.pool.name all) → (x.pool.generation ≡ h → ⊥) → false ≡ is_used all x
-unfolding is_used pool_of
-is_unused_by all x h e f =
-    let other : eqb x.pool.generation (highest (slices_of x.driver x.pool.name all)) ≡ false = ne_eqb _ _ (λ g. f (g ∙ sym e)) in
-    sym (ap (λ c. c && is_usable (of_generation (highest (slices_of x.driver x.pool.name all)) (slices_of x.driver x.pool.name all))) other)

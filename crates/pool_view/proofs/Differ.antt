@@ -30,7 +30,7 @@ use Rattle.pool_view.specs.Pools.{Offered, counts_of, counts_differ, device_name
 use Rattle.pool_view.specs.Usable.{devices_for, if_usable, node_devices, pool_cmp, pool_named, pools, pools_with, usable_slices}
 use Rattle.pool_view.specs.Visibility.{offered_to, sees_device}
 use Rattle.pool_view.proofs.Pairs.{Pairwise, all_at, all_both, all_filter, all_flat, all_flat_by, all_imply, all_in, all_map, all_pairs_by, pairs_filter, pairs_flat, pairs_imply, pairs_imply_by, pairs_map, pairs_sorted, pairs_unmap, same_place, same_some, sorted_pairs}
-use Rattle.pool_view.proofs.Places.{head_or, in_head, in_tail, none_in}
+use Rattle.pool_view.proofs.Members.{head_or, in_head, in_tail, none_in}
 use Rattle.pool_view.proofs.PoolGroups.{of_pool, pools_exact, same_parts, text_equal}
 
 -- ---- the pools strictly increase

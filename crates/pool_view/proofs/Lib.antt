@@ -1,6 +1,6 @@
 pub mod Complete
 pub mod Counts
-pub mod Places
+pub mod Members
 pub mod Named
 pub mod Twice
 pub mod Found
@@ -11,3 +11,5 @@ pub mod Pairs
 pub mod Differ
 pub mod OfNode
 mod SameSlices
+mod SliceFields
+mod NodeSees

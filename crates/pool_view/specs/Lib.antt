@@ -2,7 +2,6 @@ pub mod Names
 pub mod Nodes
 pub mod Inventory
 pub mod Pools
-pub mod Used
 pub mod Visibility
 pub mod Usable
 pub mod Groups

@@ -1,18 +1,14 @@
 -- Pools, and the devices of a node.
-use Rattle.std.specs.Prelude.{ℕ, ◌==◌, List, [], ◌∷◌, Bool, false, not, ◌&&◌, ◌||◌, Option, None, Some, map, filter, length, max, if◌then◌else◌}
+use Rattle.std.specs.Prelude.{ℕ, ◌==◌, List, [], ◌∷◌, Bool, false, not, ◌&&◌, ◌||◌, map, filter, length, max, if◌then◌else◌}
 use Rattle.std.specs.List.{flat_map, list_any, list_all}
 use Rattle.std.specs.Ordering.{ordering_then}
 use Rattle.std.specs.declared.cmp.Ordering.{Ordering}
-use Rattle.std.specs.BTreeSet.{insert_key}
 use Rattle.object_fields.specs.declared.key.DeviceId.{DeviceId}
 use Rattle.api_slice.specs.declared.types.ResourceSlice.{ResourceSlice}
 use Rattle.api_slice.specs.declared.types.Device.{Device}
 use Rattle.pool_view.specs.declared.order.SlicePlace.{SlicePlace}
-use Rattle.pool_view.specs.declared.stored.Stored.{Stored}
-use Rattle.pool_view.specs.declared.inventory.Inventory.{Inventory}
 use Rattle.pool_view.specs.Inventory.{Named}
-use Rattle.pool_view.specs.Names.{text_cmp, text_eq, at_name}
-use Rattle.pool_view.specs.Nodes.{named_node}
+use Rattle.pool_view.specs.Names.{text_cmp, text_eq}
 
 -- the slices of a pool
 abbrev pub slices_of : List ℕ → List ℕ → Named ResourceSlice → List ResourceSlice
@@ -63,27 +59,12 @@ is_invalid xs = counts_differ (counts_of xs) || has_twice (flat_map device_names
 unfoldable pub is_usable : List ResourceSlice → Bool
 is_usable xs = is_complete (counts_of xs) && not (is_invalid xs)
 
--- the slice has the highest generation of its pool, and the pool is usable
-unfoldable pub is_used : Named ResourceSlice → ResourceSlice → Bool
-is_used all x =
-    (x.pool.generation == highest (slices_of x.driver x.pool.name all)) && is_usable (pool_of all x.driver x.pool.name)
-
 -- by driver, then by pool, then by slice
 abbrev pub place_cmp : SlicePlace → SlicePlace → Ordering
 place_cmp a b = ordering_then (text_cmp a.driver b.driver) (ordering_then (text_cmp a.pool b.pool) (text_cmp a.slice b.slice))
 
 abbrev pub place_of : ResourceSlice → SlicePlace
 place_of x = record { driver = x.driver; pool = x.pool.name; slice = x.name }
-
--- the keys of the used ones among the slices, each inserted in order
-abbrev pub placed : Named ResourceSlice → Named ResourceSlice → List SlicePlace → List SlicePlace
-placed all [] places = places
-placed all (e ∷ es) places =
-    placed all es (if is_used all e.1.object then insert_key place_cmp places (place_of e.1.object) else places)
-
--- the keys of the slices of the usable pools, in the order of driver, pool and slice
-unfoldable pub used_places : Inventory → List SlicePlace
-used_places i = placed i.slices i.slices []
 
 abbrev pub id_of : ResourceSlice → Device → DeviceId
 id_of x d = record { driver = x.driver; pool = x.pool.name; device = d.name }
@@ -98,20 +79,3 @@ offered_by x d = record { slice = x; device = d }
 
 abbrev pub id_in : Offered → DeviceId
 id_in o = id_of o.slice o.device
-
--- the slice names the node
-abbrev pub is_on : Option (List ℕ) → List ℕ → Bool
-is_on None node = false
-is_on (Some n) node = text_eq n node
-
-abbrev pub offered_for : List ℕ → Option (Stored ResourceSlice) → List Offered
-offered_for node None = []
-offered_for node (Some e) = if is_on (named_node e.object.nodes) node then map (offered_by e.object) e.object.devices else []
-
--- the devices of the slice of a key, if it is visible to the node
-abbrev pub devices_at : Inventory → List ℕ → SlicePlace → List Offered
-devices_at i node p = offered_for node (at_name i.slices p.slice)
-
--- all devices visible to the node in usable pools, in order
-unfoldable pub devices_on : Inventory → List ℕ → List Offered
-devices_on i node = flat_map (devices_at i node) (used_places i)

@@ -1,4 +1,4 @@
-ghost use Rattle.std.specs.Prelude.{◌≡◌, ◌≤◌, true, IfSome, OnOk, OnErr};
+ghost use Rattle.std.specs.Prelude.{◌≡◌, ◌≤◌, true, IfOk, IfSome, OnOk, OnErr};
 ghost use Rattle.pool_view.specs.Sorted.{AreSorted};
 ghost use Rattle.std.specs.List.Sorted.{IsStrictlySortedBy};
 ghost use Rattle.std.specs.Map.{keys_of};
@@ -30,7 +30,7 @@ pub struct Inventory {
     /// How many devices all slices have.
     devices: usize,
     /// None if the slices aren't sorted, or have changed since they were.
-    sorted: Option<SortedSlices>,
+    sorted: Option<Shared<SortedSlices>>,
 }
 
 impl Model for Inventory {
@@ -167,7 +167,7 @@ impl Inventory {
     }
 
     /// The slices as they are kept, sorted, if they are.
-    pub(crate) fn sorted(&self) -> Option<&SortedSlices>
+    pub(crate) fn sorted(&self) -> Option<&Shared<SortedSlices>>
         ensures { IfSome result (λ sorted. AreSorted self.now.slices sorted.now) }
     {
         self.sorted.as_ref()
@@ -180,20 +180,31 @@ impl Inventory {
     {
         if self.sorted.is_none() {
             let sorted = sorted_slices(alloc, self)?;
-            self.sorted = Some(sorted);
+            self.sorted = Some(Shared::new(alloc, sorted)?);
         }
         Ok(())
     }
 }
 
+/// A duplicate's slices are sorted if and only if these are, and it shares what is kept of them.
 impl Duplicate for Inventory {
     fn duplicate(&self, alloc: Global) -> Result<Inventory, AllocError> {
+        let sorted = shared(&self.sorted)?;
         Ok(Inventory {
             nodes: self.nodes.copy(alloc)?,
             slices: self.slices.copy(alloc)?,
             devices: self.devices,
-            sorted: None,
+            sorted,
         })
+    }
+}
+
+fn shared(sorted: &Option<Shared<SortedSlices>>) -> Result<Option<Shared<SortedSlices>>, AllocError>
+    ensures { IfOk result (λ other. other ≡ sorted.now) }
+{
+    match sorted {
+        Some(sorted) => Ok(Some(sorted.share()?)),
+        None => Ok(None),
     }
 }
 

@@ -1,25 +1,14 @@
-ghost use Rattle.std.specs.Prelude.{◌≡◌, List, ℕ, Some, true, Contains, map, slice_get};
+ghost use Rattle.std.specs.Prelude.{◌≡◌, List, ℕ, Some, Contains, map, slice_get};
 ghost use Rattle.std.specs.List.Sorted.{IsStrictlySortedBy};
 ghost use Rattle.std.specs.Map.{keys_of};
 ghost use Rattle.api_slice.specs.declared.types.Device.{Device};
 ghost use Rattle.api_slice.specs.declared.types.ResourceSlice.{ResourceSlice};
 ghost use Rattle.pool_view.specs.declared.inventory.Inventory.{Inventory};
-ghost use Rattle.pool_view.specs.declared.order.SlicePlace.{SlicePlace};
-ghost use Rattle.pool_view.specs.declared.stored.Stored.{Stored};
 ghost use Rattle.pool_view.specs.Differing.{IsAtItsName, usable_devices};
 ghost use Rattle.pool_view.specs.Inventory.{AtOwnNames};
 ghost use Rattle.pool_view.specs.Names.{text_cmp};
-ghost use Rattle.pool_view.specs.Pools.{Offered, id_in, id_of, is_used, place_cmp, place_of, used_places};
+ghost use Rattle.pool_view.specs.Pools.{Offered, id_in, id_of, place_cmp, place_of};
 ghost use Rattle.pool_view.specs.Usable.{node_devices, usable_slices};
-ghost use Rattle.pool_view.specs.Used.{IsPlaceInUse};
-
-/// The keys in use are exactly those of the slices that have the highest generation of their pool,
-/// if that pool is usable, in strictly increasing order: by driver, then by pool, then by slice.
-pub fn places_are_used()
-    ensures every { (i : Inventory) (name : List ℕ) (x : Stored ResourceSlice) → Contains i.slices (name, x) → is_used i.slices x.object ≡ true → Contains (used_places i) (place_of x.object) }
-    ensures only { (i : Inventory) (p : SlicePlace) → Contains (used_places i) p → IsPlaceInUse i p }
-    ensures in_order { (i : Inventory) → IsStrictlySortedBy place_cmp (used_places i) }
-{}
 
 /// No two devices that a node sees have one id, so a device's id determines its position. Each has its
 /// slice among the slices of usable pools, and is among the devices of that slice. Slices of one

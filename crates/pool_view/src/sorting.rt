@@ -7,7 +7,7 @@ ghost use Rattle.pool_view.specs.Usable.{broken_slices, if_broken, if_usable, po
 
 use crate::Inventory;
 use crate::groups::{by_pool, pool_names};
-use crate::kept::SortedSlices;
+use crate::kept::{IndexedSlices, SortedSlices};
 use crate::names::{NameRef, PoolName};
 use crate::slice_ref::SliceRef;
 use api_slice::ResourceSlice;
@@ -165,7 +165,7 @@ fn sort_pools<'a>(
 /// All slices of the inventory that have the highest generation of their pool, sorted by whether
 /// the pool is usable, each in the order of driver, pool and slice.
 #[tactic(auto, using(crate::proofs::PoolGroups::usable_by, crate::proofs::PoolGroups::broken_by))]
-fn sort_all<'a>(alloc: Global, inventory: &'a Inventory) -> Result<Sorted<'a>, AllocError>
+pub fn sort_all<'a>(alloc: Global, inventory: &'a Inventory) -> Result<Sorted<'a>, AllocError>
     ensures usable { IfOk result (λ s. s.usable ≡ usable_slices inventory.now) }
     ensures broken { IfOk result (λ s. s.broken ≡ broken_slices inventory.now) }
 {
@@ -174,56 +174,14 @@ fn sort_all<'a>(alloc: Global, inventory: &'a Inventory) -> Result<Sorted<'a>, A
     sort_pools(alloc, &groups, &names)
 }
 
-fn borrow_all<'a>(
-    alloc: Global,
-    slices: &'a [Shared<ResourceSlice>],
-) -> Result<Seq<SliceRef<'a>>, AllocError>
-    ensures { IfOk result (λ refs. refs ≡ slices.now) }
-{
-    let mut refs = Seq::empty(alloc);
-    for slice in slices {
-        refs.push(SliceRef::of(slice))?;
-    }
-    Ok(refs)
-}
-
-/// All slices of the inventory that have the highest generation of their pool, as it keeps them, or sorted
-/// now if it doesn't.
-pub fn sort_out<'a>(alloc: Global, inventory: &'a Inventory) -> Result<Sorted<'a>, AllocError>
-    ensures usable { IfOk result (λ s. s.usable ≡ usable_slices inventory.now) }
-    ensures broken { IfOk result (λ s. s.broken ≡ broken_slices inventory.now) }
-{
-    match inventory.sorted() {
-        Some(kept) => {
-            let usable = borrow_all(alloc, kept.usable.as_slice())?;
-            let broken = borrow_all(alloc, kept.broken.as_slice())?;
-            Ok(Sorted { usable, broken })
-        }
-        None => sort_all(alloc, inventory),
-    }
-}
-
-fn share_all(
-    alloc: Global,
-    slices: &[SliceRef<'_>],
-) -> Result<Seq<Shared<ResourceSlice>>, AllocError>
-    ensures { IfOk result (λ shared. shared ≡ slices.now) }
-{
-    let mut shared = Seq::empty(alloc);
-    for slice in slices {
-        shared.push(slice.share()?)?;
-    }
-    Ok(shared)
-}
-
 /// The slices of the inventory, sorted, to be kept.
 #[tactic(auto, using(crate::proofs::SameSlices::usable_of, crate::proofs::SameSlices::broken_of))]
 pub fn sorted_slices(alloc: Global, inventory: &Inventory) -> Result<SortedSlices, AllocError>
     ensures { IfOk result (λ sorted. AreSorted inventory.now.slices sorted) }
 {
     let sorted = sort_all(alloc, inventory)?;
-    let usable = share_all(alloc, sorted.usable.as_slice())?;
-    let broken = share_all(alloc, sorted.broken.as_slice())?;
+    let usable = IndexedSlices::of(alloc, sorted.usable.as_slice())?;
+    let broken = IndexedSlices::of(alloc, sorted.broken.as_slice())?;
     Ok(SortedSlices { usable, broken })
 }
 
@@ -234,8 +192,23 @@ pub fn sorted_slices(alloc: Global, inventory: &Inventory) -> Result<SortedSlice
 pub fn usable(alloc: Global, inventory: &Inventory) -> Result<Vec<&ResourceSlice>, AllocError>
     ensures { IfOk result (λ slices. map (λ s. s.now) slices.items ≡ usable_slices inventory.now) }
 {
-    let sorted = sort_out(alloc, inventory)?;
-    borrowed(alloc, sorted.usable.as_slice())
+    match inventory.sorted() {
+        Some(kept) => values_of(alloc, kept.value().usable.slices()),
+        None => borrowed(alloc, sort_all(alloc, inventory)?.usable.as_slice()),
+    }
+}
+
+fn values_of(
+    alloc: Global,
+    slices: &[Shared<ResourceSlice>],
+) -> Result<Vec<&ResourceSlice>, AllocError>
+    ensures { IfOk result (λ out. map (λ s. s.now) out.items ≡ slices.now) }
+{
+    let mut out = Vec::with_capacity(alloc, slices.len())?;
+    for slice in slices {
+        out.push(slice.value())?;
+    }
+    Ok(out)
 }
 
 fn borrowed<'a>(
@@ -244,7 +217,7 @@ fn borrowed<'a>(
 ) -> Result<Vec<&'a ResourceSlice>, AllocError>
     ensures { IfOk result (λ out. map (λ s. s.now) out.items ≡ slices.now) }
 {
-    let mut out = Vec::new(alloc);
+    let mut out = Vec::with_capacity(alloc, slices.len())?;
     for slice in slices {
         out.push(slice.get())?;
     }

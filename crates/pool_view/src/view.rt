@@ -1,13 +1,15 @@
 ghost use Rattle.std.specs.Prelude.{◌≡◌, [], IfOk, IsSome};
 ghost use Rattle.pool_view.specs.Names.{at_name};
+ghost use Rattle.pool_view.specs.Sorted.{AreSorted};
 ghost use Rattle.pool_view.specs.Usable.{has_broken, node_devices};
 ghost use Rattle.pool_view.specs.Views.{places_from, position_of, with_place};
 
 use crate::Inventory;
 use crate::device::DeviceRef;
-use crate::node_index::{NodeIndex, devices_of, sees_any};
-use crate::sorting::{Sorted, sort_out};
-use dra_values::{Seq, Table, Text};
+use crate::kept::SortedSlices;
+use crate::seen::{are_seen, devices_seen};
+use crate::sorting::{sort_all, sorted_slices};
+use dra_values::{Seq, Shared, Table, Text};
 use object_fields::DeviceId;
 use std::alloc::{AllocError, Global};
 use std::marker::Model;
@@ -17,21 +19,18 @@ use std::marker::Model;
 #[derive(Drop)]
 pub struct Pools<'a> {
     inventory: &'a Inventory,
-    usable: NodeIndex<'a>,
-    broken: NodeIndex<'a>,
+    sorted: Shared<SortedSlices>,
 }
 
 impl<'a> Model for Pools<'a> {
-    ghost use Rattle.std.specs.Prelude.{◌≡◌};
     ghost use Rattle.pool_view.specs.declared.inventory.Inventory.{Inventory};
-    ghost use Rattle.pool_view.specs.NodeIndexes.{index_of};
-    ghost use Rattle.pool_view.specs.Usable.{broken_slices, usable_slices};
+    ghost use Rattle.pool_view.specs.Sorted.{AreSorted};
 
     ghost Value = { Inventory };
 
     ghost view = { λ p. p.inventory.now };
 
-    ghost invariant = { λ p. (p.usable ≡ index_of (usable_slices p.inventory.now)) × (p.broken ≡ index_of (broken_slices p.inventory.now)) };
+    ghost invariant = { λ p. AreSorted p.inventory.now.slices p.sorted };
 }
 
 /// What a node sees of the pools of an inventory: the devices that may be allocated to a pod there, with
@@ -56,31 +55,27 @@ impl<'a> Model for PoolView<'a> {
 }
 
 impl<'a> Pools<'a> {
-    /// Sorts the slices of an inventory by their pools and by the node that they name: one pass over
-    /// all of them. `AllocError` is returned only if memory runs out.
+    /// The slices of an inventory by their pools and by the node that they name: shared with it if it is
+    /// sorted, and else sorted now, in one pass over all of them. `AllocError` is returned only if memory
+    /// runs out.
     pub fn of(alloc: Global, inventory: &'a Inventory) -> Result<Pools<'a>, AllocError>
         ensures { IfOk result (λ pools. pools ≡ inventory.now) }
     {
-        let Sorted { usable, broken } = sort_out(alloc, inventory)?;
-        let usable = NodeIndex::of(alloc, usable.as_slice())?;
-        let broken = NodeIndex::of(alloc, broken.as_slice())?;
-        Ok(Pools {
-            inventory,
-            usable,
-            broken,
-        })
+        let sorted = sorted_by(alloc, inventory)?;
+        Ok(Pools { inventory, sorted })
     }
 
     /// The devices of usable pools that a node of the inventory sees, in the order of driver, pool,
     /// slice and index in the slice. Goes over the slices that name the node and those that name none.
     /// `AllocError` is returned only if memory runs out.
-    #[tactic(auto, using(crate::proofs::OfNode::devices_by_index), unfolding(crate::specs::Usable::node_devices))]
-    pub fn devices(&self, alloc: Global, node: &Text) -> Result<Vec<DeviceRef<'a>>, AllocError>
+    #[tactic(auto, using(crate::proofs::NodeSees::devices_are, crate::proofs::NodeSees::no_devices_at))]
+    pub fn devices(&self, alloc: Global, node: &Text) -> Result<Vec<DeviceRef<'_>>, AllocError>
         requires { IsSome (at_name self.now.nodes node.now) }
         ensures { IfOk result (λ devices. devices.items ≡ node_devices self.now node.now) }
     {
+        let usable = &self.sorted.value().usable;
         match self.inventory.nodes().get(node) {
-            Some(stored) => Ok(devices_of(alloc, &stored.object, &self.usable)?.into_vec()),
+            Some(stored) => Ok(usable.devices_for(alloc, &stored.object)?.into_vec()),
             None => Ok(Vec::new(alloc)),
         }
     }
@@ -88,31 +83,28 @@ impl<'a> Pools<'a> {
     /// Whether an incomplete or invalid pool has a slice of its highest generation that a node of the
     /// inventory sees; false for a node that doesn't exist. Goes over the slices that name the node and
     /// those that name none, and allocates nothing.
-    #[tactic(auto, using(crate::proofs::OfNode::any_by_index), unfolding(crate::specs::Usable::has_broken))]
+    #[tactic(auto, using(crate::proofs::NodeSees::any_are, crate::proofs::NodeSees::none_at, crate::proofs::NodeSees::none_broken))]
     pub fn has_broken(&self, node: &Text) -> bool
         ensures { result ≡ has_broken self.now node.now }
     {
+        let broken = &self.sorted.value().broken;
+        if broken.slices().is_empty() {
+            return false;
+        }
         match self.inventory.nodes().get(node) {
-            Some(stored) => sees_any(&stored.object, &self.broken),
+            Some(stored) => broken.are_seen(&stored.object),
             None => false,
         }
     }
 
     /// What a node of the inventory sees. `AllocError` is returned only if memory runs out.
-    pub fn view(&self, alloc: Global, node: &Text) -> Result<PoolView<'a>, AllocError>
+    pub fn view(&self, alloc: Global, node: &Text) -> Result<PoolView<'_>, AllocError>
         requires { IsSome (at_name self.now.nodes node.now) }
         ensures inventory { IfOk result (λ view. view.inventory ≡ self.now) }
         ensures devices { IfOk result (λ view. view.devices ≡ node_devices self.now node.now) }
         ensures broken { IfOk result (λ view. view.has_broken ≡ has_broken self.now node.now) }
     {
-        let devices = Seq::new(self.devices(alloc, node)?);
-        let places = places_of(alloc, devices.as_slice())?;
-        Ok(PoolView {
-            inventory: self.inventory,
-            devices,
-            places,
-            broken: self.has_broken(node),
-        })
+        view_by(alloc, self.inventory, self.sorted.value(), node)
     }
 }
 
@@ -128,7 +120,10 @@ impl<'a> PoolView<'a> {
         ensures devices { IfOk result (λ view. view.devices ≡ node_devices inventory.now node.now) }
         ensures broken { IfOk result (λ view. view.has_broken ≡ has_broken inventory.now node.now) }
     {
-        Pools::of(alloc, inventory)?.view(alloc, node)
+        match inventory.sorted() {
+            Some(sorted) => view_by(alloc, inventory, sorted.value(), node),
+            None => view_of_all(alloc, inventory, node),
+        }
     }
 
     /// The devices of usable pools that the node sees, in the order of driver, pool, slice and index
@@ -161,6 +156,77 @@ impl<'a> PoolView<'a> {
         ensures { result ≡ self.now.has_broken }
     {
         self.broken
+    }
+}
+
+/// What is kept of the inventory's slices, or else made now.
+fn sorted_by(alloc: Global, inventory: &Inventory) -> Result<Shared<SortedSlices>, AllocError>
+    ensures { IfOk result (λ sorted. AreSorted inventory.now.slices sorted) }
+{
+    match inventory.sorted() {
+        Some(kept) => kept.share(),
+        None => Shared::new(alloc, sorted_slices(alloc, inventory)?),
+    }
+}
+
+/// The view of these devices, with their index.
+fn view_with<'a>(
+    alloc: Global,
+    inventory: &'a Inventory,
+    devices: Seq<DeviceRef<'a>>,
+    broken: bool,
+) -> Result<PoolView<'a>, AllocError>
+    ensures { IfOk result (λ view. view ≡ record { inventory = inventory.now; devices = devices.entry; has_broken = broken }) }
+{
+    let places = places_of(alloc, devices.as_slice())?;
+    Ok(PoolView {
+        inventory,
+        devices,
+        places,
+        broken,
+    })
+}
+
+/// What a node of an inventory sees of its slices, which are sorted.
+#[tactic(auto, using(crate::proofs::NodeSees::devices_are, crate::proofs::NodeSees::any_are, crate::proofs::NodeSees::none_at, crate::proofs::NodeSees::no_devices_at))]
+fn view_by<'a>(
+    alloc: Global,
+    inventory: &'a Inventory,
+    sorted: &'a SortedSlices,
+    node: &Text,
+) -> Result<PoolView<'a>, AllocError>
+    requires sorted { AreSorted inventory.now.slices sorted.now }
+    requires there { IsSome (at_name inventory.now.nodes node.now) }
+    ensures { IfOk result (λ view. view ≡ record { inventory = inventory.now; devices = node_devices inventory.now node.now; has_broken = has_broken inventory.now node.now }) }
+{
+    match inventory.nodes().get(node) {
+        Some(stored) => {
+            let devices = sorted.usable.devices_for(alloc, &stored.object)?;
+            let broken = sorted.broken.are_seen(&stored.object);
+            view_with(alloc, inventory, devices, broken)
+        }
+        None => view_with(alloc, inventory, Seq::empty(alloc), false),
+    }
+}
+
+/// What a node of an inventory sees of all slices, sorted now.
+#[tactic(auto, using(crate::proofs::NodeSees::devices_at, crate::proofs::NodeSees::any_at, crate::proofs::NodeSees::none_at, crate::proofs::NodeSees::no_devices_at))]
+fn view_of_all<'a>(
+    alloc: Global,
+    inventory: &'a Inventory,
+    node: &Text,
+) -> Result<PoolView<'a>, AllocError>
+    requires { IsSome (at_name inventory.now.nodes node.now) }
+    ensures { IfOk result (λ view. view ≡ record { inventory = inventory.now; devices = node_devices inventory.now node.now; has_broken = has_broken inventory.now node.now }) }
+{
+    let sorted = sort_all(alloc, inventory)?;
+    match inventory.nodes().get(node) {
+        Some(stored) => {
+            let devices = devices_seen(alloc, &stored.object, sorted.usable.as_slice())?;
+            let broken = are_seen(&stored.object, sorted.broken.as_slice());
+            view_with(alloc, inventory, devices, broken)
+        }
+        None => view_with(alloc, inventory, Seq::empty(alloc), false),
     }
 }
 

@@ -1,11 +1,13 @@
 ghost use Rattle.std.specs.Prelude.{◌≡◌};
 ghost use Rattle.std.specs.List.{list_any};
-ghost use Rattle.pool_view.specs.Visibility.{are_on, field_is_on, own_are_on, sees_device, sees_slice};
+ghost use Rattle.pool_view.specs.Visibility.{are_on, own_are_on, sees_slice};
 
 use api_cluster::Node;
 use api_slice::{Device, Nodes, ResourceSlice, SliceNodes};
 
-fn are_on(nodes: &Nodes, node: &Node) -> bool
+/// Whether a node is one of these: the one that is named, one whose name and labels are selected, or any
+/// (API reference of `resource.k8s.io/v1`). Allocates nothing.
+pub fn are_on(nodes: &Nodes, node: &Node) -> bool
     ensures { result ≡ are_on nodes.now node.now }
 {
     match nodes {
@@ -15,7 +17,8 @@ fn are_on(nodes: &Nodes, node: &Node) -> bool
     }
 }
 
-fn own_are_on(device: &Device, node: &Node) -> bool
+/// Whether a device is on a node by its own field. Allocates nothing.
+pub fn own_are_on(device: &Device, node: &Node) -> bool
     ensures { result ≡ own_are_on device.now.nodes node.now }
 {
     match &device.nodes {
@@ -24,41 +27,25 @@ fn own_are_on(device: &Device, node: &Node) -> bool
     }
 }
 
-fn field_is_on(nodes: &SliceNodes, node: &Node) -> bool
-    ensures { result ≡ field_is_on nodes.now node.now }
+fn any_own(devices: &[Device], node: &Node) -> bool
+    ensures { result ≡ list_any (λ d. own_are_on d.nodes node.now) devices.now }
 {
-    match nodes {
-        SliceNodes::Nodes(nodes) => are_on(nodes, node),
-        SliceNodes::PerDevice => false,
-    }
-}
-
-/// Whether the node sees a device of a slice that has these nodes: by the slice's `nodeName`,
-/// `nodeSelector` or `allNodes`, or by the device's own if the slice has
-/// `perDeviceNodeSelection` (API reference of `resource.k8s.io/v1`). Allocates nothing.
-pub fn sees_device(nodes: &SliceNodes, node: &Node, device: &Device) -> bool
-    ensures { result ≡ sees_device nodes.now node.now device.now }
-{
-    match nodes {
-        SliceNodes::Nodes(nodes) => are_on(nodes, node),
-        SliceNodes::PerDevice => own_are_on(device, node),
-    }
-}
-
-fn sees_one(slice: &ResourceSlice, node: &Node) -> bool
-    ensures { result ≡ list_any (sees_device slice.now.nodes node.now) slice.now.devices }
-{
-    for device in slice.devices.as_slice() {
-        if sees_device(&slice.nodes, node, device) {
+    for device in devices {
+        if own_are_on(device, node) {
             return true;
         }
     }
     false
 }
 
-/// Whether the node sees a slice: one of its devices, or by the slice's own field. Allocates nothing.
+/// Whether the node sees a slice: by the slice's `nodeName`, `nodeSelector` or `allNodes`, or one of its
+/// devices by the device's own if the slice has `perDeviceNodeSelection`. Allocates nothing.
+#[tactic(auto, using(crate::proofs::SliceFields::seen_by_field))]
 pub fn sees_slice(node: &Node, slice: &ResourceSlice) -> bool
     ensures { result ≡ sees_slice node.now slice.now }
 {
-    field_is_on(&slice.nodes, node) || sees_one(slice, node)
+    match &slice.nodes {
+        SliceNodes::Nodes(nodes) => are_on(nodes, node),
+        SliceNodes::PerDevice => any_own(slice.devices.as_slice(), node),
+    }
 }

@@ -1,4 +1,4 @@
-use Rattle.std.proofs.Common.{◌≡◌, ◌∙◌, sym, ap}
+use Rattle.std.proofs.Common.{◌∙◌}
 use Rattle.pool_view.proofs.Indexed.{position_is}
 use Rattle.pool_view.proofs.view.PoolView.position.Goals as goal
 
