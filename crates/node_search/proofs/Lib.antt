@@ -8,3 +8,6 @@ pub mod Valued
 pub mod Lifted
 pub mod Held
 pub mod Keys
+pub mod FullWalks
+pub mod FullInputs
+pub mod FullNodes

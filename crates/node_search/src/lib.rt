@@ -13,6 +13,7 @@ mod wanted;
 
 pub use apart::{devices_differ, slices_differ};
 pub use holders::holders_of;
+pub use laws::full_nodes_have_nothing;
 pub use search::PodSearch;
 pub use totals::totals_of;
 pub use wanted::wanted_claims;
