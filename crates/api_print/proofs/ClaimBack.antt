@@ -37,7 +37,7 @@ neither : (a b : Bool) → a ≡ false → b ≡ false → (a || b) ≡ false
 neither true b p q = p
 neither false b p q = q
 
-parts_back : (p : List Step) (q : QualName) → IsFullName q → domain_and_id p q.domain q.id ≡ Ok q
+pub parts_back : (p : List Step) (q : QualName) → IsFullName q → domain_and_id p q.domain q.id ≡ Ok q
 parts_back p q full =
     let short : (nat_lt domain_most (length q.domain) || nat_lt id_most (length q.id)) ≡ false = neither _ _ (not_longer domain_most (length q.domain) full.domain_length) (not_longer id_most (length q.id) full.id_length) in
     let right : (is_dns_name q.domain && is_c_identifier q.id) ≡ true = and_from _ _ full.domain full.id in

@@ -26,13 +26,13 @@ use Rattle.api_print.proofs.Tables.{labels_back}
 
 -- ---- names
 
-judged_right : (path : List Step) (most : ℕ) (right : Bool) (text : List ℕ) → length text ≤ most → right ≡ true → judged path most right text ≡ Ok text
+pub judged_right : (path : List Step) (most : ℕ) (right : Bool) (text : List ℕ) → length text ≤ most → right ≡ true → judged path most right text ≡ Ok text
 judged_right path most right text size h = rw (not_longer most (length text) size, h) refl
 
 name_read : (path : List Step) (d : Data) (name : List ℕ) → get (codes "name") d ≡ Some (string name) → NameKept name → dns_subdomain_at name_most path (codes "name") d ≡ Ok name
 name_read path d name h kept = rw h (judged_right _ name_most (is_dns_name name) name kept.size kept.form)
 
-label_size : (name : List ℕ) → is_dns_label name ≡ true → length name ≤ label_most
+pub label_size : (name : List ℕ) → is_dns_label name ≡ true → length name ≤ label_most
 label_size name h = leb-true _ _ (and_parts (nat_le (length name) label_most) (is_dns_part name) h).0
 
 pub label_read : (path : List Step) (d : Data) (key name : List ℕ) → get key d ≡ Some (string name) → is_dns_label name ≡ true → dns_label_at path key d ≡ Ok name

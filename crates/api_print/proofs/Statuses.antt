@@ -1,13 +1,15 @@
 -- The status of a claim reads as its grant.
-use Rattle.std.proofs.Common.{◌≡◌, ℕ, ◌+◌, ◌<◌, ◌≤◌, ◌^◌, nat_lt, Bool, true, false, List, [], ◌∷◌, ◌++◌, length, map, Some, Result, Ok, refl, ap, ◌∙◌, append_assoc, arith}
+use Rattle.std.proofs.Common.{◌≡◌, ℕ, ◌+◌, ◌<◌, ◌≤◌, ◌^◌, nat_lt, Bool, true, false, List, [], ◌∷◌, ◌++◌, length, map, Option, Some, None, Result, Ok, Err, refl, ap, ◌∙◌, append_assoc, arith}
 use Rattle.std.specs.Prelude.{codes}
+use Rattle.std.specs.Str.{bytes_eq}
 use Rattle.std.proofs.lemmas.List.{append-nil}
 use Rattle.serde_json.specs.Data.{Data, object, member, no_members}
-use Rattle.object_fields.specs.Fields.{items_length}
+use Rattle.object_fields.specs.Fields.{field_error, items_length}
 use Rattle.object_fields.specs.Limits.{KeyKept}
 use Rattle.object_fields.specs.Lists.{alone, each_from}
 use Rattle.object_fields.specs.declared.error.FieldError.{FieldError}
 use Rattle.object_fields.specs.declared.key.Key.{Key}
+use Rattle.object_fields.specs.declared.kind.FieldErrorKind.TheVariants.{NotSupported}
 use Rattle.object_fields.specs.declared.meta.Scope.TheVariants.{Namespaced}
 use Rattle.object_fields.specs.declared.path.Step.{Step}
 use Rattle.object_fields.specs.declared.path.Step.TheVariants.{Member}
@@ -16,10 +18,11 @@ use Rattle.cluster.specs.declared.plan.DeviceResult.{DeviceResult}
 use Rattle.cluster.specs.declared.state.ClaimState.{ClaimState}
 use Rattle.cluster.specs.declared.state.Granted.{Granted}
 use Rattle.cluster.specs.declared.state.PodState.{PodState}
+use Rattle.api_print.specs.LeftOut.{without, without_users}
 use Rattle.api_print.specs.Metadata.{key_metadata_json}
 use Rattle.api_print.specs.ReadBack.{result_read, status_read}
-use Rattle.api_print.specs.Shapes.{listed}
-use Rattle.api_print.specs.Status.{allocation_json, claim_json, grant_node_json, result_json, results_json, written_users}
+use Rattle.api_print.specs.Shapes.{listed, member_if}
+use Rattle.api_print.specs.Status.{allocation_json, claim_json, grant_node_json, items_if, result_json, results_json, written_users}
 use Rattle.api_print.proofs.Decimals.{not_longer}
 use Rattle.api_print.proofs.Readings.{key_members, listed_length}
 
@@ -54,3 +57,34 @@ status_back pods c g granted published unused kept small some few =
     let meta = key_members (Member (codes "metadata") ∷ []) (key_metadata_json c.claim.object.key c.claim.version c.claim.uid) c.claim.object.key c.claim.version refl refl refl refl kept small in
     let results = results_back status_path (grant_node_json g.node) g.results some few in
     rw (granted, published, unused, meta, results) refl
+
+-- ---- with users
+
+left_by : (key : List ℕ) (d : Data) (users : Option Data) → bytes_eq key (codes "reservedFor") ≡ false → without (codes "reservedFor") (member key d (member_if (codes "reservedFor") users no_members)) ≡ member key d no_members
+left_by key d None h = rw h refl
+left_by key d (Some u) h = rw h refl
+
+users_left_out : (pods : List (Key × PodState)) (c : ClaimState) (g : Granted) → c.grant ≡ Some g → g.published ≡ true → without_users (claim_json pods c) ≡ claim_json pods (record c { users = [] })
+unfolding claim_json allocation_json
+users_left_out pods c g granted published =
+    rw (granted, published) (rw (left_by (codes "allocation") (allocation_json g) (items_if (written_users pods c.users)) refl) refl)
+
+-- without the users it is what is printed of a claim that has none
+pub status_left_out : (pods : List (Key × PodState)) (c : ClaimState) (g : Granted) → c.grant ≡ Some g → g.published ≡ true → KeyKept Namespaced c.claim.object.key → c.claim.version < 2 ^ 64 → 1 ≤ length g.results → length g.results ≤ results_most
+    → status_of (without_users (claim_json pods c)) ≡ Ok (status_read c.claim.version g)
+status_left_out pods c g granted published kept small some few =
+    rw (users_left_out pods c g granted published) (status_back pods (record c { users = [] }) g granted published refl kept small some few)
+
+some_first : (ds : List Data) → (ds ≡ [] → ⊥) → (d : Data) × (rest : List Data) × (ds ≡ d ∷ rest)
+some_first [] h = absurd (h refl)
+some_first (d ∷ ds) h = (d, ds, refl)
+
+-- with users it is refused at `reservedFor`
+pub status_refused : (pods : List (Key × PodState)) (c : ClaimState) (g : Granted) → c.grant ≡ Some g → g.published ≡ true → (written_users pods c.users ≡ [] → ⊥) → KeyKept Namespaced c.claim.object.key → c.claim.version < 2 ^ 64 → 1 ≤ length g.results → length g.results ≤ results_most
+    → status_of (claim_json pods c) ≡ Err (field_error (Member (codes "status") ∷ []) (codes "reservedFor") NotSupported)
+unfolding claim_json allocation_json
+status_refused pods c g granted published used kept small some few =
+    let users = some_first (written_users pods c.users) used in
+    let meta = key_members (Member (codes "metadata") ∷ []) (key_metadata_json c.claim.object.key c.claim.version c.claim.uid) c.claim.object.key c.claim.version refl refl refl refl kept small in
+    let results = results_back status_path (grant_node_json g.node) g.results some few in
+    rw (granted, published, users.2, meta, results) refl

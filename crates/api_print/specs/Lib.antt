@@ -10,3 +10,5 @@ pub mod Claims
 pub mod Status
 pub mod Objects
 pub mod ReadBack
+pub mod Ranges
+pub mod LeftOut

@@ -6,6 +6,7 @@ use Rattle.api_claim.specs.declared.types.StatusResult.{StatusResult}
 use Rattle.api_cluster.specs.declared.types.DeviceClass.{DeviceClass}
 use Rattle.api_cluster.specs.declared.types.Node.{Node}
 use Rattle.api_cluster.specs.declared.types.Pod.{Pod}
+use Rattle.api_slice.specs.declared.types.ResourceSlice.{ResourceSlice}
 use Rattle.cluster.specs.declared.plan.DeviceResult.{DeviceResult}
 use Rattle.cluster.specs.declared.state.Granted.{Granted}
 use Rattle.pool_view.specs.declared.stored.Stored.{Stored}
@@ -15,6 +16,10 @@ node_read s = record { name = s.object.name; version = Some s.version; labels = 
 
 abbrev pub class_read : Stored DeviceClass → DeviceClass
 class_read s = record { name = s.object.name; version = Some s.version; selectors = s.object.selectors }
+
+abbrev pub slice_read : Stored ResourceSlice → ResourceSlice
+slice_read s =
+    record { name = s.object.name; version = Some s.version; driver = s.object.driver; pool = s.object.pool; nodes = s.object.nodes; counters = s.object.counters; devices = s.object.devices }
 
 abbrev pub pod_read : Stored Pod → Pod
 pod_read s = record { key = s.object.key; version = Some s.version; claims = s.object.claims }

@@ -13,8 +13,8 @@
 //!   there are none
 //! - a pod that is bound has no `nodeName`, which isn't kept of any pod
 //!
-//! The JSON of a node, a class, a pod and a claim reads as the object, and that of a published grant
-//! without users as its status.
+//! The JSON of each object reads as the object, and that of a claim with a published grant, without
+//! `reservedFor`, as its status.
 #![tactic(auto)]
 
 mod claim;
@@ -29,6 +29,7 @@ mod node;
 mod pod;
 mod printing;
 mod properties;
+mod ranges;
 mod request;
 mod selector;
 mod slice;
@@ -40,7 +41,8 @@ mod tests;
 pub use claim::claim_value;
 pub use class::class_value;
 pub use laws::{
-    claim_reads_back, class_reads_back, node_reads_back, pod_reads_back, status_reads_back,
+    claim_reads_back, class_reads_back, node_reads_back, pod_reads_back, slice_reads_back,
+    status_reads_back, used_status_reads_back,
 };
 pub use metadata::uid_text;
 pub use node::node_value;
