@@ -3,7 +3,7 @@ use cel_check::CheckError;
 use cel_parse::ParseError;
 use cel_value::EvalError;
 use device_match::{Cause, CompileError};
-use object_fields::{FieldError, Kind, Stage};
+use object_fields::{FieldError, FieldErrorKind, Stage};
 use std::alloc::{AllocError, Global};
 
 /// The messages of errors that no input leads to, and of those that print otherwise elsewhere.
@@ -13,7 +13,7 @@ pub fn answer(alloc: Global, word: &str) -> Result<String, CaseError> {
         "check" => Ok(CheckError::Memory.to_string(alloc)?),
         "compile" => Ok(CompileError::Memory.to_string(alloc)?),
         "field" => Ok(FieldError::memory(alloc).to_string(alloc)?),
-        "stage" => Ok(Kind::Selector(Stage::Parse).to_string(alloc)?),
+        "stage" => Ok(FieldErrorKind::Selector(Stage::Parse).to_string(alloc)?),
         "evaluation" => Ok(evaluation(alloc)?),
         _ => Err(CaseError::BadCase),
     }
