@@ -1,4 +1,4 @@
-ghost use Rattle.std.specs.Prelude.{◌≡◌, ◌≤◌, ◌<◌, ◌^◌, ◌+◌, [], length, ℕ, true, IfOk, OnOk, OnErr, IsErrOf, None, is_some, vec_len, option_copied};
+ghost use Rattle.std.specs.Prelude.{◌≡◌, ◌≤◌, ◌<◌, ◌^◌, ◌+◌, [], length, ℕ, true, IfOk, OnOk, OnErr, IsErrOf, IsSome, None, is_some, vec_len, option_copied};
 ghost use Rattle.std.specs.Vec.{vec_capacity};
 ghost use Rattle.std.specs.Map.{lookup};
 ghost use Rattle.counter_sets.specs.Holding.{AreHeld};
@@ -231,13 +231,13 @@ impl Ledger {
     /// Begins to schedule a pod: if a refusal of the command holds (`State::schedule_refusal`), the entry
     /// is a denial that carries the pod and the first such, and the state stays as it was; else the
     /// pod is there and Idle, nothing is appended, and a snapshot of the present state is returned. `Full`
-    /// is returned if the command is to be denied and the history has its limit of entries, and `Memory` only
-    /// if memory runs out; then nothing changed.
+    /// is returned only if such a refusal holds and the history has its limit of entries, which `Full`
+    /// carries, and `Memory` only if memory runs out; then nothing changed.
     pub fn begin(&mut self, alloc: Global, job: u64, pod: &Key) -> Result<Start, LedgerError>
         requires { may_try (stand_of self.old.entries job) ≡ true }
         ensures begins { IfOk result (λ start. Begins self.old self.new job pod.now start) }
         ensures legal { Legal self.new.entries }
-        ensures full { (n : ℕ) → IsErrOf result (LedgerError.Full n) → (length self.old.entries ≡ n) × (self.old.limit ≤ n) }
+        ensures full { (n : ℕ) → IsErrOf result (LedgerError.Full n) → (length self.old.entries ≡ n) × (self.old.limit ≡ n) × IsSome (first_refusal (state_of self.old.entries) (Schedule pod.now)) }
         ensures err { OnErr result (self.new ≡ self.old) }
     {
         let at = self.len();
