@@ -169,6 +169,17 @@ unfolding drawn_by offered_held
 held_draw_most h x c limits =
     fits (length x.devices) (drawn_by c (offered_held h x)) (held_most (drawn_from c) (λ o. is_some (holder_in h (id_in o))) x device_most x.devices (λ i d there. device_sum x c i d limits there)) limits.device_count
 
+both_fit : (n s t : ℕ) → s ≤ n * device_most → t ≤ n * device_most → n ≤ devices_most → s + t ≤ sum_most
+both_fit n s t h k l = omega (arith, h, k, l)
+
+-- by two lists of held devices
+pub held_draws_most : (h g : Holders) (x : ResourceSlice) (c : CounterId) → IsWithinLimits x → drawn_by c (offered_held h x) + drawn_by c (offered_held g x) ≤ sum_most
+unfolding drawn_by offered_held
+held_draws_most h g x c limits =
+    both_fit (length x.devices) (drawn_by c (offered_held h x)) (drawn_by c (offered_held g x))
+    (held_most (drawn_from c) (λ o. is_some (holder_in h (id_in o))) x device_most x.devices (λ i d there. device_sum x c i d limits there))
+    (held_most (drawn_from c) (λ o. is_some (holder_in g (id_in o))) x device_most x.devices (λ i d there. device_sum x c i d limits there)) limits.device_count
+
 -- from a counter of another slice
 other_by : (b : Bool) (o : Option ℕ) → b ≡ false → is_some (cond b o None) ≡ false
 other_by true o e = absurd (cc)

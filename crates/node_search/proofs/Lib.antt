@@ -11,3 +11,4 @@ pub mod Keys
 pub mod FullWalks
 pub mod FullInputs
 pub mod FullNodes
+pub mod NodeTotals

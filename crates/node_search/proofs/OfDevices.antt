@@ -42,7 +42,7 @@ other_drawn o c e =
     no_map_sum (drawn_at c) (λ f. record { counter = counter_for o.slice k.set f.0; amount = natural f.1 }) k.amounts
     (λ i f there. ap (λ (b : Bool). cond b (natural f.1) 0) (apart_counter o.slice c k.set f.0 e)))
 
-others_drawn : (p : Offered → Bool) (x : ResourceSlice) (c : CounterId) (ds : List Device) → text_eq x.name c.slice ≡ false → sum_by (drawn_from c) (filter p (map (offered_by x) ds)) ≡ 0
+pub others_drawn : (p : Offered → Bool) (x : ResourceSlice) (c : CounterId) (ds : List Device) → text_eq x.name c.slice ≡ false → sum_by (drawn_from c) (filter p (map (offered_by x) ds)) ≡ 0
 others_drawn p x c [] e = refl
 others_drawn p x c (d ∷ ds) e =
     kept_none (drawn_from c) (p (offered_by x d)) (offered_by x d) (filter p (map (offered_by x) ds)) (other_drawn (offered_by x d) c e) (others_drawn p x c ds e)
@@ -75,7 +75,7 @@ one_of_all pairs (y ∷ ys) c (suc i) x differ at own =
     (one_of_all pairs ys c i x (λ j k v w lt f g. differ (suc j) (suc k) v w (omega (arith, lt)) f g) at own)
 
 -- what the held devices of all slices draw from a counter is what those of its slice do
-own_drawn : (pairs : List (DeviceId × Key)) (xs : List ResourceSlice) (c : CounterId) (x : ResourceSlice) → NamesDiffer xs → Contains xs x → text_eq x.name c.slice ≡ true → drawn xs pairs c ≡ drawn_by c (held_in pairs x)
+pub own_drawn : (pairs : List (DeviceId × Key)) (xs : List ResourceSlice) (c : CounterId) (x : ResourceSlice) → NamesDiffer xs → Contains xs x → text_eq x.name c.slice ≡ true → drawn xs pairs c ≡ drawn_by c (held_in pairs x)
 unfolding drawn drawn_by held_devices
 own_drawn pairs xs c x differ there own = one_of_all pairs xs c there.0 x differ (at_place xs x there) own
 
@@ -94,7 +94,7 @@ same_held h pairs [] held = refl
 same_held h pairs (o ∷ os) held =
     ap₂ (λ (b : Bool) (r : List Offered). cond b (o ∷ r) r) (ap is_some (held.holder (id_in o)) ∙ some_pair pairs (id_in o)) (same_held h pairs os held)
 
-held_of_pairs : (h : Holders) (pairs : List (DeviceId × Key)) (x : ResourceSlice) → AreHeld h pairs → offered_held h x ≡ held_in pairs x
+pub held_of_pairs : (h : Holders) (pairs : List (DeviceId × Key)) (x : ResourceSlice) → AreHeld h pairs → offered_held h x ≡ held_in pairs x
 unfolding offered_held
 held_of_pairs h pairs x held = same_held h pairs (map (offered_by x) x.devices) held
 
@@ -104,7 +104,7 @@ no_value : (b : Bool) (o : Option ℕ) → o ≡ None → is_some (cond b o None
 no_value true o e = ap is_some e
 no_value false o e = refl
 
-none_there : (x : ResourceSlice) (sets : List CounterSet) (c : CounterId) → x.counters ≡ sets → are_some sets ≡ false → is_some (counter_value x c) ≡ false
+pub none_there : (x : ResourceSlice) (sets : List CounterSet) (c : CounterId) → x.counters ≡ sets → are_some sets ≡ false → is_some (counter_value x c) ≡ false
 unfolding counter_value
 none_there x [] c is e =
     ap (λ (ss : List CounterSet). is_some (cond (text_eq x.name c.slice) (value_in ss c.set c.counter) None)) is ∙ no_value (text_eq x.name c.slice) (value_in [] c.set c.counter) refl
@@ -115,13 +115,13 @@ draws_nothing [] [] e h = refl
 draws_nothing [] (k ∷ ks) e h = let on : DrawsOn [] k = all_at (DrawsOn []) (k ∷ ks) 0 k h refl in absurd (let f = on.is_set in cc)
 draws_nothing (s ∷ ss) ks e h = absurd (cc)
 
-no_draws : (o : Offered) (i : ℕ) → IsWithinLimits o.slice → slice_get o.slice.devices i ≡ Some o.device → has_counters o.slice ≡ false → draws_of o ≡ []
+pub no_draws : (o : Offered) (i : ℕ) → IsWithinLimits o.slice → slice_get o.slice.devices i ≡ Some o.device → has_counters o.slice ≡ false → draws_of o ≡ []
 unfolding draws_of
 no_draws o i limits at e =
     let keeps_limits : KeepsLimits o.slice.counters (is_per_device o.slice.nodes) o.device = all_at (KeepsLimits o.slice.counters (is_per_device o.slice.nodes)) o.slice.devices i o.device limits.devices at in
     ap (λ ks. flat_map (draws_from o.slice) ks) (draws_nothing o.slice.counters o.device.consumes e keeps_limits.draws)
 
-not_in_none : (ds : List Draw) (d : Draw) → ds ≡ [] → Contains ds d → ⊥
+pub not_in_none : (ds : List Draw) (d : Draw) → ds ≡ [] → Contains ds d → ⊥
 not_in_none [] d e h = let at : slice_get [] h.0 ≡ Some d = at_place [] d h in cc
 not_in_none (x ∷ ds) d e h = cc
 
@@ -142,7 +142,7 @@ kept_by h x c false k o limits is e none = held_draw_none h x c limits (other_va
 pub added_kept : (h : Holders) (x : ResourceSlice) (c : CounterId) (k o : Bool) → IsWithinLimits x → k ≡ cond (text_eq x.name c.slice) (is_some (counter_value x c)) o → k ≡ false → drawn_by c (offered_held h x) ≡ 0
 added_kept h x c k o limits e none = kept_by h x c (text_eq x.name c.slice) k o limits refl e none
 
-own_none : (b : Bool) (m n : ℕ) → m ≡ cond b 0 n → b ≡ true → m ≡ 0
+pub own_none : (b : Bool) (m n : ℕ) → m ≡ cond b 0 n → b ≡ true → m ≡ 0
 own_none true m n e own = e
 own_none false m n e own = absurd (cc)
 
@@ -160,7 +160,7 @@ uncounted h kept x limits e = record {
   drawn_is = λ c some own. absurd (cc);
 }
 
-of_one_slice : (os : List Offered) (i j : ℕ) (a b : Option Offered) (o : Offered) → AreApart os → slice_get os j ≡ a → slice_get os i ≡ b → b ≡ Some o → of_one a b ≡ true → (p : Offered) × (a ≡ Some p) × (p.slice ≡ o.slice)
+pub of_one_slice : (os : List Offered) (i j : ℕ) (a b : Option Offered) (o : Offered) → AreApart os → slice_get os j ≡ a → slice_get os i ≡ b → b ≡ Some o → of_one a b ≡ true → (p : Offered) × (a ≡ Some p) × (p.slice ≡ o.slice)
 of_one_slice os i j None b o apart f e at is = absurd (cc)
 of_one_slice os i j (Some p) None o apart f e at is = absurd (cc)
 of_one_slice os i j (Some p) (Some q) o apart f e at is =
@@ -179,7 +179,7 @@ else_true false x e = e
 one_less : (i : ℕ) → i ≡ suc i - 1
 one_less i = omega arith
 
-repeats_back : (os : List Offered) (i : ℕ) → repeats os i ≡ true → (j : ℕ) × (j < i) × (of_one (slice_get os j) (slice_get os i) ≡ true)
+pub repeats_back : (os : List Offered) (i : ℕ) → repeats os i ≡ true → (j : ℕ) × (j < i) × (of_one (slice_get os j) (slice_get os i) ≡ true)
 repeats_back os zero e = absurd (cc)
 repeats_back os (suc i) e =
     (i, omega arith, ap (λ n. of_one (slice_get os n) (slice_get os (suc i))) (one_less i) ∙ else_true (suc i == 0) (of_one (slice_get os (suc i - 1)) (slice_get os (suc i))) e)
@@ -232,7 +232,7 @@ counted_next h os i o old kept apart before at limits put =
 
 -- ---- the device at an index
 
-device_at : (os : List Offered) (i : ℕ) (o : Offered) → i < length os → o ≡ get_or os i o → slice_get os i ≡ Some o
+pub device_at : (os : List Offered) (i : ℕ) (o : Offered) → i < length os → o ≡ get_or os i o → slice_get os i ≡ Some o
 device_at os i o lt is = slice_get-get_or os i o lt ∙ ap (λ (p : Offered). Some p) (sym is)
 
 pub skips_none : (h : Holders) (os : List Offered) (i : ℕ) (o : Offered) (x : ResourceSlice) (kept : Tabled (Tabled (Tabled ℕ))) → AreCounted h os i kept → i < length os → o ≡ get_or os i o → x ≡ o.slice → IsWithinLimits x → has_counters x ≡ false

@@ -4,3 +4,4 @@ pub mod Searches
 pub mod Apart
 pub mod Counted
 pub mod Full
+pub mod NodeTotals

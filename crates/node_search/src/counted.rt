@@ -11,7 +11,7 @@ use pool_view::DeviceRef;
 use std::alloc::{AllocError, Global};
 
 /// Whether devices may draw from counters of the slice.
-fn has_counters(slice: &ResourceSlice) -> bool
+pub fn has_counters(slice: &ResourceSlice) -> bool
     ensures { result ≡ has_counters slice.now }
 {
     match slice.counters.as_slice().first() {
@@ -21,7 +21,7 @@ fn has_counters(slice: &ResourceSlice) -> bool
 }
 
 /// Whether the device at an index is of the same slice as the one before.
-fn repeats(devices: &[DeviceRef], at: usize) -> bool
+pub fn repeats(devices: &[DeviceRef], at: usize) -> bool
     requires { at < length devices.now }
     ensures { result ≡ repeats devices.now at }
 {
