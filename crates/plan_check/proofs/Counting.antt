@@ -59,10 +59,10 @@ drawn_of w ps i p o k e f at =
 minus_plus : (a b c t : ℕ) → a ≡ t - b → t ≡ c → b ≤ c → a + b ≡ c
 minus_plus a b c t e f h = omega (arith, e, f, h)
 
--- the totals without a device of which are those with all
-pub total_with : (v w : SearchInput) (t u : Tabled (Tabled (Tabled ℕ))) (ps : List Pick) (i : ℕ) (p : Pick) (o : Offered) → HasDrawn v w t ps → slice_get ps i ≡ Some p → p.label.admin ≡ false → slice_get w.devices p.position ≡ Some o
-    → ((k : CounterId) → drawn_in u k ≡ drawn_in t k - drawn_from k o) → (k : CounterId) → drawn_in u k + drawn_from k o ≡ total w k ps
-total_with v w t u ps i p o h e f at less k = minus_plus (drawn_in u k) (drawn_from k o) (total w k ps) (drawn_in t k) (less k) (h.drawn k) (drawn_of w ps i p o k e f at)
+-- the totals of a counter without a device, with what it draws, are those with all
+pub total_with : (w : SearchInput) (t u : Tabled (Tabled (Tabled ℕ))) (ps : List Pick) (i : ℕ) (p : Pick) (o : Offered) → slice_get ps i ≡ Some p → p.label.admin ≡ false → slice_get w.devices p.position ≡ Some o
+    → ((k : CounterId) → drawn_in u k ≡ drawn_in t k - drawn_from k o) → (k : CounterId) → drawn_in t k ≡ total w k ps → drawn_in u k + drawn_from k o ≡ total w k ps
+total_with w t u ps i p o e f at less k all = minus_plus (drawn_in u k) (drawn_from k o) (total w k ps) (drawn_in t k) (less k) all (drawn_of w ps i p o k e f at)
 
 short_same : (v w : SearchInput) (t u : Tabled (Tabled (Tabled ℕ))) (ps : List Pick) (i : ℕ) (p : Pick) (o : Offered) → HasDrawn v w t ps → slice_get ps i ≡ Some p → p.label.admin ≡ false → slice_get w.devices p.position ≡ Some o
     → ((k : CounterId) → drawn_in u k ≡ drawn_in t k - drawn_from k o) → find (is_short w ps) (device_draws w p) ≡ first_short (drawn_in u) o
@@ -71,7 +71,7 @@ short_same v w t u ps i p o h e f at less =
     ap (λ (d : Option Offered). find (is_short w ps) (draws_by d)) at
     ∙ find_same (is_short w ps) (λ d. not (has_enough (drawn_in u) o d.counter)) (draws_of o) (λ j d g.
     ap (λ (v : Option ℕ). not (is_within v (total w d.counter ps))) ((h.counters p.position o at).values d (in_list (draws_of o) j d g))
-    ∙ ap (λ (n : ℕ). not (is_within (counter_value o.slice d.counter) n)) (sym (total_with v w t u ps i p o h e f at less d.counter)))
+    ∙ ap (λ (n : ℕ). not (is_within (counter_value o.slice d.counter) n)) (sym (total_with w t u ps i p o e f at less d.counter (h.drawn p.position o d at (in_list (draws_of o) j d g)))))
 
 -- none is short
 pub short_none : (v w : SearchInput) (t u : Tabled (Tabled (Tabled ℕ))) (ps : List Pick) (i : ℕ) (p : Pick) (o : Offered) → HasDrawn v w t ps → slice_get ps i ≡ Some p → p.label.admin ≡ false → slice_get w.devices p.position ≡ Some o
@@ -93,10 +93,12 @@ some_by v w t u ps i p o d set counter drawn value h e f at less first is drawn_
     let found : find (is_short w ps) (device_draws w p) ≡ Some d = short_same v w t u ps i p o h e f at less ∙ first in
     let own : Contains (draws_of o) d = subst (λ (l : List Draw). Contains l d) (ap draws_by at) (found_in (is_short w ps) (device_draws w p) d found) in
     let valued : w.value d.counter ≡ counter_value o.slice d.counter = (h.counters p.position o at).values d own in
-    let fits : total w k ps ≤ sum_most = subst (λ (n : ℕ). n ≤ sum_most) (h.drawn k) (h.most k) in
+    let all : drawn_in t k ≡ total w k ps = subst (λ (c : CounterId). drawn_in t c ≡ total w c ps) (sym is) (h.drawn p.position o d at own) in
+    let most : drawn_in t k ≤ sum_most = subst (λ (c : CounterId). drawn_in t c ≤ sum_most) (sym is) (h.most p.position o d at own) in
+    let fits : total w k ps ≤ sum_most = subst (λ (n : ℕ). n ≤ sum_most) all most in
     ap (λ (s : Shortfall). Some s)
     (same_shortfall set counter drawn (total w k ps) value (w.value k)
-    (capped drawn (drawn_in u k + drawn_from k o) (total w k ps) sum_most drawn_is (total_with v w t u ps i p o h e f at less k) fits)
+    (capped drawn (drawn_in u k + drawn_from k o) (total w k ps) sum_most drawn_is (total_with w t u ps i p o e f at less k all) fits)
     (value_is ∙ ap (counter_value o.slice) is ∙ sym valued ∙ ap w.value (sym is)))
     ∙ ap (λ (c : CounterId). Some (shortfall w ps c)) is
     ∙ sym (ap (λ (d : Option Draw). option_map (λ (d : Draw). shortfall w ps d.counter) d) found)
@@ -114,12 +116,16 @@ short_some v w t u ps i p o (Some d) set counter drawn value h e f at less first
 pub drawn_again : (v w : SearchInput) (t u new : Tabled (Tabled (Tabled ℕ))) (ps : List Pick) (i : ℕ) (p : Pick) (o : Offered) → HasDrawn v w t ps → slice_get ps i ≡ Some p → p.label.admin ≡ false → slice_get w.devices p.position ≡ Some o
     → ((k : CounterId) → drawn_in u k ≡ drawn_in t k - drawn_from k o)
     → ((k : CounterId) → drawn_in new k ≡ drawn_in u k + drawn_from k o) → HasDrawn v w new ps
-drawn_again v w t u new ps i p o h e f at less more = record {
-  devices = h.devices;
-  counters = h.counters;
-  drawn = λ k. more k ∙ total_with v w t u ps i p o h e f at less k;
-  most = λ k. subst (λ (n : ℕ). n ≤ sum_most) (h.drawn k ∙ sym (more k ∙ total_with v w t u ps i p o h e f at less k)) (h.most k);
-}
+drawn_again v w t u new ps i p o h e f at less more =
+    record {
+      devices = h.devices;
+      counters = h.counters;
+      drawn = λ j q d there draws. again d.counter (h.drawn j q d there draws);
+      most = λ j q d there draws. subst (λ (n : ℕ). n ≤ sum_most) (h.drawn j q d there draws ∙ sym (again d.counter (h.drawn j q d there draws))) (h.most j q d there draws);
+    }
+  where
+    again : (k : CounterId) → drawn_in t k ≡ total w k ps → drawn_in new k ≡ total w k ps
+    again k all = more k ∙ total_with w t u ps i p o e f at less k all
 
 -- the same counters are kept
 pub still_kept : (w : SearchInput) (t new : Tabled (Tabled (Tabled ℕ))) → ((k : CounterId) → keeps new k ≡ keeps t k) → AreKept w t → AreKept w new

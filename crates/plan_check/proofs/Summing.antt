@@ -100,6 +100,10 @@ drawn_is : (i : Inventory) (pairs : List (DeviceId × Key)) (c : CounterId) → 
 unfolding drawn drawn_by held_devices usable_devices
 drawn_is i pairs c = ap (λ (l : List Offered). sum_by (drawn_from c) l) (held_all (usable_slices i) pairs) ∙ sum_filter (drawn_from c) (λ o. is_held pairs (id_in o)) (flat_map offers (usable_slices i))
 
+-- nothing is drawn if none is held
+pub drawn_none : (i : Inventory) (c : CounterId) → drawn (usable_slices i) [] c ≡ 0
+drawn_none i c = drawn_is i [] c ∙ sum_none (drawn_held [] c) (usable_devices i) (λ j o at. refl)
+
 held_none_by : (p : DeviceId × Key) (ps : List (DeviceId × Key)) (id : DeviceId) (b : Bool) → cond b (Some p.1) (holder_of ps id) ≡ None → (holder_of ps id ≡ None → is_held ps id ≡ false) → (b || is_held ps id) ≡ false
 held_none_by p ps id true h rest = absurd (cc)
 held_none_by p ps id false h rest = rest h

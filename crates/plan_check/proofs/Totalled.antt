@@ -1,5 +1,5 @@
 -- Totals of what claims hold and of results have what each counter's check needs.
-use Rattle.std.proofs.Common.{ℕ, ℤ, zero, suc, ◌+◌, ◌<◌, ◌≤◌, ◌≡◌, ◌∙◌, ◌⊎◌, inl, inr, ⊎_elim, List, [], ◌∷◌, ◌++◌, Bool, true, false, not, ◌&&◌, ◌||◌, cond, Option, None, Some, find, length, map, refl, sym, ap, subst, arith, append_assoc, append-nil}
+use Rattle.std.proofs.Common.{ℕ, ℤ, zero, suc, ◌+◌, ◌<◌, ◌≡◌, ◌∙◌, ◌⊎◌, inl, inr, ⊎_elim, List, [], ◌∷◌, ◌++◌, Bool, true, false, not, ◌&&◌, ◌||◌, cond, Option, None, Some, find, length, map, refl, sym, ap, subst, arith, append_assoc, append-nil}
 use Rattle.std.specs.List.{AllByRecursion, Contains, flat_map, list_any, slice_get, sum_by}
 use Rattle.std.specs.Cmp.Lexicographic.{same_text}
 use Rattle.std.specs.Option.{option_map}
@@ -20,12 +20,9 @@ use Rattle.cluster.specs.declared.plan.DeviceResult.{DeviceResult}
 use Rattle.cluster.specs.declared.state.State.{State}
 use Rattle.cluster.specs.Held as cluster
 use Rattle.counter_sets.specs.Draws.{CounterId, Draw, counter_for, counter_value, draws_from, draws_of, drawn, drawn_from, natural, sets_for, value_in}
-use Rattle.counter_sets.specs.Totals.{Tabled, drawn_in, sum_most}
-use Rattle.counter_sets.specs.Holding.{AreHeld, Holders}
-use Rattle.cluster.specs.declared.state.ClaimState.{ClaimState}
+use Rattle.counter_sets.specs.Totals.{Tabled, keeps}
 use Rattle.cluster.specs.declared.failure.Failure.{Failure}
 use Rattle.cluster.specs.declared.failure.Failure.TheVariants as failure
-use Rattle.node_search.specs.Holding as holding
 use Rattle.request_rules.specs.Input.{SearchInput}
 use Rattle.request_rules.specs.Lists.{Each, first_some, or_else}
 use Rattle.request_rules.specs.Rules.{Pick, amount, device_draws, draws, draws_by, total}
@@ -33,17 +30,17 @@ use Rattle.request_rows.specs.Wanted as rows
 use Rattle.request_rows.specs.Wanted.{RowsFields}
 use Rattle.allocations.specs.Input.{input_of, value_among}
 use Rattle.node_search.specs.Apart.{AreListed, AreOne}
-use Rattle.node_search.specs.Counting.{KeepsDraws}
+use Rattle.node_search.specs.NodeTotals.{HaveDrawn}
 use Rattle.plan_check.specs.Chosen.{Due, pick_of, place_by}
 use Rattle.plan_check.specs.Rows as code
 use Rattle.plan_check.specs.Rows.{AreKept, AreRowsOf, DueFields, HasDrawn, IsDue, due_seen, pairs_of}
 use Rattle.plan_check.specs.Shaped.{is_nil}
-use Rattle.plan_check.specs.Standing.{counter_short, held, held_behind, held_from, is_short, short_for, short_on, shortfall}
+use Rattle.plan_check.specs.Standing.{counter_short, held, held_behind, held_by, held_from, holder_of, is_short, short_for, short_on, shortfall, taker_of}
 use Rattle.plan_check.proofs.Alike.{picks_same}
 use Rattle.plan_check.proofs.Counting.{device_at, in_list}
 use Rattle.plan_check.proofs.Lists.{map_get}
 use Rattle.plan_check.proofs.SoFar.{first_none, later_none}
-use Rattle.plan_check.proofs.Summing.{DrawsOn, IsAlone, due_more}
+use Rattle.plan_check.proofs.Summing.{DrawsOn, IsAlone, drawn_none, due_more}
 
 at_place : {X : Type 0} (xs : List X) (x : X) (h : Contains xs x) → slice_get xs h.0 ≡ Some x
 at_place xs x h = slice_get_read xs (length xs) h.0 x refl h.1 (sym h.2)
@@ -199,20 +196,35 @@ drawing_at i v w c [] same listed ids each j d e = absurd (cc)
 drawing_at i v w c (x ∷ ds) same listed ids each zero d e = let is : due_seen v x ≡ d = cc in subst (Drawing i w c) is (drawing i v w c x same listed ids (each 0 x refl))
 drawing_at i v w c (x ∷ ds) same listed ids each (suc j) d e = drawing_at i v w c ds same listed ids (λ k y f. each (suc k) y f) j d e
 
--- what the code needs of totals
-pub record AreTotalsWith (s : State) (totals : Tabled (Tabled (Tabled ℕ))) (ds : List Due) : Type 0 where
-  pub drawn_is : (c : CounterId) → drawn_in totals c ≡ drawn (usable_slices s.inventory) (cluster.held s ++ pairs_of ds) c
-  pub kept : KeepsDraws totals (usable_slices s.inventory)
-  pub most : (c : CounterId) → drawn_in totals c ≤ sum_most
+-- ---- results that nobody has are none that another of them has
 
-pub are_kept : (s : State) (node : List ℕ) (r : RowsFields) (totals : Tabled (Tabled (Tabled ℕ))) → AreRowsOf s node r → KeepsDraws totals (usable_slices s.inventory) → AreListed (node_devices s.inventory node) (usable_slices s.inventory)
-    → AreKept (rows.input_of r) totals
-are_kept s node r totals are kept listed i o at c none =
-    let here = ap (λ (l : List Offered). slice_get l i) (sym are.devices) ∙ at in
-    kept.none o.slice o.device c (listed.in_slices i o here) (listed.in_slice i o here) none
+alone_by : (d : Due) (b : Bool) (p t : Option Key) → cond b None (held_by d (or_else p t)) ≡ None → cond b None (held_by d (or_else None t)) ≡ None
+alone_by d true p t e = refl
+alone_by d false None t e = e
+alone_by d false (Some k) t e = absurd (cc)
+
+held_alone : (pairs : List (DeviceId × Key)) (before ds : List Due) → held_from pairs before ds ≡ None → held_from [] before ds ≡ None
+held_alone pairs before [] e = refl
+held_alone pairs before (d ∷ ds) e =
+    ap (λ (o : Option Failure). or_else o (held_from [] (before ++ d ∷ []) ds))
+    (alone_by d d.result.admin (holder_of pairs d.result.device) (taker_of before d.result.device) (first_none (held_behind pairs before d) (held_from pairs (before ++ d ∷ []) ds) e))
+    ∙ held_alone pairs (before ++ d ∷ []) ds (later_none (held_behind pairs before d) (held_from pairs (before ++ d ∷ []) ds) e)
+
+-- of the results alone
+pub free_alone : (pairs : List (DeviceId × Key)) (ds : List Due) → held pairs ds ≡ None → held [] ds ≡ None
+free_alone pairs ds e = held_alone pairs [] ds e
+
+results_sum : (i : Inventory) (v w : SearchInput) (c : CounterId) (ds : List DueFields) (pairs : List (DeviceId × Key)) → w.devices ≡ v.devices → AreListed v.devices (usable_slices i) → IdsDiffer i → Each (IsDue v) ds → held pairs (map (due_seen v) ds) ≡ None
+    → drawn (usable_slices i) (pairs_of (map (due_seen v) ds)) c ≡ sum_by (λ p. amount c (draws w p)) (map (pick_of w) (map (due_seen v) ds))
+results_sum i v w c ds pairs same listed ids each free =
+    let whole : drawn (usable_slices i) (pairs_of (map (due_seen v) ds)) c ≡ drawn (usable_slices i) [] c + sum_by (λ p. amount c (draws w p)) (map (pick_of w) (map (due_seen v) ds)) =
+    due_sum i w [] c [] (map (due_seen v) ds) (drawing_at i v w c ds same listed ids each) (held_alone pairs [] (map (due_seen v) ds) free) in
+    let none : drawn (usable_slices i) [] c ≡ 0 = drawn_none i c in
+    omega (arith, whole, none)
 
 pub has_drawn : (s : State) (node : List ℕ) (r : RowsFields) (totals : Tabled (Tabled (Tabled ℕ))) (ds : List DueFields) → AreRowsOf s node r → Each (IsDue (rows.input_of r)) ds
-    → held (cluster.held s) (map (due_seen (rows.input_of r)) ds) ≡ None → AreTotalsWith s totals (map (due_seen (rows.input_of r)) ds)
+    → held (cluster.held s) (map (due_seen (rows.input_of r)) ds) ≡ None
+    → HaveDrawn totals r.devices (usable_slices s.inventory) (cluster.held s) (pairs_of (map (due_seen (rows.input_of r)) ds))
     → AreOne (usable_slices s.inventory) → AreListed (node_devices s.inventory node) (usable_slices s.inventory) → IdsDiffer s.inventory
     → HasDrawn (rows.input_of r) (input_of s r.wants.claims node) totals (map (pick_of (input_of s r.wants.claims node)) (map (due_seen (rows.input_of r)) ds))
 unfolding input_of total
@@ -225,36 +237,28 @@ has_drawn s node r totals ds are each free t one listed ids =
       counters = λ j o at. record {
         values = λ d h. value_is (usable_slices s.inventory) o.slice d.counter (listed.in_slices j o at) (own_counter o d h) one;
       };
-      drawn = λ c.
-          t.drawn_is c
-          ∙ due_sum s.inventory w (cluster.held s) c [] (map (due_seen v) ds) (drawing_at s.inventory v w c ds same (subst (λ l. AreListed l (usable_slices s.inventory)) (sym are.devices) listed) ids each) free
-          ∙ ap (λ (l : List (DeviceId × Key)). drawn (usable_slices s.inventory) l c + sum_by (λ p. amount c (draws w p)) (map (pick_of w) (map (due_seen v) ds))) (append-nil (cluster.held s));
-      most = t.most;
+      drawn = λ j o d at own.
+          t.drawn_is j o d (ap (λ (l : List Offered). slice_get l j) are.devices ∙ at) own
+          ∙ ap (λ (n : ℕ). drawn (usable_slices s.inventory) (cluster.held s) d.counter + n)
+          (results_sum s.inventory v w d.counter ds (cluster.held s) same (subst (λ l. AreListed l (usable_slices s.inventory)) (sym are.devices) listed) ids each free);
+      most = λ j o d at own. t.most j o d (ap (λ (l : List Offered). slice_get l j) are.devices ∙ at) own;
     }
 
 -- ---- as the code has them
 
-pub are_held : (s : State) (h : Holders) (claims : List (Key × ClaimState)) → claims ≡ s.claims → AreHeld h (holding.pairs_of claims) → AreHeld h (cluster.held s)
-unfolding cluster.held
-are_held s h claims e a = subst (λ (l : List (Key × ClaimState)). AreHeld h (holding.pairs_of l)) e a
-
-pub totals_are : (s : State) (i : Inventory) (t : Tabled (Tabled (Tabled ℕ))) (h : Holders) (pairs : List (DeviceId × Key)) → i ≡ s.inventory → AreHeld h pairs
-    → ((pairs : List (DeviceId × Key)) → AreHeld h pairs → (c : CounterId) → drawn_in t c ≡ drawn (usable_slices i) pairs c) → (c : CounterId) → drawn_in t c ≡ drawn (usable_slices s.inventory) pairs c
-totals_are s i t h pairs e a f c = f pairs a c ∙ ap (λ (j : Inventory). drawn (usable_slices j) pairs c) e
-
-pub kept_are : (s : State) (i : Inventory) (node : List ℕ) (r : RowsFields) (totals : Tabled (Tabled (Tabled ℕ))) → i ≡ s.inventory → AreRowsOf s node r → KeepsDraws totals (usable_slices s.inventory) → AreListed (node_devices i node) (usable_slices i)
-    → AreKept (rows.input_of r) totals
-kept_are s i node r totals e are kept listed = are_kept s node r totals are kept (subst (λ (j : Inventory). AreListed (node_devices j node) (usable_slices j)) e listed)
-
 pub drawn_are : (s : State) (i j : Inventory) (node : List ℕ) (r : RowsFields) (totals : Tabled (Tabled (Tabled ℕ))) (ds : List DueFields) → i ≡ s.inventory → j ≡ s.inventory → AreRowsOf s node r → Each (IsDue (rows.input_of r)) ds
     → held (cluster.held s) (map (due_seen (rows.input_of r)) ds) ≡ None
-    → ((w : SearchInput) → held (cluster.held s) (map (due_seen w) ds) ≡ None → (c : CounterId) → drawn_in totals c ≡ drawn (usable_slices s.inventory) (cluster.held s ++ pairs_of (map (due_seen w) ds)) c)
-    → KeepsDraws totals (usable_slices s.inventory) → ((c : CounterId) → drawn_in totals c ≤ sum_most)
+    → HaveDrawn totals r.devices (usable_slices s.inventory) (cluster.held s) (pairs_of (map (due_seen (rows.input_of r)) ds))
     → AreOne (usable_slices i) → AreListed (node_devices j node) (usable_slices j) → IdsDiffer s.inventory
     → HasDrawn (rows.input_of r) (input_of s r.wants.claims node) totals (map (pick_of (input_of s r.wants.claims node)) (map (due_seen (rows.input_of r)) ds))
-drawn_are s i j node r totals ds e f are each free drawn kept most one listed ids =
-    has_drawn s node r totals ds are each free (record { drawn_is = drawn (rows.input_of r) free; kept = kept; most = most })
-    (subst (λ (k : Inventory). AreOne (usable_slices k)) e one) (subst (λ (k : Inventory). AreListed (node_devices k node) (usable_slices k)) f listed) ids
+drawn_are s i j node r totals ds e f are each free t one listed ids =
+    has_drawn s node r totals ds are each free t (subst (λ (k : Inventory). AreOne (usable_slices k)) e one) (subst (λ (k : Inventory). AreListed (node_devices k node) (usable_slices k)) f listed) ids
+
+pub totals_are : (s : State) (i : Inventory) (t : Tabled (Tabled (Tabled ℕ))) (os qs : List Offered) (pairs others : List (DeviceId × Key)) → i ≡ s.inventory → os ≡ qs → HaveDrawn t os (usable_slices i) pairs others → HaveDrawn t qs (usable_slices s.inventory) pairs others
+totals_are s i t os qs pairs others e f h = subst (λ (j : Inventory). HaveDrawn t qs (usable_slices j) pairs others) e (subst (λ (l : List Offered). HaveDrawn t l (usable_slices i) pairs others) f h)
+
+pub kept_are : (r : RowsFields) (t : Tabled (Tabled (Tabled ℕ))) (os : List Offered) → os ≡ r.devices → Each (λ (o : Offered). (c : CounterId) → keeps t c ≡ false → drawn_from c o ≡ 0) os → AreKept (rows.input_of r) t
+kept_are r t os e h = subst (λ (l : List Offered). Each (λ (o : Offered). (c : CounterId) → keeps t c ≡ false → drawn_from c o ≡ 0) l) e h
 
 -- ---- none draws on a counter
 

@@ -1,5 +1,5 @@
 -- Results by rows.
-use Rattle.std.specs.Prelude.{ℕ, ◌+◌, ◌<◌, ◌≤◌, ◌≡◌, List, [], ◌∷◌, ◌++◌, Bool, false, not, slice_get, nat_eq, ◌&&◌, ◌==◌, Option, None, Some, map, length, drop, take, if◌then◌else◌}
+use Rattle.std.specs.Prelude.{ℕ, ◌+◌, ◌<◌, ◌≤◌, ◌≡◌, List, [], ◌∷◌, ◌++◌, Bool, false, not, slice_get, nat_eq, ◌&&◌, ◌==◌, Option, None, Some, Contains, map, length, drop, take, if◌then◌else◌}
 use Rattle.object_fields.specs.declared.key.DeviceId.{DeviceId}
 use Rattle.object_fields.specs.declared.key.Key.{Key}
 use Rattle.std.specs.Cmp.Lexicographic.{pointwise}
@@ -12,7 +12,7 @@ use Rattle.pool_view.specs.Views.{ViewFields}
 use Rattle.request_rows.specs.Wanted.{RowsFields}
 use Rattle.cluster.specs.declared.state.State.{State}
 use Rattle.cluster.specs.declared.plan.DeviceResult.{DeviceResult}
-use Rattle.counter_sets.specs.Draws.{CounterId, drawn_from}
+use Rattle.counter_sets.specs.Draws.{CounterId, Draw, drawn_from, draws_of}
 use Rattle.counter_sets.specs.Totals.{Tabled, drawn_in, keeps, sum_most}
 use Rattle.constraints.specs.Agreeing as agreeing
 use Rattle.request_rules.specs.Joining.{HasItsCounters, seen_some}
@@ -138,8 +138,8 @@ AreKept w totals = Each (λ o. (c : CounterId) → keeps totals c ≡ false → 
 pub record HasDrawn (v w : SearchInput) (totals : Tabled (Tabled (Tabled ℕ))) (ps : List Pick) : Type 0 where
   pub devices : w.devices ≡ v.devices
   pub counters : Each (HasItsCounters w) w.devices
-  pub drawn : (c : CounterId) → drawn_in totals c ≡ total w c ps
-  pub most : (c : CounterId) → drawn_in totals c ≤ sum_most
+  pub drawn : (i : ℕ) (o : Offered) (d : Draw) → slice_get w.devices i ≡ Some o → Contains (draws_of o) d → drawn_in totals d.counter ≡ total w d.counter ps
+  pub most : (i : ℕ) (o : Offered) (d : Draw) → slice_get w.devices i ≡ Some o → Contains (draws_of o) d → drawn_in totals d.counter ≤ sum_most
 
 -- the device lists counters from which it draws
 abbrev pub draws_by : Option Offered → Bool

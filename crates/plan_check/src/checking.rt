@@ -1,20 +1,15 @@
-ghost use Rattle.std.specs.Prelude.{◌≡◌, ◌++◌, ℕ, List, None, IfOk, IsSome, map, find};
-ghost use Rattle.std.specs.Prelude.{◌≤◌};
-ghost use Rattle.counter_sets.specs.Draws.{CounterId, drawn};
+ghost use Rattle.std.specs.Prelude.{◌≡◌, None, IfOk, IsSome, map, find};
 ghost use Rattle.counter_sets.specs.Holding.{AreHeld};
-ghost use Rattle.counter_sets.specs.Totals.{drawn_in, sum_most};
-ghost use Rattle.allocations.specs.Claims.{wanted};
 ghost use Rattle.allocations.specs.Input.{input_of};
 ghost use Rattle.cluster.specs.Held.{held};
-ghost use Rattle.pool_view.specs.Names.{at_key, at_name};
-ghost use Rattle.pool_view.specs.Usable.{has_broken, node_devices, usable_slices};
-ghost use Rattle.request_rules.specs.Input.{SearchInput};
+ghost use Rattle.pool_view.specs.Names.{at_key};
+ghost use Rattle.pool_view.specs.Usable.{usable_slices};
 ghost use Rattle.request_rules.specs.Lists.{Each};
-ghost use Rattle.node_search.specs.Counting.{KeepsDraws};
+ghost use Rattle.node_search.specs.NodeTotals.{HaveDrawn};
 ghost use Rattle.request_rows.specs.Wanted as wanting;
 ghost use Rattle.plan_check.specs.Failing as spec;
 ghost use Rattle.plan_check.specs.Chosen.{pick_of};
-ghost use Rattle.plan_check.specs.Rows.{AreByClaim, AreRowsOf, IsDue, IsViewOf, due_seen, pairs_of};
+ghost use Rattle.plan_check.specs.Rows.{AreByClaim, AreKept, AreRowsOf, IsDue, IsViewOf, due_seen, pairs_of};
 ghost use Rattle.plan_check.specs.Standing as standing;
 
 use crate::agreeing::constraint_broken;
@@ -29,35 +24,46 @@ use api_claim::ClaimStatus;
 use cluster::{DeviceResult, Failure, Grant, Plan, PodState, State};
 use counter_sets::{Held, Totals};
 use dra_values::{Seq, Text};
-use node_search::{devices_differ, holders_of, slices_differ, totals_of, wanted_claims};
+use node_search::{devices_differ, slices_differ, totals_at_node, wanted_claims};
 use object_fields::Key;
 use pool_view::{PoolView, usable_slices_differ};
 use ready_objects::ReadyClaim;
 use request_rows::{Rows, WantedClaim, Wants};
 use std::alloc::{AllocError, Global};
 
-/// The counters of the usable slices, with what the devices draw that claims hold, and those of the
-/// results, which nobody holds.
-fn totals_with(alloc: Global, state: &State, dues: &[Due]) -> Result<Totals, AllocError>
-    ensures drawn { (w : SearchInput) → standing.held (held state.now) (map (due_seen w) dues.now) ≡ None →
-        IfOk result (λ totals. (c : CounterId) → drawn_in totals c ≡ drawn (usable_slices state.now.inventory) (held state.now ++ pairs_of (map (due_seen w) dues.now)) c) }
-    ensures kept { IfOk result (λ totals. KeepsDraws totals (usable_slices state.now.inventory)) }
-    ensures most { IfOk result (λ totals. (c : CounterId) → drawn_in totals c ≤ sum_most) }
+/// The counters of the slices that the node's devices are of, with what is drawn by the devices of these
+/// slices that claims hold, and by those of the results, which nobody holds.
+fn totals_with<'a>(
+    alloc: Global,
+    state: &State,
+    holders: &Held,
+    rows: &'a Rows<'a>,
+    node: &Text,
+    dues: &[Due],
+) -> Result<Totals, AllocError>
+    requires holders { AreHeld holders.now (held state.now) }
+    requires rows { AreRowsOf state.now node.now rows.now }
+    requires free { standing.held (held state.now) (map (due_seen (wanting.input_of rows.now)) dues.now) ≡ None }
+    ensures kept { IfOk result (λ totals. AreKept (wanting.input_of rows.now) totals) }
+    ensures drawn { IfOk result (λ totals. HaveDrawn totals rows.now.devices (usable_slices state.now.inventory) (held state.now) (pairs_of (map (due_seen (wanting.input_of rows.now)) dues.now))) }
 {
-    let mut holders = holders_of(alloc, &state.claims)?;
-    put_all(alloc, &mut holders, dues)?;
-    totals_of(alloc, &state.inventory, &holders)
+    let mut own = Held::new(alloc);
+    put_all(alloc, &mut own, dues)?;
+    let devices = rows.devices();
+    totals_at_node(alloc, &state.inventory, node, devices, holders, &own)
 }
 
 /// The first counter that doesn't have enough for the results, whose devices nobody holds. If one of them
-/// draws on a counter, it takes a pass over all devices that claims hold.
+/// draws on a counter, it takes a pass over the devices of the slices that the node's devices are of.
 fn failing_counters<'a>(
     alloc: Global,
     state: &State,
+    holders: &Held,
     rows: &'a Rows<'a>,
     node: &Text,
     dues: &[Due],
 ) -> Result<Option<Failure>, AllocError>
+    requires holders { AreHeld holders.now (held state.now) }
     requires rows { AreRowsOf state.now node.now rows.now }
     requires dues { Each (IsDue (wanting.input_of rows.now)) dues.now }
     requires free { standing.held (held state.now) (map (due_seen (wanting.input_of rows.now)) dues.now) ≡ None }
@@ -70,7 +76,7 @@ fn failing_counters<'a>(
     usable_slices_differ();
     slices_differ(&state.inventory);
     devices_differ(&state.inventory, node);
-    let mut totals = totals_with(alloc, state, dues)?;
+    let mut totals = totals_with(alloc, state, holders, rows, node, dues)?;
     counter_short(alloc, rows, &mut totals, dues)
 }
 
@@ -95,7 +101,7 @@ fn failing_held<'a>(
     if let Some(found) = held(alloc, holders, dues)? {
         return Ok(Some(found));
     }
-    if let Some(found) = failing_counters(alloc, state, rows, node, dues)? {
+    if let Some(found) = failing_counters(alloc, state, holders, rows, node, dues)? {
         return Ok(Some(found));
     }
     constraint_broken(alloc, rows, claims, dues)
@@ -241,8 +247,8 @@ fn failing_for(
 /// a device that doesn't meet its request, or on which a selector has an evaluation error; a device that is held;
 /// a counter without enough; or a constraint that the results don't keep, in this order. A pod that
 /// doesn't exist is changed. It takes one pass over the devices of the node and the results, and one over
-/// the devices that claims hold only if a result draws on a counter. `AllocError` only if memory runs
-/// out.
+/// the devices of the slices that the node's devices are of only if a result draws on a counter.
+/// `AllocError` only if memory runs out.
 pub fn check(
     alloc: Global,
     state: &State,

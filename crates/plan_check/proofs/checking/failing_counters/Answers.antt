@@ -5,18 +5,15 @@ use Rattle.plan_check.specs.Rows.{due_seen}
 use Rattle.plan_check.specs.Standing.{counter_short}
 use Rattle.plan_check.proofs.Alike.{picks_same}
 use Rattle.plan_check.proofs.Lists.{if_ok}
-use Rattle.plan_check.proofs.Totalled.{drawn_are, kept_are, none_drawn}
+use Rattle.plan_check.proofs.Totalled.{drawn_are, none_drawn}
 use Rattle.plan_check.proofs.checking.failing_counters.Goals as goal
 
 pub returns-then-not-draws_any : goal.returns-then-not-draws_any
 returns-then-not-draws_any c = none_drawn c.args.state.now c.args.node.now c.args.rows.now c.args.dues.now c.requires.rows c.requires.dues (search rules)
 
-pub counter_short-requires-clause-kept : goal.counter_short-requires-clause-kept
-counter_short-requires-clause-kept c = kept_are c.args.state.now _ c.args.node.now c.args.rows.now c.in_ok-totals.totals c.deref-2.ensures c.requires.rows c.in_ok-totals.ensures.kept c.devices_differ.ensures.listed
-
 pub returns : goal.returns
 returns c =
     if_ok _ _ c.counter_short.result (λ found e. e ∙ ap (counter_short (states.input_of c.args.state.now c.args.rows.now.wants.claims c.args.node.now)) (sym (picks_same c.args.state.now c.args.node.now c.args.rows.now (map (due_seen (input_of c.args.rows.now)) c.args.dues.now) c.requires.rows)))
     (c.counter_short.ensures (states.input_of c.args.state.now c.args.rows.now.wants.claims c.args.node.now)
-    (drawn_are c.args.state.now _ _ c.args.node.now c.args.rows.now c.in_ok-totals.totals c.args.dues.now c.deref.ensures c.deref-2.ensures c.requires.rows c.requires.dues c.requires.free c.in_ok-totals.ensures.drawn c.in_ok-totals.ensures.kept c.in_ok-totals.ensures.most
+    (drawn_are c.args.state.now _ _ c.args.node.now c.args.rows.now c.in_ok-totals.totals c.args.dues.now c.deref.ensures c.deref-2.ensures c.requires.rows c.requires.dues c.requires.free c.in_ok-totals.ensures.drawn
     c.slices_differ.ensures.one c.devices_differ.ensures.listed (c.usable_slices_differ.ensures.ids c.args.state.now.inventory)))
