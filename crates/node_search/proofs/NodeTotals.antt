@@ -1,5 +1,5 @@
 -- What is drawn from the counters of a node's devices by two lists of held devices, and from all usable slices.
-use Rattle.std.proofs.Common.{ℕ, ◌+◌, ◌<◌, ◌≤◌, ◌≡◌, ◌≢◌, ◌∙◌, List, Bool, true, false, cond, Option, Some, length, get_or, refl, sym, ap, ap₂, subst, arith}
+use Rattle.std.proofs.Common.{ℕ, ◌+◌, ◌<◌, ◌≤◌, ◌≡◌, ◌≢◌, ◌∙◌, List, Bool, true, false, cond, Some, length, get_or, refl, sym, ap, ap₂, subst, arith}
 use Rattle.std.specs.List.{Contains, slice_get}
 use Rattle.std.specs.Option.{is_some}
 use Rattle.std.specs.Cmp.Lexicographic.{same_text}
@@ -10,7 +10,7 @@ use Rattle.api_slice.specs.Limits.{IsWithinLimits}
 use Rattle.api_slice.specs.declared.types.ResourceSlice.{ResourceSlice}
 use Rattle.pool_view.specs.Names.{text_eq}
 use Rattle.pool_view.specs.Pools.{Offered, id_in}
-use Rattle.counter_sets.specs.Draws.{CounterId, Draw, counter_value, draws_of, drawn, drawn_by, drawn_from}
+use Rattle.counter_sets.specs.Draws.{CounterId, Draw, counter_value, draws_of, drawn, drawn_by}
 use Rattle.counter_sets.specs.Holding.{AreHeld, Holders, holder_in, offered_held}
 use Rattle.counter_sets.specs.Totals.{Tabled, drawn_in, keeps, sum_most}
 use Rattle.allocator.specs.Input.{AreApart, AreKept}

@@ -1,4 +1,3 @@
-use Rattle.std.proofs.Common.{◌∙◌, length}
 use Rattle.std.proofs.lemmas.Result.{IfOk-weaker}
 use Rattle.pool_view.specs.Usable.{node_devices, usable_slices}
 use Rattle.node_search.specs.NodeTotals.{drawn_by_both}
