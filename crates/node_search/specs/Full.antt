@@ -1,5 +1,5 @@
 -- Claims that ask plainly for devices, and a node that has none left for them.
-use Rattle.std.specs.Prelude.{ℕ, ◌==◌, List, [], ◌∷◌, Bool, true, false, not, ◌&&◌, is_some}
+use Rattle.std.specs.Prelude.{◌==◌, List, [], ◌∷◌, Bool, true, false, not, ◌&&◌, is_some}
 use Rattle.std.specs.List.{list_any, list_all}
 use Rattle.api_claim.specs.declared.types.AllocationMode.{AllocationMode}
 use Rattle.api_claim.specs.declared.types.AllocationMode.TheVariants.{ExactCount, All}
