@@ -2,7 +2,7 @@ use ledger_core::LedgerError;
 use std::alloc::AllocError;
 
 /// Why a line wasn't done.
-#[derive(Clone, Copy, Debug, PartialEq, Eq, Drop)]
+#[derive(Clone, Copy, Drop)]
 pub enum CaseError {
     /// It isn't of a form that the program knows.
     BadCase,

@@ -12,20 +12,30 @@ mod setup;
 mod spelling;
 
 use setup::Setup;
-use std::io;
+use std::alloc::{AllocError, Global};
+use std::io::{self, Read, Write};
+use std::str;
 
-/// Does what a line asks for, and prints its line, if it has one.
-fn do_line(rt: &HostRuntime, setup: &mut Setup, line: &str) -> io::Result<()> {
-    match case::answer(rt.alloc(), setup, line)? {
-        Some(answer) => rt.println(answer),
-        None => Ok(()),
+/// Does what each line of a text asks for, and adds to `out` what is printed of it.
+fn do_lines(alloc: Global, text: &str, out: &mut String) -> Result<(), AllocError> {
+    let mut setup = Setup::new(alloc)?;
+    for line in text.lines() {
+        if let Some(answer) = case::answer(alloc, &mut setup, line)? {
+            out.push_str(answer.as_str())?;
+            out.push('\n')?;
+        }
     }
+    Ok(())
 }
 
 fn main(rt: HostRuntime) -> io::Result<()> {
-    let mut setup = Setup::new(rt.alloc())?;
-    for line in rt.lines(rt.alloc()) {
-        do_line(&rt, &mut setup, line?.as_str())?;
+    let alloc = rt.alloc();
+    let mut bytes = Vec::new(alloc);
+    rt.stdin().read_to_end(&mut bytes)?;
+    let mut out = String::new(alloc);
+    match str::from_utf8(&bytes) {
+        Ok(text) => do_lines(alloc, text, &mut out)?,
+        Err(_) => out.push_str("no text\n")?,
     }
-    Ok(())
+    rt.stdout().write_all(out.as_bytes())
 }
