@@ -1,3 +1,4 @@
 pub mod Documents
 pub mod Objects
 pub mod Commands
+pub mod Readings

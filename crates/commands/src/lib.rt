@@ -4,6 +4,10 @@
 mod command;
 mod document;
 mod fields;
+mod given;
 mod objects;
+mod read;
 
-pub use command::{Command, read_commands};
+pub use command::Command;
+pub use given::{Given, GivenError};
+pub use read::commands;

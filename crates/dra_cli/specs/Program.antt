@@ -15,9 +15,9 @@ pub record AsksFor (words : List (List ℕ)) (P : ReplayOptions → Type 0) : Ty
 abbrev pub exit_number : Status → ℕ
 exit_number status.Done = 0
 exit_number status.Usage = 2
-exit_number (status.Document at) = 3
+exit_number (status.Document at why) = 3
 exit_number status.Memory = 4
 exit_number status.Read = 5
 exit_number status.Write = 6
 exit_number (status.Limit count) = 8
-exit_number (status.NotYet at) = 11
+exit_number (status.NotYet at form) = 11

@@ -4,7 +4,10 @@ use Rattle.std.specs.Option.{option_and_then}
 use Rattle.std.specs.List.{list_all}
 use Rattle.std.specs.Char.{is_ascii_digit}
 use Rattle.std.specs.Str.Parse.{digits_value}
+use Rattle.object_fields.specs.Qualified.{cut_at}
 use Rattle.dra_cli.specs.declared.words.Given.{Given}
+use Rattle.dra_cli.specs.declared.words.Name.{Name}
+use Rattle.dra_cli.specs.declared.words.Name.TheVariants.{Budget, Attempts, Entries}
 use Rattle.replay_core.specs.declared.options.ReplayOptions.{ReplayOptions}
 
 abbrev pub are_digits : List ℕ → Bool
@@ -27,16 +30,44 @@ abbrev pub once : Option ℕ → ℕ → List ℕ → Option ℕ
 once None most word = number_in most word
 once (Some n) most word = None
 
--- these options, with one more
-abbrev pub with_option : Given → List ℕ → List ℕ → Option Given
-with_option g name value =
-    if bytes_eq name (codes "--budget") then option_map (λ n. record g { budget = Some n }) (once g.budget 10000000 value)
-    else if bytes_eq name (codes "--attempts") then option_map (λ n. record g { attempts = Some n }) (once g.attempts 64 value)
-    else if bytes_eq name (codes "--entries") then option_map (λ n. record g { entries = Some n }) (once g.entries 1000000 value)
+-- the option of that name
+abbrev pub name_of : List ℕ → Option Name
+name_of word =
+    if bytes_eq word (codes "--budget") then Some Budget
+    else if bytes_eq word (codes "--attempts") then Some Attempts
+    else if bytes_eq word (codes "--entries") then Some Entries
     else None
 
+-- these options, with this value of one more
+abbrev pub with_value : Given → Name → List ℕ → Option Given
+with_value g Budget value = option_map (λ n. record g { budget = Some n; awaited = None }) (once g.budget 10000000 value)
+with_value g Attempts value = option_map (λ n. record g { attempts = Some n; awaited = None }) (once g.attempts 64 value)
+with_value g Entries value = option_map (λ n. record g { entries = Some n; awaited = None }) (once g.entries 1000000 value)
+
+-- an argument that names an option, cut at its first `=`: what follows that is the value, or else the next
+-- argument is
+abbrev pub with_cut : Given → List ℕ → Option (List ℕ × List ℕ) → Option Given
+with_cut g word None = option_map (λ name. record g { awaited = Some name }) (name_of word)
+with_cut g word (Some parts) = option_and_then (λ name. with_value g name parts.1) (name_of parts.0)
+
+abbrev pub with_named : Given → List ℕ → Option Given
+with_named g word = with_cut g word (cut_at 61 word)
+
+-- one more argument, where this option awaits its value
+abbrev pub with_next : Option Name → Given → List ℕ → Option Given
+with_next None g word = with_named g word
+with_next (Some name) g word = with_value g name word
+
+abbrev pub with_word : Given → List ℕ → Option Given
+with_word g word = with_next g.awaited g word
+
+-- no option awaits its value
+abbrev pub complete : Option Name → Given → Option Given
+complete None g = Some g
+complete (Some name) g = None
+
 abbrev pub no_options : Given
-no_options = record { budget = None; attempts = None; entries = None }
+no_options = record { budget = None; attempts = None; entries = None; awaited = None }
 
 -- each number that is given is in its range
 pub record IsFit (g : Given) : Type 0 where
@@ -53,11 +84,10 @@ pub record AreFit (o : ReplayOptions) : Type 0 where
   pub least_entries : 1 ≤ o.entries
   pub most_entries : o.entries ≤ 1000000
 
--- these options, with those that arguments set: each a name and its value
+-- these options, with those that arguments set
 abbrev pub options_from : Given → List (List ℕ) → Option Given
-options_from g [] = Some g
-options_from g (name ∷ []) = None
-options_from g (name ∷ value ∷ words) = option_and_then (λ h. options_from h words) (with_option g name value)
+options_from g [] = complete g.awaited g
+options_from g (word ∷ words) = option_and_then (λ h. options_from h words) (with_word g word)
 
 -- an option that isn't given has its default
 abbrev pub with_defaults : Given → ReplayOptions

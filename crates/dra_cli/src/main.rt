@@ -2,18 +2,24 @@
 //! of the Kubernetes API's objects and prints the journal of what was decided.
 #![tactic(auto)]
 
-mod fault;
+mod denials;
+mod message;
+mod position;
 mod program;
 mod stdio;
+mod tail;
 mod words;
 
-use fault::Fault;
+use denials::{Denials, WatchedSink};
+use dra_ports::{Sink, Source};
+use message::Message;
 use program::{exit_number, run};
 use replay_core::Status;
-use std::env;
 use std::io::{self, ErrorKind};
 use std::process::ExitCode;
+use std::{env, str};
 use stdio::{StdSink, StdSource};
+use tail::TailSource;
 
 /// The arguments of this call after the program's name.
 fn words_of_call(rt: &HostRuntime) -> io::Result<Vec<String>> {
@@ -24,15 +30,10 @@ fn words_of_call(rt: &HostRuntime) -> io::Result<Vec<String>> {
     Ok(words)
 }
 
-/// Does what the arguments of this call ask for, over the standard input and output.
-fn run_here(rt: &HostRuntime) -> Status {
+/// Does what the arguments of this call ask for, over an input and an output.
+fn run_here<S: Source, K: Sink>(rt: &HostRuntime, input: &mut S, output: &mut K) -> Status {
     match words_of_call(rt) {
-        Ok(words) => run(
-            rt,
-            &words,
-            &mut StdSource::new(rt.stdin()),
-            &mut StdSink::new(rt.stdout()),
-        ),
+        Ok(words) => run(rt, &words, input, output),
         Err(error) => {
             if error.kind() == ErrorKind::OutOfMemory {
                 Status::Memory
@@ -43,11 +44,27 @@ fn run_here(rt: &HostRuntime) -> Status {
     }
 }
 
+/// Says on the standard error how many commands were denied, and the first of them, if there are any.
+/// If the standard error fails, nothing is said.
+fn report(rt: &HostRuntime, denials: &Denials) {
+    let first = str::from_utf8(denials.first()).unwrap_or("");
+    let count = denials.count();
+    if count == 1 {
+        let _ = eprintln!(rt; "dra: 1 command was denied: {first}");
+    }
+    if count > 1 {
+        let _ = eprintln!(rt; "dra: {count} commands were denied, the first of them: {first}");
+    }
+}
+
 fn main(rt: HostRuntime) -> ExitCode {
-    let status = run_here(&rt);
+    let mut input = TailSource::new(StdSource::new(rt.stdin()), rt.alloc());
+    let mut output = WatchedSink::new(StdSink::new(rt.stdout()), rt.alloc());
+    let status = run_here(&rt, &mut input, &mut output);
+    report(&rt, output.denials());
     if status != Status::Done {
         // If the standard error fails, only the exit status reports the result.
-        let _ = eprintln!(rt; "dra: {}", Fault(status));
+        let _ = eprintln!(rt; "dra: {}", Message::new(status, input.tail()));
     }
     ExitCode::from(exit_number(status))
 }

@@ -1,6 +1,8 @@
 ghost use Rattle.std.specs.Prelude.{◌≡◌, ◌↔◌, ◌⊎◌, ℕ, None, map, string_bytes};
 ghost use Rattle.std.specs.Io.KnownBytes.{IsAtEnd};
 ghost use Rattle.dra_ports.specs.Causes.{Rose};
+ghost use Rattle.replay_core.specs.declared.form.Form.{Form};
+ghost use Rattle.replay_core.specs.declared.status.Rejection.{Rejection};
 ghost use Rattle.replay_core.specs.Replay.{EndsAt, EndsFull, EndsNotYet, EndsRead, EndsShort};
 ghost use Rattle.replay_core.specs.Script.{Bad, Long, most_input};
 ghost use Rattle.dra_cli.specs.Headline.{Replayed};
@@ -24,9 +26,10 @@ use replay_core::{Status, replay, runs_search_within};
 /// if that object's count of errors rose in this call, or is at its maximum. With every status
 /// but `Read` the input's count of errors stays, and with every one but `Write` the output's.
 ///
-/// If the input exposes its contents: `Document` is returned only if what is there isn't a command,
-/// `Limit` only if a history of as many entries as the option says is to have one more or the input
-/// has more than 2^30 bytes, and `NotYet` only if a command has a form that isn't supported yet.
+/// If the input exposes its contents: `Document` is returned only if what is at its offset isn't a command,
+/// for the reason that it names, `Limit` only if a history of as many entries as the option says is to have
+/// one more or the input has more than 2^30 bytes, and `NotYet` only if the document at its offset has the
+/// form that it names, which isn't supported yet.
 ///
 /// If the output exposes what was written (which statuses print what is this project's own): with
 /// `Done` it is the whole text of the history, the summary at its end; with `Document`, `Read` and
@@ -47,7 +50,7 @@ pub fn run<R: AllocGlobal, S: Source, K: Sink>(
     ensures usage_output { result ≡ Status.Usage → output.new ≡ output.old }
     ensures done { result ≡ Status.Done → AsksFor (map string_bytes words.now.items) (λ o. Replayed o (S.left input.old) (K.written output.old) (K.written output.new)) }
     ensures all_read { result ≡ Status.Done → IsAtEnd (S.left input.new) }
-    ensures document { (at : ℕ) → result ≡ Status.Document at → AsksFor (map string_bytes words.now.items) (λ o. EndsAt o (Bad at) (S.left input.old) (K.written output.old) (K.written output.new)) }
+    ensures document { (at : ℕ) (why : Rejection) → result ≡ Status.Document at why → AsksFor (map string_bytes words.now.items) (λ o. EndsAt o (Bad at why) (S.left input.old) (K.written output.old) (K.written output.new)) }
     ensures memory { result ≡ Status.Memory → AsksFor (map string_bytes words.now.items) (λ o. EndsShort o (S.left input.old) (K.written output.old) (K.written output.new)) }
     ensures read { result ≡ Status.Read → Rose (S.faults input.old) (S.faults input.new) }
     ensures read_prints { result ≡ Status.Read → AsksFor (map string_bytes words.now.items) (λ o. EndsRead o (S.left input.old) (S.left input.new) (K.written output.old) (K.written output.new)) }
@@ -56,7 +59,7 @@ pub fn run<R: AllocGlobal, S: Source, K: Sink>(
     ensures write_prints { result ≡ Status.Write → AsksFor (map string_bytes words.now.items) (λ o. EndsShort o (S.left input.old) (K.written output.old) (K.written output.new)) }
     ensures faultless_output { (result ≡ Status.Write → ⊥) → K.faults output.new ≡ K.faults output.old }
     ensures limit { (count : ℕ) → result ≡ Status.Limit count → AsksFor (map string_bytes words.now.items) (λ o. EndsFull o count (S.left input.old) (K.written output.old) (K.written output.new) ⊎ ((count ≡ most_input) × EndsAt o Long (S.left input.old) (K.written output.old) (K.written output.new))) }
-    ensures not_yet { (at : ℕ) → result ≡ Status.NotYet at → AsksFor (map string_bytes words.now.items) (λ o. EndsNotYet o at (S.left input.old) (K.written output.old) (K.written output.new)) }
+    ensures not_yet { (at : ℕ) (form : Form) → result ≡ Status.NotYet at form → AsksFor (map string_bytes words.now.items) (λ o. EndsNotYet o at form (S.left input.old) (K.written output.old) (K.written output.new)) }
 {
     grants_are_allocations();
     verdicts_are_true();
@@ -81,11 +84,11 @@ pub fn exit_number(status: Status) -> u8
     match status {
         Status::Done => 0,
         Status::Usage => 2,
-        Status::Document(_) => 3,
+        Status::Document(_, _) => 3,
         Status::Memory => 4,
         Status::Read => 5,
         Status::Write => 6,
         Status::Limit(_) => 8,
-        Status::NotYet(_) => 11,
+        Status::NotYet(_, _) => 11,
     }
 }

@@ -1,15 +1,24 @@
 ghost use Rattle.std.specs.Prelude.{◌≡◌, ◌≤◌, ℕ, None, IfSome, map, string_bytes};
 ghost use Rattle.replay_core.specs.declared.options.ReplayOptions.{ReplayOptions};
-ghost use Rattle.dra_cli.specs.Words.{AreFit, IsFit, are_digits, in_range, is_number, no_options, number_in, once, options_from, options_of, with_defaults, with_option};
+ghost use Rattle.dra_cli.specs.Words.{AreFit, IsFit, are_digits, in_range, is_number, name_of, no_options, number_in, once, options_from, options_of, with_defaults, with_named, with_value, with_word};
 
 use replay_core::ReplayOptions;
 
-/// The options that arguments set, each at most once.
+/// An option of `replay`.
+#[derive(Clone, Copy, Drop)]
+pub enum Name {
+    Budget,
+    Attempts,
+    Entries,
+}
+
+/// The options that arguments set, each at most once, and the one whose value is the next argument.
 #[derive(Clone, Copy, Drop)]
 pub struct Given {
     pub budget: Option<u64>,
     pub attempts: Option<u64>,
     pub entries: Option<u64>,
+    pub awaited: Option<Name>,
 }
 
 /// The most of each option, whose least is 1.
@@ -75,36 +84,81 @@ fn once(given: Option<u64>, word: &str, most: u64) -> Option<u64>
     }
 }
 
-/// These options with one more, of which this is the name and that the value.
-fn with_option(given: Given, name: &str, value: &str) -> Option<Given>
-    requires { IsFit given }
-    ensures given { result ≡ with_option given name.now value.now }
-    ensures fit { IfSome result IsFit }
+/// The option of that name.
+fn name_of(word: &str) -> Option<Name>
+    ensures { result ≡ name_of word.now }
 {
-    if name == "--budget" {
-        let budget = once(given.budget, value, MOST_BUDGET)?;
-        Some(Given {
-            budget: Some(budget),
-            ..given
-        })
-    } else if name == "--attempts" {
-        let attempts = once(given.attempts, value, MOST_ATTEMPTS)?;
-        Some(Given {
-            attempts: Some(attempts),
-            ..given
-        })
-    } else if name == "--entries" {
-        let entries = once(given.entries, value, MOST_ENTRIES)?;
-        Some(Given {
-            entries: Some(entries),
-            ..given
-        })
-    } else {
-        None
+    match word {
+        "--budget" => Some(Name::Budget),
+        "--attempts" => Some(Name::Attempts),
+        "--entries" => Some(Name::Entries),
+        _ => None,
     }
 }
 
-/// The options that arguments set, each as a name and its value.
+/// These options with this value of one more.
+fn with_value(given: Given, name: Name, value: &str) -> Option<Given>
+    requires { IsFit given }
+    ensures given { result ≡ with_value given name value.now }
+    ensures fit { IfSome result IsFit }
+{
+    let awaited = None;
+    match name {
+        Name::Budget => {
+            let budget = Some(once(given.budget, value, MOST_BUDGET)?);
+            Some(Given {
+                budget,
+                awaited,
+                ..given
+            })
+        }
+        Name::Attempts => {
+            let attempts = Some(once(given.attempts, value, MOST_ATTEMPTS)?);
+            Some(Given {
+                attempts,
+                awaited,
+                ..given
+            })
+        }
+        Name::Entries => {
+            let entries = Some(once(given.entries, value, MOST_ENTRIES)?);
+            Some(Given {
+                entries,
+                awaited,
+                ..given
+            })
+        }
+    }
+}
+
+/// These options with an argument that names one: `--name=value`, or `--name` before its value.
+fn with_named(given: Given, word: &str) -> Option<Given>
+    requires { IsFit given }
+    ensures given { result ≡ with_named given word.now }
+    ensures fit { IfSome result IsFit }
+{
+    match word.split_once('=') {
+        Some((name, value)) => with_value(given, name_of(name)?, value),
+        None => {
+            let awaited = Some(name_of(word)?);
+            Some(Given { awaited, ..given })
+        }
+    }
+}
+
+/// These options with one more argument.
+fn with_word(given: Given, word: &str) -> Option<Given>
+    requires { IsFit given }
+    ensures given { result ≡ with_word given word.now }
+    ensures fit { IfSome result IsFit }
+{
+    match given.awaited {
+        Some(name) => with_value(given, name, word),
+        None => with_named(given, word),
+    }
+}
+
+/// The options that arguments set.
 fn options_from(words: &[String]) -> Option<Given>
     ensures given { result ≡ options_from no_options (map string_bytes words.now) }
     ensures fit { IfSome result IsFit }
@@ -113,16 +167,15 @@ fn options_from(words: &[String]) -> Option<Given>
         budget: None,
         attempts: None,
         entries: None,
+        awaited: None,
     };
-    let mut at = 0usize;
-    'words: while at < words.len() {
-        if words.len() - at < 2 {
-            return None;
-        }
-        given = with_option(given, words[at].as_str(), words[at + 1].as_str())?;
-        at += 2;
+    for word in words {
+        given = with_word(given, word.as_str())?;
     }
-    Some(given)
+    match given.awaited {
+        Some(_) => None,
+        None => Some(given),
+    }
 }
 
 /// An option that isn't given has its default.
@@ -141,7 +194,8 @@ fn with_defaults(given: Given) -> ReplayOptions
 /// The options of the replay that the arguments ask for, or `None` if they are no such command: the
 /// argument `replay`, and after it in any order, each at most once, `--budget` with 1 to 10,000,000
 /// (else 100,000), `--attempts` with 1 to 64 (else 32) and `--entries` with 1 to 1,000,000 (else
-/// 1,000,000), each number an argument of its own of one to eight decimal digits.
+/// 1,000,000). The number, of one to eight decimal digits, is the next argument, or follows the name and
+/// `=` in the same one.
 pub fn options_of(words: &[String]) -> Option<ReplayOptions>
     ensures options { result ≡ options_of (map string_bytes words.now) }
     ensures fit { IfSome result AreFit }

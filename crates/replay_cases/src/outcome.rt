@@ -88,12 +88,12 @@ fn status_text(alloc: Global, status: Status) -> Result<String, AllocError> {
     match status {
         Status::Done => format!(in alloc; "0 done"),
         Status::Usage => format!(in alloc; "2 usage"),
-        Status::Document(at) => format!(in alloc; "3 document {at}"),
+        Status::Document(at, _) => format!(in alloc; "3 document {at}"),
         Status::Memory => format!(in alloc; "4 memory"),
         Status::Read => format!(in alloc; "5 read"),
         Status::Write => format!(in alloc; "6 write"),
         Status::Limit(count) => format!(in alloc; "8 limit {count}"),
-        Status::NotYet(at) => format!(in alloc; "11 not-yet {at}"),
+        Status::NotYet(at, _) => format!(in alloc; "11 not-yet {at}"),
     }
 }
 

@@ -6,3 +6,4 @@ pub mod Scripts
 pub mod Ending
 pub mod Turns
 pub mod Searched
+pub mod Trying

@@ -9,10 +9,9 @@ use Rattle.cluster.specs.Events.{stand_after}
 use Rattle.ledger_core.specs.Ledger.{History}
 use Rattle.cluster.specs.History.{stand_of}
 use Rattle.journal_text.specs.Journal.{lines_from}
-use Rattle.commands.specs.declared.command.Command.{Command}
+use Rattle.commands.specs.declared.given.Given.{Given}
 use Rattle.replay_core.specs.declared.work.Work.{Work}
 use Rattle.replay_core.specs.Script.{at_each, commands_of}
-use Rattle.replay_core.specs.Built.{is_built}
 use Rattle.replay_core.specs.declared.options.ReplayOptions.{ReplayOptions}
 use Rattle.replay_core.specs.Jobs.{AllOwn, JobRun, RunFrom, RunOf}
 use Rattle.replay_core.specs.Lines.{Did, RanNext, new_lines}
@@ -29,32 +28,32 @@ StandLaw = (h : List Entry) (e : Entry) (job : ℕ) → stand_of (h ++ e ∷ [])
 abbrev pub LinesLaw : Type 0
 LinesLaw = (n : ℕ) (xs ys : List Entry) → lines_from n (xs ++ ys) ≡ lines_from n xs ++ lines_from (n + length xs) ys
 
-RunFrom-more : (b a n : ℕ) (before : List Entry) (cs : List Command) (mid : List Entry) (c : Command) (seg : List Entry)
-    → RunFrom b a n before cs mid → is_built c ≡ true → JobRun (n + length cs + 1) c b a mid seg → RunFrom b a n before (cs ++ c ∷ []) (mid ++ seg)
+RunFrom-more : (b n : ℕ) (before : List Entry) (cs : List Given) (mid : List Entry) (c : Given) (seg : List Entry)
+    → RunFrom b n before cs mid → JobRun (n + length cs + 1) c b mid seg → RunFrom b n before (cs ++ c ∷ []) (mid ++ seg)
 unfolding RunFrom
-RunFrom-more b a n before [] mid c seg is built run =
+RunFrom-more b n before [] mid c seg is run =
     let eq : n + 0 + 1 ≡ n + 1 = omega arith in
-    (seg, built, subst (λ (h : List Entry). JobRun (n + 1) c b a h seg) is (subst (λ (k : ℕ). JobRun k c b a mid seg) eq run), ap (λ (h : List Entry). h ++ seg) is)
-RunFrom-more b a n before (d ∷ ds) mid c seg r built run =
+    (seg, subst (λ (h : List Entry). JobRun (n + 1) c b h seg) is (subst (λ (k : ℕ). JobRun k c b mid seg) eq run), ap (λ (h : List Entry). h ++ seg) is)
+RunFrom-more b n before (d ∷ ds) mid c seg r run =
     let eq : n + length (d ∷ ds) + 1 ≡ n + 1 + length ds + 1 = omega arith in
-    (r.0, r.1, r.2, RunFrom-more b a (n + 1) (before ++ r.0) ds mid c seg r.3 built (subst (λ (k : ℕ). JobRun k c b a mid seg) eq run))
+    (r.0, r.1, RunFrom-more b (n + 1) (before ++ r.0) ds mid c seg r.2 (subst (λ (k : ℕ). JobRun k c b mid seg) eq run))
 
-commands_len : (done : List (ℕ × Command)) → length (commands_of done) ≡ length done
+commands_len : (done : List (ℕ × Given)) → length (commands_of done) ≡ length done
 commands_len [] = refl
 commands_len (d ∷ ds) = omega (arith, commands_len ds)
 
-commands_more : (done : List (ℕ × Command)) (at : ℕ) (c : Command) → commands_of (done ++ (at, c) ∷ []) ≡ commands_of done ++ c ∷ []
+commands_more : (done : List (ℕ × Given)) (at : ℕ) (c : Given) → commands_of (done ++ (at, c) ∷ []) ≡ commands_of done ++ c ∷ []
 commands_more [] at c = refl
-commands_more (d ∷ ds) at c = ap (λ (l : List Command). d.1 ∷ l) (commands_more ds at c)
+commands_more (d ∷ ds) at c = ap (λ (l : List Given). d.1 ∷ l) (commands_more ds at c)
 
 -- the run of one command more
-pub RunOf-more : (b a : ℕ) (done : List (ℕ × Command)) (mid : List Entry) (at : ℕ) (c : Command) (seg : List Entry) (n : ℕ) → n ≡ length done
-    → RunOf b a (commands_of done) mid → is_built c ≡ true → JobRun (n + 1) c b a mid seg → RunOf b a (commands_of (done ++ (at, c) ∷ [])) (mid ++ seg)
+pub RunOf-more : (b : ℕ) (done : List (ℕ × Given)) (mid : List Entry) (at : ℕ) (c : Given) (seg : List Entry) (n : ℕ) → n ≡ length done
+    → RunOf b (commands_of done) mid → JobRun (n + 1) c b mid seg → RunOf b (commands_of (done ++ (at, c) ∷ [])) (mid ++ seg)
 unfolding RunOf
-RunOf-more b a done mid at c seg n is run built job =
+RunOf-more b done mid at c seg n is run job =
     let eq : n + 1 ≡ 0 + length (commands_of done) + 1 = omega (arith, commands_len done) in
-    subst (λ (cs : List Command). RunFrom b a 0 [] cs (mid ++ seg)) (sym (commands_more done at c))
-    (RunFrom-more b a 0 [] (commands_of done) mid c seg run built (subst (λ (k : ℕ). JobRun k c b a mid seg) eq job))
+    subst (λ (cs : List Given). RunFrom b 0 [] cs (mid ++ seg)) (sym (commands_more done at c))
+    (RunFrom-more b 0 [] (commands_of done) mid c seg run (subst (λ (k : ℕ). JobRun k c b mid seg) eq job))
 
 -- a job's entries leave the states of other jobs as they were
 pub own_only : StandLaw → (job : ℕ) (before seg : List Entry) (other : ℕ) → AllOwn job seg → (job ≡ other → ⊥) → stand_of (before ++ seg) other ≡ stand_of before other
@@ -83,16 +82,16 @@ lines_more law old new seg is =
     ∙ ap (λ (l : List Entry). lines_from 0 old.entries ++ lines_from (length old.entries) l) (sym rest)
 
 -- the history of one command more
-pub run_more : (options : ReplayOptions) (done : List (ℕ × Command)) (at : ℕ) (c : Command) (old new : Work) → IsRun options done old.ledger.entries → old.commands ≡ length done → old.ledger.limit ≡ options.entries → IsSound new.ledger
-    → is_built c ≡ true → RanNext options c old new → IsRun options (done ++ (at, c) ∷ []) new.ledger.entries
-run_more options done at c old new run count same sound built ran =
+pub run_more : (options : ReplayOptions) (done : List (ℕ × Given)) (at : ℕ) (c : Given) (old new : Work) → IsRun options done old.ledger.entries → old.commands ≡ length done → old.ledger.limit ≡ options.entries → IsSound new.ledger
+    → RanNext options c old new → IsRun options (done ++ (at, c) ∷ []) new.ledger.entries
+run_more options done at c old new run count same sound ran =
     let grown : new.ledger.entries ≡ old.ledger.entries ++ ran.segment = ap (λ (h : History). h.entries) ran.is in
     let kept : new.ledger.limit ≡ old.ledger.limit = ap (λ (h : History). h.limit) ran.is in
     record {
       within = omega (arith, kept, same, sound.within);
       legal = sound.legal;
-      run = subst (λ (h : List Entry). RunOf options.budget options.attempts (commands_of (done ++ (at, c) ∷ [])) h) (sym grown)
-          (RunOf-more options.budget options.attempts done old.ledger.entries at c ran.segment old.commands count run.run built ran.run);
+      run = subst (λ (h : List Entry). RunOf options.budget (commands_of (done ++ (at, c) ∷ [])) h) (sym grown)
+          (RunOf-more options.budget done old.ledger.entries at c ran.segment old.commands count run.run ran.run);
     }
 
 -- a job that had no entry and has ended has one
@@ -103,7 +102,7 @@ has_entry before [] job place fresh ended =
 has_entry before (e ∷ es) job place fresh ended = omega arith
 
 -- after a command the next may be done
-pub ready_more : StandLaw → (options : ReplayOptions) (c : Command) (old new : Work) (before after : Option (List ℕ)) → IsReady old → Did options c old new before after → IsReady new
+pub ready_more : StandLaw → (options : ReplayOptions) (c : Given) (old new : Work) (before after : Option (List ℕ)) → IsReady old → Did options c old new before after → IsReady new
 ready_more stands options c old new before after r did =
     let ran = did.ran in
     let grown : new.ledger.entries ≡ old.ledger.entries ++ ran.segment = ap (λ (h : History). h.entries) ran.is in
@@ -122,13 +121,13 @@ ready_more stands options c old new before after r did =
     }
 
 -- one command more was done
-pub standing_more : StandLaw → LinesLaw → (options : ReplayOptions) (before now next : Option (List ℕ)) (done : List (ℕ × Command)) (at : ℕ) (c : Command) (old new : Work)
+pub standing_more : StandLaw → LinesLaw → (options : ReplayOptions) (before now next : Option (List ℕ)) (done : List (ℕ × Given)) (at : ℕ) (c : Given) (old new : Work)
     → Standing options before now done old → Did options c old new now next → IsSound new.ledger → Standing options before next (done ++ (at, c) ∷ []) new
 standing_more stands lines options before now next done at c old new s did sound =
     let ran = did.ran in
     let same : new.ledger.limit ≡ old.ledger.limit = ap (λ (h : History). h.limit) ran.is in
     record {
-      run = run_more options done at c old new s.run s.count_is s.limit_is sound did.built ran;
+      run = run_more options done at c old new s.run s.count_is s.limit_is sound ran;
       count_is = omega (arith, did.counted, s.count_is, length-append done ((at, c) ∷ []));
       ready = ready_more stands options c old new now next s.ready did;
       printed = subst (λ (t : List ℕ). Appends before next t) (sym (lines_more lines old.ledger new.ledger ran.segment ran.is))
@@ -139,16 +138,16 @@ standing_more stands lines options before now next done at c old new s did sound
 -- nothing was done yet
 pub stands_first : (options : ReplayOptions) (old : Work) (before : Option (List ℕ)) → StandsOn options [] old old before before
 stands_first options old before = record {
-  standing = λ start done s. subst (λ (l : List (ℕ × Command)). Standing options start before l old) (sym (append-nil done)) s;
+  standing = λ start done s. subst (λ (l : List (ℕ × Given)). Standing options start before l old) (sym (append-nil done)) s;
 }
 
 -- and then one command more
-pub stands_more : StandLaw → LinesLaw → (options : ReplayOptions) (at : ℕ) (front : List Command) (c : Command) (old mid new : Work) (before now next : Option (List ℕ))
+pub stands_more : StandLaw → LinesLaw → (options : ReplayOptions) (at : ℕ) (front : List Given) (c : Given) (old mid new : Work) (before now next : Option (List ℕ))
     → StandsOn options (at_each at front) old mid before now → Did options c mid new now next → IsSound new.ledger → StandsOn options (at_each at (front ++ c ∷ [])) old new before next
 stands_more stands lines options at front c old mid new before now next on did sound = record {
   standing = λ start done s.
       let joined : (done ++ at_each at front) ++ (at, c) ∷ [] ≡ done ++ at_each at (front ++ c ∷ []) =
-      append_assoc done (at_each at front) ((at, c) ∷ []) ∙ ap (λ (l : List (ℕ × Command)). done ++ l) (sym (at_each_joined at front (c ∷ []))) in
-      subst (λ (l : List (ℕ × Command)). Standing options start next l new) joined
+      append_assoc done (at_each at front) ((at, c) ∷ []) ∙ ap (λ (l : List (ℕ × Given)). done ++ l) (sym (at_each_joined at front (c ∷ []))) in
+      subst (λ (l : List (ℕ × Given)). Standing options start next l new) joined
       (standing_more stands lines options start now next (done ++ at_each at front) at c mid new (on.standing start done s) did sound);
 }

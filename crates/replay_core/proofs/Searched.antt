@@ -1,7 +1,7 @@
 -- What the entries of a run state about searches.
 use Rattle.std.proofs.Common.{ℕ, ◌+◌, ◌≡◌, ◌∙◌, ◌⊎◌, inl, inr, List, [], ◌∷◌, ◌++◌, length, refl, sym, ap, subst, arith, append_assoc, append-nil, length-append}
 use Rattle.cluster.specs.declared.entry.Entry.{Entry}
-use Rattle.commands.specs.declared.command.Command.{Command}
+use Rattle.commands.specs.declared.given.Given.{Given}
 use Rattle.sched_job.specs.Histories.{Each}
 use Rattle.sched_job.specs.Runs.{JobKept, JobStep, Run, Timed}
 use Rattle.replay_core.specs.Jobs.{AllOwn, JobRun, RunFrom, RunOf, run_after}
@@ -22,24 +22,24 @@ own_at job [] e back own = own.0
 own_at job (d ∷ front) e back own = own_at job front e back own.1
 
 -- an entry of a job states such a result
-made_tells : (job : ℕ) (c : Command) (budget attempts : ℕ) (before front : List Entry) (e : Entry) (back : List Entry) → JobRun job c budget attempts before (front ++ e ∷ back) → TellsOf budget (before ++ front) e
-made_tells job c budget attempts before front e back run =
-    let kept : JobKept (run_after job run.order budget before) ((before ++ front) ++ e ∷ back) =
-    subst (λ (h : List Entry). JobKept (run_after job run.order budget before) h) (sym (append_assoc before front (e ∷ back))) run.run.kept in
-    let step : JobStep (run_after job run.order budget before) (before ++ front) e.event =
-    each_at (λ b x. x.job ≡ job → JobStep (run_after job run.order budget before) b x.event) [] (before ++ front) e back kept (own_at job front e back run.own) in
-    (run_after job run.order budget before, refl, step.timed)
+made_tells : (job : ℕ) (c : Given) (budget : ℕ) (before front : List Entry) (e : Entry) (back : List Entry) → JobRun job c budget before (front ++ e ∷ back) → TellsOf budget (before ++ front) e
+made_tells job c budget before front e back run =
+    let kept : JobKept (run_after job run.command budget before) ((before ++ front) ++ e ∷ back) =
+    subst (λ (h : List Entry). JobKept (run_after job run.command budget before) h) (sym (append_assoc before front (e ∷ back))) run.run.kept in
+    let step : JobStep (run_after job run.command budget before) (before ++ front) e.event =
+    each_at (λ b x. x.job ≡ job → JobStep (run_after job run.command budget before) b x.event) [] (before ++ front) e back kept (own_at job front e back run.own) in
+    (run_after job run.command budget before, refl, step.timed)
 
 -- a run goes on from the entries before it
 pub record GoesFrom (before after : List Entry) : Type 0 where
   pub rest : List Entry
   pub is : after ≡ before ++ rest
 
-run_goes : (budget attempts n : ℕ) (before : List Entry) (cs : List Command) (after : List Entry) → RunFrom budget attempts n before cs after → GoesFrom before after
+run_goes : (budget n : ℕ) (before : List Entry) (cs : List Given) (after : List Entry) → RunFrom budget n before cs after → GoesFrom before after
 unfolding RunFrom
-run_goes budget attempts n before [] after is = record { rest = []; is = is ∙ sym (append-nil before) }
-run_goes budget attempts n before (c ∷ cs) after r =
-    let more = run_goes budget attempts (n + 1) (before ++ r.0) cs after r.3 in
+run_goes budget n before [] after is = record { rest = []; is = is ∙ sym (append-nil before) }
+run_goes budget n before (c ∷ cs) after r =
+    let more = run_goes budget (n + 1) (before ++ r.0) cs after r.2 in
     record { rest = r.0 ++ more.rest; is = more.is ∙ append_assoc before r.0 more.rest }
 
 -- where an element of two joined lists is
@@ -84,21 +84,21 @@ none_longer before front e back is =
     omega (arith, all, part)
 
 -- an entry of a run states the result of a search within its budget
-run_tells : (budget attempts n : ℕ) (before : List Entry) (cs : List Command) (front : List Entry) (e : Entry) (back : List Entry) → RunFrom budget attempts n before cs (before ++ (front ++ e ∷ back)) → TellsOf budget (before ++ front) e
+run_tells : (budget n : ℕ) (before : List Entry) (cs : List Given) (front : List Entry) (e : Entry) (back : List Entry) → RunFrom budget n before cs (before ++ (front ++ e ∷ back)) → TellsOf budget (before ++ front) e
 unfolding RunFrom
-run_tells budget attempts n before [] front e back is = absurd (none_longer before front e back is)
-run_tells budget attempts n before (c ∷ cs) front e back r =
+run_tells budget n before [] front e back is = absurd (none_longer before front e back is)
+run_tells budget n before (c ∷ cs) front e back r =
     let seg : List Entry = r.0 in
-    let goes : GoesFrom (before ++ seg) (before ++ (front ++ e ∷ back)) = run_goes budget attempts (n + 1) (before ++ seg) cs (before ++ (front ++ e ∷ back)) r.3 in
+    let goes : GoesFrom (before ++ seg) (before ++ (front ++ e ∷ back)) = run_goes budget (n + 1) (before ++ seg) cs (before ++ (front ++ e ∷ back)) r.2 in
     let joined : seg ++ goes.rest ≡ front ++ e ∷ back = same_front before (seg ++ goes.rest) (front ++ e ∷ back) (sym (append_assoc before seg goes.rest) ∙ sym goes.is) in
     elim (stands_in seg goes.rest front e back joined) as (λ _. TellsOf budget (before ++ front) e) [
-      | inl f ↦ made_tells (n + 1) c budget attempts before front e f.more (subst (λ (l : List Entry). JobRun (n + 1) c budget attempts before l) f.is r.2)
+      | inl f ↦ made_tells (n + 1) c budget before front e f.more (subst (λ (l : List Entry). JobRun (n + 1) c budget before l) f.is r.1)
       | inr s ↦
           subst (λ (l : List Entry). TellsOf budget l e) (append_assoc before seg s.behind ∙ ap (λ (l : List Entry). before ++ l) (sym s.is))
-          (run_tells budget attempts (n + 1) (before ++ seg) cs s.behind e back
-          (subst (λ (l : List Entry). RunFrom budget attempts (n + 1) (before ++ seg) cs l) (goes.is ∙ ap (λ (l : List Entry). (before ++ seg) ++ l) s.rest) r.3))
+          (run_tells budget (n + 1) (before ++ seg) cs s.behind e back
+          (subst (λ (l : List Entry). RunFrom budget (n + 1) (before ++ seg) cs l) (goes.is ∙ ap (λ (l : List Entry). (before ++ seg) ++ l) s.rest) r.2))
     ]
 
-pub entry_tells : (budget attempts : ℕ) (cs : List Command) (front : List Entry) (e : Entry) (back : List Entry) → RunOf budget attempts cs (front ++ e ∷ back) → TellsOf budget front e
+pub entry_tells : (budget : ℕ) (cs : List Given) (front : List Entry) (e : Entry) (back : List Entry) → RunOf budget cs (front ++ e ∷ back) → TellsOf budget front e
 unfolding RunOf
-entry_tells budget attempts cs front e back r = run_tells budget attempts 0 [] cs front e back r
+entry_tells budget cs front e back r = run_tells budget 0 [] cs front e back r

@@ -111,6 +111,6 @@ progress_begins options left before work small law none ledger =
 pub nothing_done : (options : ReplayOptions) (left before : Option (List ℕ)) → EndsShort options left before before
 nothing_done options left before = record {
   text = [];
-  due = inl (record { done = []; script = λ bytes e. (script_of bytes, refl); history = []; run = empty_run options; is = sym no_lines });
+  due = inl (record { done = []; script = λ bytes e. (script_of options.attempts bytes, refl); history = []; run = empty_run options; is = sym no_lines });
   written = (0, appends_none before);
 }

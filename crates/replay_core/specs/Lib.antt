@@ -1,6 +1,7 @@
+pub mod Forms
 pub mod Script
 pub mod Jobs
-pub mod Built
+pub mod Attempts
 pub mod Doing
 pub mod Stops
 pub mod Lines

@@ -6,7 +6,7 @@ use Rattle.cluster.specs.History.{stand_of}
 use Rattle.ledger_core.specs.Legal.{Legal}
 use Rattle.ledger_core.specs.Ledger.{History}
 use Rattle.journal_text.specs.Journal.{lines_from}
-use Rattle.commands.specs.declared.command.Command.{Command}
+use Rattle.commands.specs.declared.given.Given.{Given}
 use Rattle.replay_core.specs.declared.options.ReplayOptions.{ReplayOptions}
 use Rattle.replay_core.specs.declared.work.Work.{Work}
 use Rattle.replay_core.specs.Script.{prepend, script_from}
@@ -24,7 +24,7 @@ pub record IsSound (h : History) : Type 0 where
   pub within : length h.entries ≤ h.limit
 
 -- these commands were done, and their lines are printed
-pub record Standing (options : ReplayOptions) (before now : Option (List ℕ)) (done : List (ℕ × Command)) (work : Work) : Type 0 where
+pub record Standing (options : ReplayOptions) (before now : Option (List ℕ)) (done : List (ℕ × Given)) (work : Work) : Type 0 where
   pub run : IsRun options done work.ledger.entries
   pub count_is : work.commands ≡ length done
   pub ready : IsReady work
@@ -36,6 +36,6 @@ pub record Standing (options : ReplayOptions) (before now : Option (List ℕ)) (
 pub record Progress (options : ReplayOptions) (left left_now before now : Option (List ℕ)) (at : ℕ) (work : Work) : Type 0 where
   pub taken : List ℕ
   pub consumed : Consumes left left_now taken
-  pub done : List (ℕ × Command)
-  pub script : (ended : Bool) (more : List ℕ) → script_from ended 0 (taken ++ more) ≡ prepend done (script_from ended at more)
+  pub done : List (ℕ × Given)
+  pub script : (ended : Bool) (more : List ℕ) → script_from options.attempts ended 0 (taken ++ more) ≡ prepend done (script_from options.attempts ended at more)
   pub standing : Standing options before now done work

@@ -1,6 +1,7 @@
 //! Replays a script: reads its commands, does each as a job of a ledger, and prints what was decided.
 #![tactic(auto)]
 
+mod form;
 mod jobs;
 mod laws;
 mod options;
@@ -9,8 +10,9 @@ mod status;
 mod stop;
 mod work;
 
+pub use form::Form;
 pub use laws::runs_search_within;
 pub use options::ReplayOptions;
 pub use script::replay;
-pub use status::Status;
+pub use status::{Rejection, Status};
 pub use stop::Stop;

@@ -8,7 +8,7 @@ ghost use Rattle.replay_core.specs.Replay.{Ends};
 ghost use Rattle.replay_core.specs.Script.{most_input};
 
 use crate::work::{Work, do_document, print_summary};
-use crate::{ReplayOptions, Status};
+use crate::{Rejection, ReplayOptions, Status};
 use doc_split::{DocError, Splitter};
 use dra_ports::{Sink, Source};
 use journal_text::lines_of_more;
@@ -43,7 +43,7 @@ fn step<S: Source, K: Sink>(
 {
     lines_of_more();
     match splitter.next_document(alloc, input) {
-        Ok(Some(doc)) => match do_document(alloc, work, doc.at, &doc.bytes, options, output) {
+        Ok(Some(doc)) => match do_document(alloc, work, &doc, options, output) {
             Ok(()) => Ok(()),
             Err(status) => Err(status),
         },
@@ -58,9 +58,9 @@ fn input_status(error: DocError) -> Status
 {
     match error {
         DocError::ReadFault => Status::Read,
-        DocError::Unclosed(at) => Status::Document(at),
-        DocError::Stray(at) => Status::Document(at),
-        DocError::TooLong(at) => Status::Document(at),
+        DocError::Unclosed(at) => Status::Document(at, Rejection::Unclosed),
+        DocError::Stray(at) => Status::Document(at, Rejection::Stray),
+        DocError::TooLong(at) => Status::Document(at, Rejection::TooLong),
         DocError::Memory => Status::Memory,
         DocError::Input => Status::Limit(MOST_INPUT),
     }
@@ -75,7 +75,8 @@ fn input_status(error: DocError) -> Status
 /// some first commands or of the whole text, perhaps all of it; with every other status none of the
 /// summary was written. What the entries of a legal history mean is the laws of `ledger_core`.
 ///
-/// Each command that was done, or begun, is of a supported form in the state before it. Each plan and
+/// What was done, or begun, are commands of supported forms. `Document` says why what is at its offset isn't
+/// a command, and `NotYet` which form, that isn't supported yet, the document at its offset has. Each plan and
 /// each verdict is what searches of the nodes within the budget of the options return, at its index. With
 /// each status the history has at most `entries` entries, and where one more was expected it has
 /// exactly so many.

@@ -1,3 +1,20 @@
+use crate::Form;
+
+/// Why what is at an offset isn't a command.
+#[derive(Clone, Copy, Debug, PartialEq, Eq, Drop)]
+pub enum Rejection {
+    /// The input ends inside the document that begins there.
+    Unclosed,
+    /// The byte there is between documents, and is neither a blank nor the first byte of a document.
+    Stray,
+    /// The document that begins there has more than 2,097,152 bytes.
+    TooLong,
+    /// The document there isn't one JSON object in UTF-8.
+    NotJson,
+    /// The document there is a JSON object, but no command.
+    NotACommand,
+}
+
 /// How a run ended.
 #[derive(Clone, Copy, Debug, PartialEq, Eq, Drop)]
 pub enum Status {
@@ -5,8 +22,8 @@ pub enum Status {
     Done,
     /// The arguments aren't a command.
     Usage,
-    /// The document at this offset isn't a command.
-    Document(u64),
+    /// What is at this offset isn't a command, for this reason.
+    Document(u64, Rejection),
     /// Memory ran out.
     Memory,
     /// The input failed.
@@ -16,6 +33,6 @@ pub enum Status {
     /// The history has so many entries and one more is expected, or the input is longer than so many
     /// bytes.
     Limit(u64),
-    /// The document at this offset is a command whose form this program doesn't support yet.
-    NotYet(u64),
+    /// The document at this offset has this form, which isn't supported yet.
+    NotYet(u64, Form),
 }

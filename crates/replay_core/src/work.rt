@@ -3,16 +3,17 @@ ghost use Rattle.std.specs.Io.KnownBytes.{Appends};
 ghost use Rattle.dra_ports.specs.Causes.{HasCause, Rose};
 ghost use Rattle.dra_ports.specs.Fronts.{AppendsFront};
 ghost use Rattle.journal_text.specs.Journal.{lines_from};
+ghost use Rattle.replay_core.specs.Attempts.{AllMayTry, MayTry};
 ghost use Rattle.replay_core.specs.Lines.{output_status, Did, Stops, Summarized};
 ghost use Rattle.replay_core.specs.Progress.{IsReady, IsSound};
 ghost use Rattle.replay_core.specs.Script.{at_each};
 ghost use Rattle.replay_core.specs.Turns.{DocumentDid, DocumentStops, StandsOn, StoppedAmong};
 
 use crate::jobs::do_command;
-use crate::{ReplayOptions, Status, Stop};
-use commands::{Command, read_commands};
+use crate::{Rejection, ReplayOptions, Status, Stop};
+use commands::{Given, GivenError, commands};
+use doc_split::Doc;
 use dra_ports::{PortError, Sink, write_all};
-use dra_values::Seq;
 use journal_text::{lines, lines_of_more, summary};
 use ledger_core::{Ledger, histories_grow};
 use std::alloc::Global;
@@ -54,12 +55,12 @@ pub fn do_next<K: Sink>(
     alloc: Global,
     work: &mut Work,
     at: u64,
-    command: Command,
+    command: Given,
     options: ReplayOptions,
     output: &mut K,
 ) -> Result<(), Status>
     requires ready { IsReady work.old }
-    requires attempts { 0 < options.attempts }
+    requires attempts { MayTry command }
     ensures did { OnOk result (Did options command work.old work.new (K.written output.old) (K.written output.new)) }
     ensures stops { IfErr result (Stops options at command work.old work.new (K.written output.old) (K.written output.new)) }
     ensures write { IfErr result (λ s. s ≡ Status.Write → Rose (K.faults output.old) (K.faults output.new)) }
@@ -70,14 +71,7 @@ pub fn do_next<K: Sink>(
 {
     let from = work.ledger.len();
     let job = work.commands + 1;
-    let done = do_command(
-        alloc,
-        &mut work.ledger,
-        job,
-        command,
-        options.budget,
-        options.attempts,
-    );
+    let done = do_command(alloc, &mut work.ledger, job, command, options.budget);
     let _entries = work.ledger.len();
     match done {
         Ok(()) => {
@@ -91,7 +85,7 @@ pub fn do_next<K: Sink>(
             Ok(()) => Err(Status::Limit(count)),
             Err(error) => Err(write_status(error)),
         },
-        Err(Stop::NotBuilt) => Err(Status::NotYet(at)),
+        Err(Stop::NotYet(form)) => Err(Status::NotYet(at, form)),
         Err(Stop::Memory) => Err(Status::Memory),
     }
 }
@@ -101,14 +95,14 @@ fn do_all<K: Sink>(
     alloc: Global,
     work: &mut Work,
     at: u64,
-    commands: Seq<Command>,
+    commands: Vec<Given>,
     options: ReplayOptions,
     output: &mut K,
 ) -> Result<(), Status>
     requires ready { IsReady work.old }
-    requires attempts { 0 < options.attempts }
-    ensures did { OnOk result (StandsOn options (at_each at commands) work.old work.new (K.written output.old) (K.written output.new)) }
-    ensures stops { IfErr result (StoppedAmong options at commands work.old work.new (K.written output.old) (K.written output.new)) }
+    requires attempts { AllMayTry commands.items }
+    ensures did { OnOk result (StandsOn options (at_each at commands.items) work.old work.new (K.written output.old) (K.written output.new)) }
+    ensures stops { IfErr result (StoppedAmong options at commands.items work.old work.new (K.written output.old) (K.written output.new)) }
     ensures write { IfErr result (λ s. s ≡ Status.Write → Rose (K.faults output.old) (K.faults output.new)) }
     ensures later { K.faults output.old ≤ K.faults output.new }
     ensures ok_faultless { OnOk result (K.faults output.new ≡ K.faults output.old) }
@@ -118,7 +112,7 @@ fn do_all<K: Sink>(
     histories_grow();
     lines_of_more();
     let _entries = work.ledger.len();
-    for command in commands.into_vec() {
+    for command in commands {
         do_next(alloc, work, at, command, options, output)?;
     }
     Ok(())
@@ -128,15 +122,14 @@ fn do_all<K: Sink>(
 pub fn do_document<K: Sink>(
     alloc: Global,
     work: &mut Work,
-    at: u64,
-    document: &[u8],
+    doc: &Doc,
     options: ReplayOptions,
     output: &mut K,
 ) -> Result<(), Status>
     requires ready { IsReady work.old }
     requires attempts { 0 < options.attempts }
-    ensures did { OnOk result (DocumentDid options at document.now work.old work.new (K.written output.old) (K.written output.new)) }
-    ensures stops { IfErr result (DocumentStops options at document.now work.old work.new (K.written output.old) (K.written output.new)) }
+    ensures did { OnOk result (DocumentDid options doc.now.at doc.now.bytes.items work.old work.new (K.written output.old) (K.written output.new)) }
+    ensures stops { IfErr result (DocumentStops options doc.now.at doc.now.bytes.items work.old work.new (K.written output.old) (K.written output.new)) }
     ensures write { IfErr result (λ s. s ≡ Status.Write → Rose (K.faults output.old) (K.faults output.new)) }
     ensures later { K.faults output.old ≤ K.faults output.new }
     ensures ok_faultless { OnOk result (K.faults output.new ≡ K.faults output.old) }
@@ -144,10 +137,11 @@ pub fn do_document<K: Sink>(
     ensures sound { IsSound work.new.ledger }
 {
     let _entries = work.ledger.len();
-    match read_commands(alloc, document) {
-        Ok(Some(commands)) => do_all(alloc, work, at, commands, options, output),
-        Ok(None) => Err(Status::Document(at)),
-        Err(_) => Err(Status::Memory),
+    match commands(alloc, doc, options.attempts) {
+        Ok(given) => do_all(alloc, work, doc.at, given, options, output),
+        Err(GivenError::NotJson) => Err(Status::Document(doc.at, Rejection::NotJson)),
+        Err(GivenError::NotACommand) => Err(Status::Document(doc.at, Rejection::NotACommand)),
+        Err(GivenError::Memory) => Err(Status::Memory),
     }
 }
 

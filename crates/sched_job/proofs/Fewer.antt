@@ -29,8 +29,8 @@ use Rattle.ledger_core.specs.Legal.{Legal, MayStand, Step}
 use Rattle.ledger_core.specs.Ledger.{History}
 use Rattle.ledger_core.specs.Limits.{ObjectsKept}
 use Rattle.ledger_core.specs.Wrote.{MayWrite}
-use Rattle.sched_job.specs.declared.work.Command.{Command}
-use Rattle.sched_job.specs.declared.work.Command.TheVariants.{Apply, Invalid, Delete, Schedule, Release, Adopt}
+use Rattle.commands.specs.declared.command.Command.{Command}
+use Rattle.commands.specs.declared.command.Command.TheVariants.{Apply, Invalid, Delete, Schedule, Release, Adopt}
 use Rattle.sched_job.specs.declared.work.Stage.{Stage}
 use Rattle.sched_job.specs.declared.work.Stage.TheVariants.{Ready, Seen, Chosen}
 use Rattle.sched_job.specs.declared.work.Work.{Work}

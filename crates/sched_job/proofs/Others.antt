@@ -40,8 +40,8 @@ use Rattle.ledger_core.specs.Legal.{Legal, MayStand, Step}
 use Rattle.cluster.specs.JobState.{has_reserved}
 use Rattle.ledger_core.specs.Owners.{has_pod}
 use Rattle.ledger_core.specs.Wrote.{IsTaken}
-use Rattle.sched_job.specs.declared.work.Command.{Command}
-use Rattle.sched_job.specs.declared.work.Command.TheVariants.{Apply, Invalid, Delete, Schedule, Release, Adopt}
+use Rattle.commands.specs.declared.command.Command.{Command}
+use Rattle.commands.specs.declared.command.Command.TheVariants.{Apply, Invalid, Delete, Schedule, Release, Adopt}
 use Rattle.sched_job.specs.declared.work.Stage.{Stage}
 use Rattle.sched_job.specs.declared.work.Work.{Work}
 use Rattle.sched_job.specs.Runs.{Run, JobKept, Running}

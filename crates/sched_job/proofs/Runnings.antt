@@ -40,8 +40,8 @@ use Rattle.ledger_core.specs.Released.{release_by}
 use Rattle.ledger_core.specs.Reserved.{reservation, reservation_by}
 use Rattle.sched_job.specs.declared.due.Due.{Due}
 use Rattle.sched_job.specs.declared.due.Due.TheVariants as due
-use Rattle.sched_job.specs.declared.work.Command.{Command}
-use Rattle.sched_job.specs.declared.work.Command.TheVariants.{Apply, Invalid, Delete, Schedule, Release, Adopt}
+use Rattle.commands.specs.declared.command.Command.{Command}
+use Rattle.commands.specs.declared.command.Command.TheVariants.{Apply, Invalid, Delete, Schedule, Release, Adopt}
 use Rattle.sched_job.specs.declared.work.Stage.{Stage}
 use Rattle.sched_job.specs.declared.work.Stage.TheVariants.{Ready, Seen, Chosen}
 use Rattle.sched_job.specs.declared.work.Work.{Work}

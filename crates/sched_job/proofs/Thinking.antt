@@ -9,8 +9,8 @@ use Rattle.alloc_rules.specs.declared.decision.Decision.TheVariants.{Reserve, Ju
 use Rattle.alloc_rules.specs.Decisions.{IsDecision, is_idle_pod}
 use Rattle.alloc_rules.specs.Plans.{PlanBy, PlanTrue, VerdictBy, VerdictTrue}
 use Rattle.ledger_core.specs.Snapshot.{Seen as Snapshot}
-use Rattle.sched_job.specs.declared.work.Command.{Command}
-use Rattle.sched_job.specs.declared.work.Command.TheVariants.{Apply, Invalid, Delete, Schedule, Release, Adopt}
+use Rattle.commands.specs.declared.command.Command.{Command}
+use Rattle.commands.specs.declared.command.Command.TheVariants.{Apply, Invalid, Delete, Schedule, Release, Adopt}
 use Rattle.sched_job.specs.declared.work.Stage.{Stage}
 use Rattle.sched_job.specs.declared.work.Stage.TheVariants.{Ready, Seen, Chosen}
 use Rattle.sched_job.specs.Runs.{Run, IsChosen, IsSeen, IsStaged, IsTry, IsTrying}

@@ -26,8 +26,8 @@ use Rattle.ledger_core.specs.Owners.{has_pod, pod_in}
 use Rattle.ledger_core.specs.Wrote.{IsTaken}
 use Rattle.sched_job.specs.declared.due.Due.{Due}
 use Rattle.sched_job.specs.declared.due.Due.TheVariants as due
-use Rattle.sched_job.specs.declared.work.Command.{Command}
-use Rattle.sched_job.specs.declared.work.Command.TheVariants.{Apply, Invalid, Delete, Schedule, Release, Adopt}
+use Rattle.commands.specs.declared.command.Command.{Command}
+use Rattle.commands.specs.declared.command.Command.TheVariants.{Apply, Invalid, Delete, Schedule, Release, Adopt}
 use Rattle.sched_job.specs.declared.work.Next.TheVariants as next
 use Rattle.sched_job.specs.declared.work.Stage.{Stage}
 use Rattle.sched_job.specs.declared.work.Stage.TheVariants.{Ready, Seen, Chosen}

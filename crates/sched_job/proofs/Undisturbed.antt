@@ -24,8 +24,8 @@ use Rattle.cluster.specs.Wrote.{with_written}
 use Rattle.alloc_rules.specs.Plans.{PlanTrue}
 use Rattle.plan_check.specs.Failing.{failing}
 use Rattle.ledger_core.specs.Legal.{Legal, MayStand, Step}
-use Rattle.sched_job.specs.declared.work.Command.{Command}
-use Rattle.sched_job.specs.declared.work.Command.TheVariants.{Apply, Invalid, Delete, Schedule, Release, Adopt}
+use Rattle.commands.specs.declared.command.Command.{Command}
+use Rattle.commands.specs.declared.command.Command.TheVariants.{Apply, Invalid, Delete, Schedule, Release, Adopt}
 use Rattle.sched_job.specs.Alone.{Alone, NeverSetBack, is_setback}
 use Rattle.sched_job.specs.Histories.{Each, last_place}
 use Rattle.sched_job.specs.Runs.{Run, JobKept, JobStep, IsTry, attempts_of, command_of, is_schedule}

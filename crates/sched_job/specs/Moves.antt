@@ -30,8 +30,8 @@ use Rattle.ledger_core.specs.Released.{release_of}
 use Rattle.ledger_core.specs.Reserved.{IsPlanned, reservation}
 use Rattle.sched_job.specs.declared.due.Due.{Due}
 use Rattle.sched_job.specs.declared.due.Due.TheVariants as due
-use Rattle.sched_job.specs.declared.work.Command.{Command}
-use Rattle.sched_job.specs.declared.work.Command.TheVariants as command
+use Rattle.commands.specs.declared.command.Command.{Command}
+use Rattle.commands.specs.declared.command.Command.TheVariants as command
 use Rattle.sched_job.specs.declared.work.Next.{Next}
 use Rattle.sched_job.specs.declared.work.Next.TheVariants as next
 use Rattle.sched_job.specs.declared.work.Stage.{Stage}

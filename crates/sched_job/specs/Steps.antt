@@ -9,8 +9,8 @@ use Rattle.alloc_rules.specs.declared.decision.Decision.{Decision}
 use Rattle.alloc_rules.specs.Decisions.{IsDecision, is_idle_pod}
 use Rattle.ledger_core.specs.Ledger.{History}
 use Rattle.ledger_core.specs.Snapshot.{Seen as Snapshot}
-use Rattle.sched_job.specs.declared.work.Command.{Command}
-use Rattle.sched_job.specs.declared.work.Command.TheVariants.{Apply, Invalid, Delete, Schedule, Release, Adopt}
+use Rattle.commands.specs.declared.command.Command.{Command}
+use Rattle.commands.specs.declared.command.Command.TheVariants.{Apply, Invalid, Delete, Schedule, Release, Adopt}
 use Rattle.sched_job.specs.declared.work.Stage.{Stage}
 use Rattle.sched_job.specs.declared.work.Stage.TheVariants.{Ready, Seen, Chosen}
 use Rattle.sched_job.specs.declared.work.Work.{Work}

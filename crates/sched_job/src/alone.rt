@@ -8,8 +8,9 @@ ghost use Rattle.sched_job.specs.declared.work.Stage.TheVariants.{Ready};
 ghost use Rattle.sched_job.specs.Steps.{Extends, run_of};
 
 use crate::steps::go;
-use crate::{Command, Work, alone_is_undisturbed, turns_are_few};
+use crate::{Work, alone_is_undisturbed, turns_are_few};
 use cluster::JobState;
+use commands::Command;
 use ledger_core::{Ledger, LedgerError};
 use std::alloc::Global;
 

@@ -13,9 +13,10 @@ ghost use Rattle.sched_job.specs.Steps.{Extends, OneTurn};
 ghost use Rattle.sched_job.specs.Turns.{most_turns};
 ghost use Rattle.ledger_core.specs.Ledger.{History};
 
-use crate::{Command, Next, Stage};
+use crate::{Next, Stage};
 use alloc_rules::plan_holds;
 use cluster::JobState;
+use commands::Command;
 use ledger_core::{
     histories_grow, legal_steps, objects_keep_limits, pods_stay_taken, uids_keep_claims,
     users_are_busy,

@@ -13,4 +13,4 @@ pub use alone::run_alone;
 pub use complete::schedules_are_complete;
 pub use laws::{alone_is_undisturbed, runs_go_on, turns_are_few, turns_move_on};
 pub use steps::run_steps;
-pub use work::{Command, Next, Stage, Work};
+pub use work::{Next, Stage, Work};

@@ -11,11 +11,12 @@ ghost use Rattle.ledger_core.specs.Ledger.{appended};
 ghost use Rattle.ledger_core.specs.Released.{release_of};
 ghost use Rattle.sched_job.specs.Moves.{begin_move, chosen_event, finish_move, give_up_move, moved, move_of, once, stage_after, tried, try_move, Fits, FitsChoice, FitsStage};
 
+use crate::Stage;
 use crate::due::{Due, due_of, is_taken};
-use crate::{Command, Stage};
 use alloc_rules::Decision;
 use api_claim::ClaimStatus;
 use cluster::{JobState, Mode, Ready, Target};
+use commands::Command;
 use ledger_core::{Done, Ledger, LedgerError, Start, pods_use_claims};
 use object_fields::{FieldError, Key};
 use std::alloc::Global;

@@ -8,29 +8,12 @@ ghost use Rattle.sched_job.specs.Steps.{IsSearched, Thought, ThoughtOf};
 
 use crate::turns::step;
 use alloc_rules::{Decision, decide, may_schedule};
-use api_claim::ClaimStatus;
-use cluster::{JobState, Mode, Ready, Target};
+use cluster::JobState;
+use commands::Command;
 use ledger_core::{Ledger, LedgerError, Snapshot, histories_grow, legal_steps};
-use object_fields::{FieldError, Key};
+use object_fields::Key;
 use std::alloc::{AllocError, Global};
 use std::mem;
-
-/// What a job is to do.
-#[derive(Drop)]
-pub enum Command {
-    /// To create or update an object whose selectors are compiled, by the mode.
-    Apply(Ready, Mode),
-    /// To refuse a document, whose fields or selectors have this first error.
-    Invalid(FieldError),
-    /// To take an object away.
-    Delete(Target),
-    /// To find devices for a pod, and to bind it to their node, in at most so many attempts.
-    Schedule(Key, u64),
-    /// To take the uses of a bound pod away.
-    Release(Key),
-    /// To grant a claim what a status write says.
-    Adopt(Key, ClaimStatus),
-}
 
 /// What a work keeps between two turns.
 #[derive(Drop)]

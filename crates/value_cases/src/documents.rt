@@ -1,7 +1,8 @@
 use crate::fields::error_text;
 use crate::input::{CaseError, json, text};
-use cluster::{Object, Target};
-use commands::{Command, read_commands};
+use cluster::{Mode, Object, Target};
+use commands::{Command, Given, GivenError, commands};
+use doc_split::Doc;
 use std::alloc::{AllocError, Global};
 
 /// What a document asks for. The input is the document itself, or a JSON text that has a character
@@ -31,22 +32,31 @@ fn bytes(alloc: Global, text: &str) -> Result<Vec<u8>, CaseError> {
     Ok(bytes)
 }
 
+/// How many attempts a Schedule of a case makes.
+const ATTEMPTS: u64 = 32;
+
 /// What the document asks for, as text.
 fn asked(alloc: Global, document: &[u8]) -> Result<String, AllocError> {
-    match read_commands(alloc, document)? {
-        None => String::from_str(alloc, "no command"),
-        Some(commands) => commands_text(alloc, commands.as_slice()),
+    let doc = Doc {
+        at: 0,
+        bytes: document.to_vec(alloc)?,
+    };
+    match commands(alloc, &doc, ATTEMPTS) {
+        Ok(given) => given_text(alloc, &given),
+        Err(GivenError::NotJson) => String::from_str(alloc, "not JSON"),
+        Err(GivenError::NotACommand) => String::from_str(alloc, "no command"),
+        Err(GivenError::Memory) => Err(AllocError),
     }
 }
 
-/// What the commands ask for, one after another.
-fn commands_text(alloc: Global, commands: &[Command]) -> Result<String, AllocError> {
+/// What the document asks for, one after another.
+fn given_text(alloc: Global, all: &[Given]) -> Result<String, AllocError> {
     let mut text = String::new(alloc);
-    for command in commands {
+    for given in all {
         if !text.is_empty() {
             text.push_str(", ")?;
         }
-        push_command(alloc, command, &mut text)?;
+        push_given(alloc, given, &mut text)?;
     }
     if text.is_empty() {
         text.push_str("nothing")?;
@@ -54,15 +64,39 @@ fn commands_text(alloc: Global, commands: &[Command]) -> Result<String, AllocErr
     Ok(text)
 }
 
+/// What is asked for, as text.
+fn push_given(alloc: Global, given: &Given, text: &mut String) -> Result<(), AllocError> {
+    match given {
+        Given::One(command) => push_command(alloc, command, text),
+        Given::Together(commands) => push_together(alloc, commands.as_slice(), text),
+        Given::Prepare(key) => write!(text, "prepare {key}"),
+        Given::Unprepare(key) => write!(text, "unprepare {key}"),
+        Given::Reopen => text.push_str("reopen"),
+    }
+}
+
+/// The commands that run at the same time, each between brackets.
+fn push_together(alloc: Global, commands: &[Command], text: &mut String) -> Result<(), AllocError> {
+    text.push_str("together")?;
+    for command in commands {
+        text.push_str(" [")?;
+        push_command(alloc, command, text)?;
+        text.push_str("]")?;
+    }
+    Ok(())
+}
+
 /// What the command asks for, as text.
 fn push_command(alloc: Global, command: &Command, text: &mut String) -> Result<(), AllocError> {
     match command {
+        Command::Apply(ready, Mode::Apply) => push_object(ready.object(), text),
+        Command::Apply(_, _) => text.push_str("another mode"),
         Command::Invalid(error) => write!(text, "invalid {}", error_text(alloc, error)?),
-        Command::NotBuilt => text.push_str("not built"),
-        Command::Schedule(key) => write!(text, "schedule {key}"),
-        Command::Release(key) => write!(text, "release {key}"),
         Command::Delete(target) => push_target(target, text),
-        Command::Apply(ready) => push_object(ready.object(), text),
+        Command::Schedule(key, attempts) if *attempts == ATTEMPTS => write!(text, "schedule {key}"),
+        Command::Schedule(key, attempts) => write!(text, "schedule {key} in {attempts}"),
+        Command::Release(key) => write!(text, "release {key}"),
+        Command::Adopt(key, _) => write!(text, "adopt {key}"),
     }
 }
 

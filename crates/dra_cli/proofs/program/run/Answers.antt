@@ -17,7 +17,7 @@ use Rattle.alloc_rules.specs.Plans.{VerdictBy}
 use Rattle.ledger_core.specs.Headline.{IsAdoptionOf, IsGrantOf, IsVerdictOf}
 use Rattle.ledger_core.specs.Limits.{ObjectsKept}
 use Rattle.ledger_core.specs.Users.{PodsUseClaims, UsersAreBusy}
-use Rattle.commands.specs.declared.command.Command as script
+use Rattle.commands.specs.declared.given.Given.{Given}
 use Rattle.replay_core.specs.declared.options.ReplayOptions.{ReplayOptions}
 use Rattle.replay_core.specs.Jobs.{RunOf}
 use Rattle.replay_core.specs.Replay.{EndsDone}
@@ -33,7 +33,7 @@ VerdictLaw : Type 0
 VerdictLaw = (front back : List Entry) (job : ℕ) (pod : Key) (verdict : Verdict) → Legal (front ++ record { job = job; event = VerdictGiven pod verdict } ∷ back) → IsVerdictOf front pod verdict
 
 BudgetLaw : Type 0
-BudgetLaw = (budget attempts : ℕ) (commands : List script.Command) (front back : List Entry) (job : ℕ) (pod : Key) (verdict : Verdict) → RunOf budget attempts commands (front ++ record { job = job; event = VerdictGiven pod verdict } ∷ back)
+BudgetLaw = (budget : ℕ) (commands : List Given) (front back : List Entry) (job : ℕ) (pod : Key) (verdict : Verdict) → RunOf budget commands (front ++ record { job = job; event = VerdictGiven pod verdict } ∷ back)
     → VerdictBy (state_at front verdict.at) pod budget verdict
 
 DenialLaw : Type 0
@@ -66,7 +66,7 @@ replayed options left before after grants verdicts budgets steps adoptions denia
     verdicts = λ front back job pod verdict e. verdicts front back job pod verdict (subst (λ (h : List Entry). Legal h) e d.run.legal);
     budgets = λ front back job pod verdict e.
         verdict_names (state_at front verdict.at) pod options.budget verdict
-        (budgets options.budget options.attempts (commands_of d.done) front back job pod verdict (subst (λ (h : List Entry). RunOf options.budget options.attempts (commands_of d.done) h) e d.run.run));
+        (budgets options.budget (commands_of d.done) front back job pod verdict (subst (λ (h : List Entry). RunOf options.budget (commands_of d.done) h) e d.run.run));
     refusals = λ front back job pod plan why e. (steps front (record { job = job; event = Refused pod plan why }) back (subst (λ (h : List Entry). Legal h) e d.run.legal)).stands;
     adoptions = λ front back job claim status e. adoptions front back job claim status (subst (λ (h : List Entry). Legal h) e d.run.legal);
     denials = λ front back job command refusal e. denials front back job command refusal (subst (λ (h : List Entry). Legal h) e d.run.legal);

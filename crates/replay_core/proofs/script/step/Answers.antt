@@ -8,13 +8,13 @@ pub returns-in-Ok-clause-ok : goal.returns-in-Ok-clause-ok
 returns-in-Ok-clause-ok g c = λ left before p.
     step_on c.args.options left before (g.K.Sink.written c.args.output.now) (g.K.Sink.written c.do_document.new.output)
     c.args.splitter.now c.next_document.new.self (g.S.Source.left c.args.input.now) (g.S.Source.left c.next_document.new.from) c.args.work.now c.do_document.new.work
-    c.in-Ok-Some.field-0 c.in-Ok-Some.doc c.in-Ok-Some.field-0-is c.in-Ok-Some.ensures.answers (rw c.deref.ensures.value at c.in-Ok.ensures.did) p
+    c.in-Ok-Some.field-0 c.in-Ok-Some.doc c.in-Ok-Some.field-0-is c.in-Ok-Some.ensures.answers c.in-Ok.ensures.did p
 
 pub returns-in-Ok-Some-clause-ends : goal.returns-in-Ok-Some-clause-ends
 returns-in-Ok-Some-clause-ends g c = λ left before p.
     step_ends c.lines_of_more.ensures c.args.options left before (g.K.Sink.written c.args.output.now) (g.K.Sink.written c.do_document.new.output)
     c.args.splitter.now c.next_document.new.self (g.S.Source.left c.args.input.now) (g.S.Source.left c.next_document.new.from) c.args.work.now c.do_document.new.work
-    c.in-Ok-Some.field-0 c.in-Ok-Some.doc c.in-Err-do_document.status c.in-Ok-Some.field-0-is c.in-Ok-Some.ensures.answers (rw c.deref.ensures.value at c.in-Err-do_document.ensures.stops) c.in-Err-do_document.ensures.sound p
+    c.in-Ok-Some.field-0 c.in-Ok-Some.doc c.in-Err-do_document.status c.in-Ok-Some.field-0-is c.in-Ok-Some.ensures.answers c.in-Err-do_document.ensures.stops c.in-Err-do_document.ensures.sound p
 
 pub returns-in-Ok-None-clause-ends : goal.returns-in-Ok-None-clause-ends
 returns-in-Ok-None-clause-ends g c = λ left before p.

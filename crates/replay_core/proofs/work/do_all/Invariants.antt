@@ -1,5 +1,6 @@
 use Rattle.std.proofs.Common.{◌≡◌, ◌++◌, List}
-use Rattle.commands.specs.declared.command.Command.{Command}
+use Rattle.commands.specs.declared.given.Given.{Given}
+use Rattle.replay_core.specs.Attempts.{AllMayTry}
 use Rattle.replay_core.specs.Progress.{IsReady, IsSound}
 use Rattle.replay_core.specs.Script.{at_each}
 use Rattle.replay_core.specs.Turns.{StandsOn}
@@ -8,8 +9,9 @@ use Rattle.replay_core.proofs.work.do_all.Given as goal
 -- those that were done, and those that are left
 abbrev pub invariant-loop-command : goal.invariant-loop-command
 invariant-loop-command g l = record {
-  front : List Command;
-  are : l.fn.commands ≡ front ++ l.command-iterator.rest.items;
+  front : List Given;
+  are : l.fn.commands.items ≡ front ++ l.command-iterator.rest.items;
+  may_try : AllMayTry l.command-iterator.rest.items;
   done : StandsOn l.options (at_each l.at front) l.fn.work l.work (g.K.Sink.written l.fn.output) (g.K.Sink.written l.output);
   ready : IsReady l.work;
   sound : IsSound l.work.ledger;

@@ -1,0 +1,114 @@
+-- What a document asks for may be tried.
+use Rattle.std.proofs.Common.{ℕ, ◌<◌, ◌≡◌, List, arith, subst}
+use Rattle.std.specs.Prelude.{Option, None, Some, Result, Ok, Err, IfSome, codes, option_map, option_and_then}
+use Rattle.serde_json.specs.Data.{Data, Items, no_items, item}
+use Rattle.object_fields.specs.declared.error.FieldError.{FieldError}
+use Rattle.object_fields.specs.declared.key.Key.{Key}
+use Rattle.cluster.specs.declared.object.Object.{Object}
+use Rattle.cluster.specs.declared.object.Target.{Target}
+use Rattle.commands.specs.declared.command.Command.{Command}
+use Rattle.commands.specs.declared.command.Command.TheVariants.{Delete, Schedule, Release}
+use Rattle.commands.specs.declared.document.Document.{Document}
+use Rattle.commands.specs.declared.document.Document.TheVariants as is
+use Rattle.commands.specs.declared.given.Given.{Given}
+use Rattle.commands.specs.declared.given.Given.TheVariants.{One, Together, Prepare, Unprepare, Reopen}
+use Rattle.commands.specs.Commands.{alone, applied, apply_of, before, delete_of, each_of, given_by, given_of, key_of, list_at, list_item, list_item_by, listed, release_of, schedule_of, target_of, together, together_of}
+use Rattle.commands.specs.Documents.{document_of}
+use Rattle.commands.specs.Objects.{ready_object}
+use Rattle.commands.specs.Readings.{Reading, asked, json_of, reading, reading_of}
+use Rattle.commands.specs.Readings as readings
+use Rattle.replay_core.specs.Attempts.{AllMayTry, MayTry}
+
+-- each of the commands may be tried, if there are any
+abbrev AskedMayTry : Reading → Type 0
+AskedMayTry (readings.Asks given) = AllMayTry given
+AskedMayTry readings.NotJson = Unit {0}
+AskedMayTry readings.NotACommand = Unit {0}
+
+applied_may_try : (r : Result Object FieldError) → MayTry (One (applied r))
+applied_may_try (Ok object) = omega arith
+applied_may_try (Err e) = omega arith
+
+deletes_may_try : (o : Option Target) → IfSome (option_map One (option_map Delete o)) MayTry
+deletes_may_try None = tt
+deletes_may_try (Some target) = omega arith
+
+schedules_may_try : (attempts : ℕ) (o : Option Key) → 0 < attempts → IfSome (option_map One (option_map (λ pod. Schedule pod attempts) o)) MayTry
+schedules_may_try attempts None some = tt
+schedules_may_try attempts (Some pod) some = some
+
+releases_may_try : (o : Option Key) → IfSome (option_map One (option_map Release o)) MayTry
+releases_may_try None = tt
+releases_may_try (Some pod) = omega arith
+
+prepares_may_try : (o : Option Key) → IfSome (option_map Prepare o) MayTry
+prepares_may_try None = tt
+prepares_may_try (Some pod) = tt
+
+unprepares_may_try : (o : Option Key) → IfSome (option_map Unprepare o) MayTry
+unprepares_may_try None = tt
+unprepares_may_try (Some pod) = tt
+
+togethers_may_try : (o : Option (List Command)) → IfSome (option_map Together o) MayTry
+togethers_may_try None = tt
+togethers_may_try (Some commands) = tt
+
+alone_may_try : (o : Option Given) → IfSome o MayTry → IfSome (alone o) AllMayTry
+alone_may_try None may = tt
+alone_may_try (Some g) may = (may, tt)
+
+item_may_try : (d : Data) (k : Option Document) → IfSome (list_item_by d k) MayTry
+item_may_try d None = tt
+item_may_try d (Some (is.Object kind)) = applied_may_try (ready_object kind d)
+item_may_try d (Some is.List) = tt
+item_may_try d (Some is.Delete) = tt
+item_may_try d (Some is.Schedule) = tt
+item_may_try d (Some is.Release) = tt
+item_may_try d (Some is.Prepare) = tt
+item_may_try d (Some is.Unprepare) = tt
+item_may_try d (Some is.Reopen) = tt
+item_may_try d (Some is.Together) = tt
+
+before_may_try : (o : Option Given) (os : Option (List Given)) → IfSome o MayTry → IfSome os AllMayTry → IfSome (before o os) AllMayTry
+before_may_try None os first rest = tt
+before_may_try (Some g) None first rest = tt
+before_may_try (Some g) (Some gs) first rest = (first, rest)
+
+each_may_try : (ds : Items) → IfSome (each_of list_item ds) AllMayTry
+each_may_try no_items = tt
+each_may_try (item d ds) = before_may_try (list_item d) (each_of list_item ds) (item_may_try d (document_of d)) (each_may_try ds)
+
+list_may_try : (o : Option Items) → IfSome (option_and_then (each_of list_item) o) AllMayTry
+list_may_try None = tt
+list_may_try (Some ds) = each_may_try ds
+
+given_may_try : (attempts : ℕ) (d : Data) (k : Document) → 0 < attempts → IfSome (given_by attempts d k) AllMayTry
+given_may_try attempts d (is.Object kind) some = (applied_may_try (ready_object kind d), tt)
+given_may_try attempts d is.List some = list_may_try (list_at (codes "items") d)
+given_may_try attempts d is.Delete some = alone_may_try (option_map One (delete_of d)) (deletes_may_try (target_of d))
+given_may_try attempts d is.Schedule some = alone_may_try (option_map One (schedule_of attempts d)) (schedules_may_try attempts (key_of d) some)
+given_may_try attempts d is.Release some = alone_may_try (option_map One (release_of d)) (releases_may_try (key_of d))
+given_may_try attempts d is.Prepare some = alone_may_try (option_map Prepare (key_of d)) (prepares_may_try (key_of d))
+given_may_try attempts d is.Unprepare some = alone_may_try (option_map Unprepare (key_of d)) (unprepares_may_try (key_of d))
+given_may_try attempts d is.Reopen some = (tt, tt)
+given_may_try attempts d is.Together some = alone_may_try (together attempts d) (togethers_may_try (option_and_then (together_of attempts) (list_at (codes "commands") d)))
+
+kind_may_try : (attempts : ℕ) (d : Data) (o : Option Document) → 0 < attempts → IfSome (option_and_then (given_by attempts d) o) AllMayTry
+kind_may_try attempts d None some = tt
+kind_may_try attempts d (Some k) some = given_may_try attempts d k some
+
+asked_may_try : (o : Option (List Given)) → IfSome o AllMayTry → AskedMayTry (asked o)
+asked_may_try None may = tt
+asked_may_try (Some gs) may = may
+
+value_may_try : (attempts : ℕ) (o : Option Data) → 0 < attempts → AskedMayTry (reading_of attempts o)
+value_may_try attempts None some = tt
+value_may_try attempts (Some d) some = asked_may_try (given_of attempts d) (kind_may_try attempts d (document_of d) some)
+
+reading_may_try : (attempts : ℕ) (bytes : List ℕ) → 0 < attempts → AskedMayTry (reading attempts bytes)
+unfolding reading
+reading_may_try attempts bytes some = value_may_try attempts (json_of bytes) some
+
+-- what a document asks for, where a Schedule makes at least one attempt
+pub document_may_try : (attempts : ℕ) (bytes : List ℕ) (gs : List Given) → 0 < attempts → reading attempts bytes ≡ readings.Asks gs → AllMayTry gs
+document_may_try attempts bytes gs some is = subst AskedMayTry is (reading_may_try attempts bytes some)
