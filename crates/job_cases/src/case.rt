@@ -3,8 +3,9 @@ use crate::options::Options;
 use crate::orders::read_orders;
 use crate::reader::Reader;
 use crate::report::print_case;
+use commands::Command;
 use ledger_core::{Ledger, LedgerError};
-use sched_job::{Command as Order, Work, run_alone, run_steps};
+use sched_job::{Work, run_alone, run_steps};
 use std::alloc::{AllocError, Global};
 
 /// No history may have room for this many entries.
@@ -15,7 +16,7 @@ fn run_next(
     alloc: Global,
     ledger: &mut Ledger,
     job: u64,
-    order: Order,
+    order: Command,
     budget: u64,
 ) -> Result<(), LedgerError> {
     if is_new(ledger, job, &order) {
@@ -28,7 +29,7 @@ fn run_next(
 fn run_each(
     alloc: Global,
     ledger: &mut Ledger,
-    orders: Vec<Order>,
+    orders: Vec<Command>,
     budget: u64,
 ) -> Result<u64, LedgerError> {
     let mut job: u64 = 0;
@@ -40,7 +41,7 @@ fn run_each(
 }
 
 /// The works of commands, of which the first is the job after this one.
-fn works_of(alloc: Global, orders: Vec<Order>, before: u64) -> Result<Vec<Work>, AllocError> {
+fn works_of(alloc: Global, orders: Vec<Command>, before: u64) -> Result<Vec<Work>, AllocError> {
     let mut job = before;
     let mut works = Vec::new(alloc);
     for order in orders {
@@ -70,7 +71,7 @@ fn step_orders(
     alloc: Global,
     ledger: &mut Ledger,
     last: u64,
-    orders: Vec<Order>,
+    orders: Vec<Command>,
     steps: &[usize],
     budget: u64,
     out: &mut Vec<u8>,
@@ -85,8 +86,8 @@ fn step_orders(
 /// Runs the commands of documents, and then makes steps of the works of other commands.
 fn run_orders(
     alloc: Global,
-    documents: Vec<Order>,
-    orders: Vec<Order>,
+    documents: Vec<Command>,
+    orders: Vec<Command>,
     steps: &[usize],
     options: Options,
     out: &mut Vec<u8>,

@@ -7,8 +7,9 @@ ghost use Rattle.sched_job.specs.Steps.{AllNew, Differ, jobs_of};
 ghost use Rattle.sched_job.specs.declared.work.Stage.TheVariants.{Ready};
 
 use cluster::JobState;
+use commands::Command;
 use ledger_core::Ledger;
-use sched_job::{Command, Stage, Work};
+use sched_job::{Stage, Work};
 
 /// Whether a command has an attempt.
 fn has_attempt(command: &Command) -> bool

@@ -1,35 +1,28 @@
 use crate::reader::Reader;
 use api_claim::ClaimStatus;
 use cluster::Mode;
-use commands::{Command, read_commands};
-use dra_values::Seq;
+use commands::{Command, Given, GivenError, commands};
+use doc_split::Doc;
 use object_fields::{FieldError, FieldErrorKind, ObjectMeta, Scope};
-use sched_job::Command as Order;
 use serde_json::Value;
 use std::alloc::{AllocError, Global};
 
-/// What the job of a command does; None if the command isn't of a supported form.
-fn order_of(command: Command, mode: Mode, attempts: u64) -> Option<Order> {
+/// The command, of which an object is applied by the mode.
+fn by_mode(command: Command, mode: Mode) -> Command {
     match command {
-        Command::Apply(ready) => Some(Order::Apply(ready, mode)),
-        Command::Invalid(error) => Some(Order::Invalid(error)),
-        Command::Delete(target) => Some(Order::Delete(target)),
-        Command::Schedule(pod) => Some(Order::Schedule(pod, attempts)),
-        Command::Release(pod) => Some(Order::Release(pod)),
-        Command::NotBuilt => None,
+        Command::Apply(ready, _) => Command::Apply(ready, mode),
+        other => other,
     }
 }
 
-fn push_each(
-    commands: Seq<Command>,
-    mode: Mode,
-    attempts: u64,
-    orders: &mut Vec<Order>,
-) -> Result<bool, AllocError> {
-    for command in commands.into_vec() {
-        match order_of(command, mode, attempts) {
-            Some(order) => orders.push(order)?,
-            None => return Ok(false),
+/// Appends what a document asks for, if all of it is commands.
+fn push_each(given: Vec<Given>, mode: Mode, orders: &mut Vec<Command>) -> Result<bool, AllocError> {
+    for one in given {
+        match one {
+            Given::One(command) => orders.push(by_mode(command, mode))?,
+            Given::Together(_) | Given::Prepare(_) | Given::Unprepare(_) | Given::Reopen => {
+                return Ok(false);
+            }
         }
     }
     Ok(true)
@@ -41,37 +34,46 @@ fn push_commands(
     document: &str,
     mode: Mode,
     attempts: u64,
-    orders: &mut Vec<Order>,
+    orders: &mut Vec<Command>,
 ) -> Result<bool, AllocError> {
-    match read_commands(alloc, document.as_bytes())? {
-        Some(commands) => push_each(commands, mode, attempts, orders),
-        None => Ok(false),
+    let doc = Doc {
+        at: 0,
+        bytes: document.as_bytes().to_vec(alloc)?,
+    };
+    match commands(alloc, &doc, attempts) {
+        Ok(given) => push_each(given, mode, orders),
+        Err(GivenError::NotJson | GivenError::NotACommand) => Ok(false),
+        Err(GivenError::Memory) => Err(AllocError),
     }
 }
 
 /// The status write of a claim's document.
-fn read_status(alloc: Global, value: &Value) -> Result<Order, FieldError> {
+fn read_status(alloc: Global, value: &Value) -> Result<Command, FieldError> {
     let status = ClaimStatus::read(alloc, value)?;
     let meta = ObjectMeta::read(alloc, value, Scope::Namespaced)?;
-    Ok(Order::Adopt(meta.key, status))
+    Ok(Command::Adopt(meta.key, status))
 }
 
 /// The same, or Invalid with the error.
-fn status_order(alloc: Global, value: &Value) -> Result<Order, AllocError> {
+fn status_order(alloc: Global, value: &Value) -> Result<Command, AllocError> {
     match read_status(alloc, value) {
         Ok(order) => Ok(order),
         Err(error) => {
             if error.kind == FieldErrorKind::Memory {
                 Err(AllocError)
             } else {
-                Ok(Order::Invalid(error))
+                Ok(Command::Invalid(error))
             }
         }
     }
 }
 
 /// Appends the status write of a claim's document.
-fn push_status(alloc: Global, document: &str, orders: &mut Vec<Order>) -> Result<bool, AllocError> {
+fn push_status(
+    alloc: Global,
+    document: &str,
+    orders: &mut Vec<Command>,
+) -> Result<bool, AllocError> {
     match Value::from_str(alloc, document) {
         Ok(value) => {
             orders.push(status_order(alloc, &value)?)?;
@@ -92,7 +94,7 @@ fn push_line(
     alloc: Global,
     line: &str,
     attempts: u64,
-    orders: &mut Vec<Order>,
+    orders: &mut Vec<Command>,
 ) -> Result<bool, AllocError> {
     let (verb, document) = line.split_once(' ').unwrap_or((line, ""));
     match verb {
@@ -108,7 +110,7 @@ pub fn read_orders(
     alloc: Global,
     lines: &[u8],
     attempts: u64,
-) -> Result<Option<Vec<Order>>, AllocError> {
+) -> Result<Option<Vec<Command>>, AllocError> {
     let mut reader = Reader::new(lines);
     let mut orders = Vec::new(alloc);
     for _ in 0..=lines.len() {

@@ -3,10 +3,11 @@ ghost use Rattle.sched_job.specs.Runs.{attempts_of};
 
 use crate::input::{CaseError, cut_word, number};
 use crate::setup::Setup;
-use cluster::{Entry, Event, JobState, Mode};
-use commands::{Command, read_commands};
+use cluster::{Entry, Event, JobState};
+use commands::{Command, Given, GivenError, commands};
+use doc_split::Doc;
 use journal_text::line;
-use sched_job::{Command as Order, run_alone};
+use sched_job::run_alone;
 use std::alloc::{AllocError, Global};
 use std::str;
 
@@ -14,29 +15,52 @@ use std::str;
 const BUDGET: u64 = 100_000;
 
 /// Runs a job to its end.
-fn run(alloc: Global, setup: &mut Setup, order: Order) -> Result<(), CaseError>
-    requires { 0 < attempts_of order }
+fn run(alloc: Global, setup: &mut Setup, command: Command) -> Result<(), CaseError>
+    requires { 0 < attempts_of command }
 {
     let job = setup.jobs.saturating_add(1);
     match setup.ledger.stand(job) {
         JobState::Fresh => {
             setup.jobs = job;
-            run_alone(alloc, &mut setup.ledger, job, order, BUDGET)?;
+            run_alone(alloc, &mut setup.ledger, job, command, BUDGET)?;
             Ok(())
         }
         _ => Err(CaseError::BadCase),
     }
 }
 
-/// Does a command as the next job.
+/// Does a command as the next job; a Schedule makes one attempt.
 fn do_command(alloc: Global, setup: &mut Setup, command: Command) -> Result<(), CaseError> {
     match command {
-        Command::Apply(ready) => run(alloc, setup, Order::Apply(ready, Mode::Apply)),
-        Command::Invalid(error) => run(alloc, setup, Order::Invalid(error)),
-        Command::Delete(target) => run(alloc, setup, Order::Delete(target)),
-        Command::Schedule(pod) => run(alloc, setup, Order::Schedule(pod, 1)),
-        Command::Release(pod) => run(alloc, setup, Order::Release(pod)),
-        Command::NotBuilt => Err(CaseError::BadCase),
+        Command::Apply(ready, mode) => run(alloc, setup, Command::Apply(ready, mode)),
+        Command::Invalid(error) => run(alloc, setup, Command::Invalid(error)),
+        Command::Delete(target) => run(alloc, setup, Command::Delete(target)),
+        Command::Schedule(pod, _) => run(alloc, setup, Command::Schedule(pod, 1)),
+        Command::Release(pod) => run(alloc, setup, Command::Release(pod)),
+        Command::Adopt(claim, status) => run(alloc, setup, Command::Adopt(claim, status)),
+    }
+}
+
+/// Does what a document asks for, if that is a command.
+fn do_given(alloc: Global, setup: &mut Setup, given: Given) -> Result<(), CaseError> {
+    match given {
+        Given::One(command) => do_command(alloc, setup, command),
+        Given::Together(_) | Given::Prepare(_) | Given::Unprepare(_) | Given::Reopen => {
+            Err(CaseError::BadCase)
+        }
+    }
+}
+
+/// What a document asks for.
+fn given_in(alloc: Global, document: &str) -> Result<Vec<Given>, CaseError> {
+    let doc = Doc {
+        at: 0,
+        bytes: document.as_bytes().to_vec(alloc)?,
+    };
+    match commands(alloc, &doc, 1) {
+        Ok(given) => Ok(given),
+        Err(GivenError::NotJson | GivenError::NotACommand) => Err(CaseError::BadCase),
+        Err(GivenError::Memory) => Err(CaseError::Memory),
     }
 }
 
@@ -77,11 +101,8 @@ pub fn do_document(
     setup: &mut Setup,
     document: &str,
 ) -> Result<Option<String>, CaseError> {
-    let Some(commands) = read_commands(alloc, document.as_bytes())? else {
-        return Err(CaseError::BadCase);
-    };
-    for command in commands.into_vec() {
-        do_command(alloc, setup, command)?;
+    for given in given_in(alloc, document)? {
+        do_given(alloc, setup, given)?;
         let line = undone(alloc, setup)?;
         if line.is_some() {
             return Ok(line);
