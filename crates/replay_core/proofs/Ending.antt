@@ -11,7 +11,7 @@ use Rattle.doc_split.specs.Split.{Split, remaining}
 use Rattle.ledger_core.specs.Ledger.{History}
 use Rattle.journal_text.specs.Journal.{lines_from, summary_of, text_of}
 use Rattle.commands.specs.declared.given.Given.{Given}
-use Rattle.commands.specs.Readings.{Reading, reading}
+use Rattle.commands.specs.Readings.{reading}
 use Rattle.commands.specs.Readings as readings
 use Rattle.replay_core.specs.declared.options.ReplayOptions.{ReplayOptions}
 use Rattle.replay_core.specs.declared.status.Status.{Status}

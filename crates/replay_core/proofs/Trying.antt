@@ -11,8 +11,8 @@ use Rattle.commands.specs.declared.command.Command.TheVariants.{Delete, Schedule
 use Rattle.commands.specs.declared.document.Document.{Document}
 use Rattle.commands.specs.declared.document.Document.TheVariants as is
 use Rattle.commands.specs.declared.given.Given.{Given}
-use Rattle.commands.specs.declared.given.Given.TheVariants.{One, Together, Prepare, Unprepare, Reopen}
-use Rattle.commands.specs.Commands.{alone, applied, apply_of, before, delete_of, each_of, given_by, given_of, key_of, list_at, list_item, list_item_by, listed, release_of, schedule_of, target_of, together, together_of}
+use Rattle.commands.specs.declared.given.Given.TheVariants.{One, Together, Prepare, Unprepare}
+use Rattle.commands.specs.Commands.{alone, applied, before, delete_of, each_of, given_by, given_of, key_of, list_at, list_item, list_item_by, release_of, schedule_of, target_of, together, together_of}
 use Rattle.commands.specs.Documents.{document_of}
 use Rattle.commands.specs.Objects.{ready_object}
 use Rattle.commands.specs.Readings.{Reading, asked, json_of, reading, reading_of}

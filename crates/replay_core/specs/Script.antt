@@ -1,5 +1,5 @@
 -- What an input asks for.
-use Rattle.std.specs.Prelude.{ℕ, ◌≡◌, Bool, true, false, List, [], ◌∷◌, ◌++◌, Option, None, Some, map}
+use Rattle.std.specs.Prelude.{ℕ, Bool, true, false, List, [], ◌∷◌, ◌++◌, Option, None, Some, map}
 use Rattle.doc_split.specs.Documents.{Document, Documents}
 use Rattle.doc_split.specs.Documents as documents
 use Rattle.doc_split.specs.Limits.{documents_at, the_limits}

@@ -10,7 +10,6 @@ use Rattle.cluster.specs.declared.entry.Entry.{Entry}
 use Rattle.cluster.specs.declared.entry.Event.TheVariants.{Reserved, Refused, VerdictGiven, Adopted, Denied}
 use Rattle.ledger_core.specs.Legal.{Legal, Step}
 use Rattle.api_claim.specs.declared.types.ClaimStatus.{ClaimStatus}
-use Rattle.cluster.specs.declared.failure.Failure.{Failure}
 use Rattle.ledger_core.specs.Denied.{MayDeny}
 use Rattle.cluster.specs.History.{state_at, state_of}
 use Rattle.alloc_rules.specs.Plans.{VerdictBy}
