@@ -20,8 +20,13 @@ use Rattle.cluster.specs.History.{state_at, state_of}
 use Rattle.ledger_core.specs.Headline.{IsAdoptionOf, IsGrantOf, IsVerdictOf}
 use Rattle.ledger_core.specs.Limits.{ObjectsKept}
 use Rattle.ledger_core.specs.Users.{PodsUseClaims, UsersAreBusy}
+use Rattle.commands.specs.declared.command.Command.TheVariants.{Schedule}
+use Rattle.commands.specs.declared.given.Given.{Given}
+use Rattle.commands.specs.declared.given.Given.TheVariants.{One}
 use Rattle.replay_core.specs.declared.options.ReplayOptions.{ReplayOptions}
+use Rattle.replay_core.specs.Complete.{Scheduled}
 use Rattle.replay_core.specs.Replay.{EndsDone}
+use Rattle.replay_core.specs.Script.{commands_of}
 
 -- each node whose cause is the budget was searched with this one
 abbrev pub NamesBudget : ℕ → Reason → Type 0
@@ -50,7 +55,10 @@ pub record IsTrueHistory (budget : ℕ) (h : List Entry) : Type 0 where
   pub users : (place : ℕ) → UsersAreBusy (state_at h place)
   pub uses : (place : ℕ) → PodsUseClaims (state_at h place)
 
--- all commands of the script were done, what was written is the text of their history, and it is true
+-- All commands of the script were done, what was written is the text of their history, and it is true. Each Schedule
+-- that is a single command is complete: if its pod is there and Idle after the entries of the commands before it, the
+-- pod is bound to the first node by name that fits, or its one entry is the verdict that says why not.
 pub record Replayed (options : ReplayOptions) (left before after : Option (List ℕ)) : Type 0 where
   pub ends : EndsDone options left before after
   pub history : IsTrueHistory options.budget ends.history
+  pub schedules : (front back : List Given) (pod : Key) (attempts : ℕ) → commands_of ends.done ≡ front ++ One (Schedule pod attempts) ∷ back → Scheduled options.budget front pod attempts ends.history

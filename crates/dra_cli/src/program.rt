@@ -15,7 +15,7 @@ use ledger_core::{
     adoptions_are_allocations, denials_change_nothing, grants_are_allocations, legal_steps,
     objects_keep_limits, one_holder, pods_use_claims, users_are_busy, verdicts_are_true,
 };
-use replay_core::{Status, replay, runs_search_within};
+use replay_core::{Status, replay, runs_are_complete, runs_search_within};
 
 /// Does what the arguments of a call, without the program's name, ask for, over the objects that
 /// are passed in: `replay`, with its options after it, replays the script that the input is and
@@ -38,7 +38,9 @@ use replay_core::{Status, replay, runs_search_within};
 /// perhaps all of it.
 ///
 /// Each command that was done is of a supported form, its searches are those within the budget of the
-/// option, and the history has at most as many entries as the option says.
+/// option, and the history has at most as many entries as the option says. With `Done` each Schedule that
+/// is a single command is complete: if its pod is there and Idle as it begins, the pod is bound to the
+/// first node by name that fits within the budget, or its one entry is the verdict that says why not.
 pub fn run<R: AllocGlobal, S: Source, K: Sink>(
     rt: &R,
     words: &Vec<String>,
@@ -70,6 +72,7 @@ pub fn run<R: AllocGlobal, S: Source, K: Sink>(
     objects_keep_limits();
     users_are_busy();
     pods_use_claims();
+    runs_are_complete();
     runs_search_within();
     match options_of(words) {
         Some(options) => replay(rt.alloc(), options, input, output),

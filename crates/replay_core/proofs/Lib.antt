@@ -6,4 +6,5 @@ pub mod Scripts
 pub mod Ending
 pub mod Turns
 pub mod Searched
+pub mod Completing
 pub mod Trying

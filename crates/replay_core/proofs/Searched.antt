@@ -35,7 +35,7 @@ pub record GoesFrom (before after : List Entry) : Type 0 where
   pub rest : List Entry
   pub is : after ≡ before ++ rest
 
-run_goes : (budget n : ℕ) (before : List Entry) (cs : List Given) (after : List Entry) → RunFrom budget n before cs after → GoesFrom before after
+pub run_goes : (budget n : ℕ) (before : List Entry) (cs : List Given) (after : List Entry) → RunFrom budget n before cs after → GoesFrom before after
 unfolding RunFrom
 run_goes budget n before [] after is = record { rest = []; is = is ∙ sym (append-nil before) }
 run_goes budget n before (c ∷ cs) after r =

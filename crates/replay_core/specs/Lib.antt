@@ -1,6 +1,7 @@
 pub mod Forms
 pub mod Script
 pub mod Jobs
+pub mod Complete
 pub mod Attempts
 pub mod Doing
 pub mod Stops

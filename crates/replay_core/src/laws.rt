@@ -6,8 +6,14 @@ ghost use Rattle.cluster.specs.declared.entry.Entry.{Entry};
 ghost use Rattle.cluster.specs.declared.entry.Event.{Event};
 ghost use Rattle.cluster.specs.History.{state_at};
 ghost use Rattle.alloc_rules.specs.Plans.{PlanBy, VerdictBy};
+ghost use Rattle.commands.specs.declared.command.Command.{Command};
 ghost use Rattle.commands.specs.declared.given.Given.{Given};
+ghost use Rattle.ledger_core.specs.Legal.{Legal};
+ghost use Rattle.replay_core.specs.Complete.{Scheduled};
 ghost use Rattle.replay_core.specs.Jobs.{RunOf};
+
+use ledger_core::legal_steps;
+use sched_job::{alone_is_undisturbed, schedules_are_complete};
 
 /// In the run of commands with a budget, each plan and each verdict is what searches of the nodes
 /// within that budget return at its index.
@@ -17,3 +23,16 @@ pub fn runs_search_within()
     ensures verdicts { (budget : ℕ) (commands : List Given) (front back : List Entry) (job : ℕ) (pod : Key) (verdict : Verdict) →
         RunOf budget commands (front ++ record { job = job; event = Event.VerdictGiven pod verdict } ∷ back) → VerdictBy (state_at front verdict.at) pod budget verdict }
 {}
+
+/// In a legal history that is the run of commands with a budget, each Schedule that is a single command
+/// is complete: if its pod is there and Idle after the entries of the commands before it, the pod is bound
+/// to the first node by name that fits in that state within the budget, or the one entry is the verdict
+/// that says why not.
+pub fn runs_are_complete()
+    ensures { (budget : ℕ) (front back : List Given) (pod : Key) (attempts : ℕ) (h : List Entry) → Legal h →
+        RunOf budget (front ++ Given.One (Command.Schedule pod attempts) ∷ back) h → Scheduled budget front pod attempts h }
+{
+    alone_is_undisturbed();
+    legal_steps();
+    schedules_are_complete();
+}

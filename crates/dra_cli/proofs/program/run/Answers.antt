@@ -16,8 +16,11 @@ use Rattle.alloc_rules.specs.Plans.{VerdictBy}
 use Rattle.ledger_core.specs.Headline.{IsAdoptionOf, IsGrantOf, IsVerdictOf}
 use Rattle.ledger_core.specs.Limits.{ObjectsKept}
 use Rattle.ledger_core.specs.Users.{PodsUseClaims, UsersAreBusy}
+use Rattle.commands.specs.declared.command.Command.TheVariants.{Schedule}
 use Rattle.commands.specs.declared.given.Given.{Given}
+use Rattle.commands.specs.declared.given.Given.TheVariants.{One}
 use Rattle.replay_core.specs.declared.options.ReplayOptions.{ReplayOptions}
+use Rattle.replay_core.specs.Complete.{Scheduled}
 use Rattle.replay_core.specs.Jobs.{RunOf}
 use Rattle.replay_core.specs.Replay.{EndsDone}
 use Rattle.replay_core.specs.Script.{commands_of}
@@ -56,9 +59,12 @@ UserLaw = (h : List Entry) (place : ℕ) → Legal h → UsersAreBusy (state_at 
 UseLaw : Type 0
 UseLaw = (h : List Entry) (place : ℕ) → Legal h → PodsUseClaims (state_at h place)
 
-replayed : (options : ReplayOptions) (left before after : Option (List ℕ)) → GrantLaw → VerdictLaw → BudgetLaw → StepLaw → AdoptionLaw → DenialLaw → HolderLaw → LimitLaw → UserLaw → UseLaw → EndsDone options left before after → Replayed options left before after
-unfolding GrantLaw VerdictLaw BudgetLaw StepLaw AdoptionLaw DenialLaw HolderLaw LimitLaw UserLaw UseLaw
-replayed options left before after grants verdicts budgets steps adoptions denials holders limits users uses d = record {
+CompleteLaw : Type 0
+CompleteLaw = (budget : ℕ) (front back : List Given) (pod : Key) (attempts : ℕ) (h : List Entry) → Legal h → RunOf budget (front ++ One (Schedule pod attempts) ∷ back) h → Scheduled budget front pod attempts h
+
+replayed : (options : ReplayOptions) (left before after : Option (List ℕ)) → GrantLaw → VerdictLaw → BudgetLaw → StepLaw → AdoptionLaw → DenialLaw → HolderLaw → LimitLaw → UserLaw → UseLaw → CompleteLaw → EndsDone options left before after → Replayed options left before after
+unfolding GrantLaw VerdictLaw BudgetLaw StepLaw AdoptionLaw DenialLaw HolderLaw LimitLaw UserLaw UseLaw CompleteLaw
+replayed options left before after grants verdicts budgets steps adoptions denials holders limits users uses complete d = record {
   ends = d;
   history = record {
     grants = λ front back job pod plan e. grants front back job pod plan (subst (λ (h : List Entry). Legal h) e d.run.legal);
@@ -74,11 +80,13 @@ replayed options left before after grants verdicts budgets steps adoptions denia
     users = λ place. users d.history place d.run.legal;
     uses = λ place. uses d.history place d.run.legal;
   };
+  schedules = λ front back pod attempts e.
+      complete options.budget front back pod attempts d.history d.run.legal (subst (λ (cs : List Given). RunOf options.budget cs d.history) e d.run.run);
 }
 
 pub returns-in-Some-clause-done : goal.returns-in-Some-clause-done
-unfolding GrantLaw VerdictLaw BudgetLaw StepLaw AdoptionLaw DenialLaw HolderLaw LimitLaw UserLaw UseLaw
+unfolding GrantLaw VerdictLaw BudgetLaw StepLaw AdoptionLaw DenialLaw HolderLaw LimitLaw UserLaw UseLaw CompleteLaw
 returns-in-Some-clause-done g c = λ is.
     asks (map string_bytes c.args.words.now.items) _ c.options_of.result c.in-Some.options (search rules) c.in-Some.is
-    (replayed c.in-Some.options _ _ _ c.grants_are_allocations.ensures c.verdicts_are_true.ensures c.runs_search_within.ensures.verdicts c.legal_steps.ensures.step c.adoptions_are_allocations.ensures c.denials_change_nothing.ensures.due c.one_holder.ensures.always c.objects_keep_limits.ensures.always c.users_are_busy.ensures.always c.pods_use_claims.ensures.always
+    (replayed c.in-Some.options _ _ _ c.grants_are_allocations.ensures c.verdicts_are_true.ensures c.runs_search_within.ensures.verdicts c.legal_steps.ensures.step c.adoptions_are_allocations.ensures c.denials_change_nothing.ensures.due c.one_holder.ensures.always c.objects_keep_limits.ensures.always c.users_are_busy.ensures.always c.pods_use_claims.ensures.always c.runs_are_complete.ensures
     (rw is at c.replay.ensures.ends))

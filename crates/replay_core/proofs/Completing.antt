@@ -1,0 +1,143 @@
+-- What a Schedule that is a single command comes to.
+use Rattle.std.proofs.Common.{ℕ, ◌+◌, ◌≡◌, List, [], ◌∷◌, ◌++◌, Bool, true, eqb, Some, None, length, refl, sym, ap, subst, arith, eq-eqb}
+use Rattle.std.proofs.Math.Seq.{take-append_seam}
+use Rattle.std.specs.Prelude.{◌||◌, false}
+use Rattle.object_fields.specs.declared.key.Key.{Key}
+use Rattle.cluster.specs.declared.entry.Entry.{Entry}
+use Rattle.cluster.specs.declared.plan.Grant.{Grant}
+use Rattle.cluster.specs.declared.plan.Reason.TheVariants.{Missing, Users}
+use Rattle.cluster.specs.declared.state.PodState.{PodState}
+use Rattle.cluster.specs.declared.state.State.{State}
+use Rattle.cluster.specs.History.{state_at, state_of}
+use Rattle.allocations.specs.Claims.{missing_claim, other_claim, wanted}
+use Rattle.allocations.specs.Allocation.{IsAllocation}
+use Rattle.alloc_rules.specs.Plans.{IsFirstFull, IsIdle, MaySearch}
+use Rattle.ledger_core.specs.Legal.{Legal}
+use Rattle.commands.specs.declared.command.Command.{Command}
+use Rattle.commands.specs.declared.command.Command.TheVariants.{Schedule}
+use Rattle.commands.specs.declared.given.Given.{Given}
+use Rattle.commands.specs.declared.given.Given.TheVariants.{One}
+use Rattle.sched_job.specs.Alone.{Alone}
+use Rattle.sched_job.specs.Complete.{AllSettle, BoundTo, Decided, JudgedBy, PassedAll, RanAlone, first_fit}
+use Rattle.sched_job.specs.Runs.{Run}
+use Rattle.sched_job.specs.Runs as runs
+use Rattle.sched_job.specs.Steps.{AllOf, Extends}
+use Rattle.replay_core.specs.Complete.{IsComplete, Scheduled}
+use Rattle.replay_core.specs.Jobs.{AllOwn, JobRun, RunFrom, RunOf, run_after}
+use Rattle.replay_core.proofs.Searched.{GoesFrom, run_goes}
+
+-- what is used of the lower crates
+pub record Laws : Type 0 where
+  pub front : (front back : List Entry) → Legal (front ++ back) → Legal front
+  pub alone : (job : ℕ) (h h' : List Entry) → Extends (job ∷ []) h h' → Alone job (length h) h'
+  pub decided : (c : Run) (h : List Entry) (pod : Key) (p : PodState) → RanAlone c h pod p → Decided c h pod p
+  pub bound : (c : Run) (h : List Entry) (pod : Key) (p : PodState) (node : List ℕ) → RanAlone c h pod p → MaySearch (state_at h c.from) pod p
+      → first_fit (state_at h c.from) p.pod.object c.budget ≡ Some node → BoundTo c h pod p node
+  pub passed : (c : Run) (h : List Entry) (pod : Key) (p : PodState) → RanAlone c h pod p → MaySearch (state_at h c.from) pod p
+      → first_fit (state_at h c.from) p.pod.object c.budget ≡ None → PassedAll c h pod p
+  pub found : (c : Run) (h : List Entry) (pod : Key) (p : PodState) (node choice : List ℕ) (grants : List Grant) → RanAlone c h pod p → MaySearch (state_at h c.from) pod p
+      → AllSettle (state_at h c.from) p.pod.object c.budget → other_claim (state_at h c.from) p.pod.object node ≡ None
+      → IsAllocation (state_at h c.from) (wanted (state_at h c.from) p.pod.object) node choice grants → (first : List ℕ) × BoundTo c h pod p first
+  pub missing : (c : Run) (h : List Entry) (pod : Key) (p : PodState) (claim : Key) → RanAlone c h pod p → missing_claim (state_at h c.from) p.pod.object ≡ Some claim
+      → JudgedBy c h pod (Missing claim)
+  pub full : (c : Run) (h : List Entry) (pod : Key) (p : PodState) (claim : Key) → RanAlone c h pod p → IsFirstFull (state_at h c.from) pod p claim → JudgedBy c h pod (Users claim)
+
+-- where the entries of one command are
+record Cut (budget n : ℕ) (first : List Entry) (front : List Given) (g : Given) (h : List Entry) : Type 0 where
+  before : List Entry
+  segment : List Entry
+  rest : List Entry
+  is : h ≡ (before ++ segment) ++ rest
+  earlier : RunFrom budget n first front before
+  run : JobRun (n + length front + 1) g budget before segment
+
+cut : (budget n : ℕ) (first : List Entry) (front : List Given) (g : Given) (back : List Given) (h : List Entry) → RunFrom budget n first (front ++ g ∷ back) h → Cut budget n first front g h
+unfolding RunFrom
+cut budget n first [] g back h r =
+    let goes : GoesFrom (first ++ r.0) h = run_goes budget (n + 1) (first ++ r.0) back h r.2 in
+    let eq : n + 1 ≡ n + 0 + 1 = omega arith in
+    record {
+      before = first;
+      segment = r.0;
+      rest = goes.rest;
+      is = goes.is;
+      earlier = refl;
+      run = subst (λ (k : ℕ). JobRun k g budget first r.0) eq r.1;
+    }
+cut budget n first (d ∷ front) g back h r =
+    let s : Cut budget (n + 1) (first ++ r.0) front g h = cut budget (n + 1) (first ++ r.0) front g back h r.2 in
+    let eq : n + 1 + length front + 1 ≡ n + length (d ∷ front) + 1 = omega arith in
+    record {
+      before = s.before;
+      segment = s.segment;
+      rest = s.rest;
+      is = s.is;
+      earlier = (r.0, r.1, s.earlier);
+      run = subst (λ (k : ℕ). JobRun k g budget s.before s.segment) eq s.run;
+    }
+
+or_true : (b : Bool) → b ≡ true → (b || false) ≡ true
+or_true b e = ap (λ (x : Bool). x || false) e
+
+-- a job's own entries are of that job alone
+all_of : (job : ℕ) (es : List Entry) → AllOwn job es → AllOf (job ∷ []) es
+unfolding AllOwn
+all_of job [] own = tt
+all_of job (e ∷ es) own = (or_true (eqb e.job job) (eq-eqb e.job job own.0), all_of job es own.1)
+
+-- what is asked for is what the job does
+ran_as : (job : ℕ) (o : Command) (budget : ℕ) (before segment : List Entry) → JobRun job (One o) budget before segment → runs.JobRun (run_after job o budget before) (before ++ segment)
+ran_as job o budget before segment run =
+    let same : run.command ≡ o = cc (run.command_is) in
+    subst (λ (x : Command). runs.JobRun (run_after job x budget before) (before ++ segment)) same run.run
+
+-- a job whose entries are the last ones ran alone
+alone_from : Laws → (job : ℕ) (pod : Key) (attempts budget : ℕ) (before segment : List Entry) (p : PodState) → Legal (before ++ segment) → JobRun job (One (Schedule pod attempts)) budget before segment
+    → IsIdle (state_at (before ++ segment) (length before)) pod p → RanAlone (run_after job (Schedule pod attempts) budget before) (before ++ segment) pod p
+alone_from laws job pod attempts budget before segment p legal run idle = record {
+  attempts = attempts;
+  command = refl;
+  legal = legal;
+  run = ran_as job (Schedule pod attempts) budget before segment run;
+  alone = laws.alone job before (before ++ segment) (record { added = segment; now = refl; of_jobs = all_of job segment run.own });
+  idle = idle;
+}
+
+complete_at : Laws → (c : Run) (h : List Entry) (pod : Key) (p : PodState) → RanAlone c h pod p → IsComplete (state_at h c.from) c h pod p
+complete_at laws c h pod p r = record {
+  decided = laws.decided c h pod p r;
+  bound = λ node. laws.bound c h pod p node r;
+  passed = laws.passed c h pod p r;
+  found = λ node choice grants. laws.found c h pod p node choice grants r;
+  missing = λ claim. laws.missing c h pod p claim r;
+  full = λ claim. laws.full c h pod p claim r;
+}
+
+-- in the state after the entries before the job
+complete_after : Laws → (job : ℕ) (pod : Key) (attempts budget : ℕ) (before segment : List Entry) (p : PodState) → Legal (before ++ segment) → JobRun job (One (Schedule pod attempts)) budget before segment
+    → IsIdle (state_of before) pod p → IsComplete (state_of before) (run_after job (Schedule pod attempts) budget before) (before ++ segment) pod p
+complete_after laws job pod attempts budget before segment p legal run idle =
+    let c : Run = run_after job (Schedule pod attempts) budget before in
+    let same : state_at (before ++ segment) (length before) ≡ state_of before = ap state_of (take-append_seam before segment) in
+    let there : IsIdle (state_at (before ++ segment) (length before)) pod p = subst (λ (s : State). IsIdle s pod p) (sym same) idle in
+    subst (λ (s : State). IsComplete s c (before ++ segment) pod p) same
+    (complete_at laws c (before ++ segment) pod p (alone_from laws job pod attempts budget before segment p legal run there))
+
+pub scheduled : Laws → (budget : ℕ) (front back : List Given) (pod : Key) (attempts : ℕ) (h : List Entry) → Legal h → RunOf budget (front ++ One (Schedule pod attempts) ∷ back) h
+    → Scheduled budget front pod attempts h
+unfolding RunOf
+scheduled laws budget front back pod attempts h legal r =
+    let g : Given = One (Schedule pod attempts) in
+    let s : Cut budget 0 [] front g h = cut budget 0 [] front g back h r in
+    let eq : 0 + length front + 1 ≡ length front + 1 = omega arith in
+    let run : JobRun (length front + 1) g budget s.before s.segment = subst (λ (k : ℕ). JobRun k g budget s.before s.segment) eq s.run in
+    let so_far : Legal (s.before ++ s.segment) = laws.front (s.before ++ s.segment) s.rest (subst (λ (x : List Entry). Legal x) s.is legal) in
+    record {
+      before = s.before;
+      segment = s.segment;
+      rest = s.rest;
+      is = s.is;
+      earlier = s.earlier;
+      run = run;
+      complete = λ p idle. complete_after laws (length front + 1) pod attempts budget s.before s.segment p so_far run idle;
+    }
