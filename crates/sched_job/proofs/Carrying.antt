@@ -34,7 +34,7 @@ use Rattle.ledger_core.specs.Denied.{MayDeny}
 use Rattle.ledger_core.specs.GoesOn.{GoesOn}
 use Rattle.ledger_core.specs.Legal.{Legal, MayStand, Step}
 use Rattle.ledger_core.specs.Wrote.{MayWrite}
-use Rattle.sched_job.specs.declared.work.Command.TheVariants.{Schedule}
+use Rattle.commands.specs.declared.command.Command.TheVariants.{Schedule}
 use Rattle.sched_job.specs.Alone.{Alone, NeverSetBack, is_setback}
 use Rattle.sched_job.specs.Complete.{CarriesOut, Decided, IsWrite, RanAlone, own}
 use Rattle.sched_job.specs.Histories.{Each}

@@ -26,7 +26,7 @@ use Rattle.alloc_rules.specs.Decisions.{IsDecision, IsReserve}
 use Rattle.alloc_rules.specs.Plans.{IsIdle}
 use Rattle.alloc_rules.specs.Tries.{AllPassed}
 use Rattle.ledger_core.specs.Legal.{Legal}
-use Rattle.sched_job.specs.declared.work.Command.TheVariants.{Schedule}
+use Rattle.commands.specs.declared.command.Command.TheVariants.{Schedule}
 use Rattle.sched_job.specs.Alone.{Alone}
 use Rattle.sched_job.specs.Runs.{Run, JobRun}
 
