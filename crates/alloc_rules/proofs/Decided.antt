@@ -39,9 +39,9 @@ found_by (Some y) whole x e = cc
 found_by None true x e = absurd (cc)
 found_by None false x e = absurd (cc)
 
-find_by : (b : Bool) (x y : Item) (front rest : Option Item) → cond b (Some x) front ≡ Some y → (front ≡ Some y → rest ≡ Some y) → cond b (Some x) rest ≡ Some y
-find_by true x y front rest e later = e
-find_by false x y front rest e later = later e
+find_by : (b : Bool) (x y : Item) (prefix rest : Option Item) → cond b (Some x) prefix ≡ Some y → (prefix ≡ Some y → rest ≡ Some y) → cond b (Some x) rest ≡ Some y
+find_by true x y prefix rest e later = e
+find_by false x y prefix rest e later = later e
 
 find_take : (b : ℕ) (items : List Item) (y : Item) → find ends (take b items) ≡ Some y → find ends items ≡ Some y
 find_take zero items y e = absurd (cc)
@@ -91,16 +91,16 @@ never_less x e =
     let g : Less ≡ Greater = sym e ∙ f ∙ ap ordering_reverse e in
     absurd (cc)
 
-front_names : (front back : List (List ℕ)) (node : List ℕ) → IsStrictlySortedBy text_cmp (front ++ node ∷ back) → names_before node (front ++ node ∷ back) ≡ front
+prefix_names : (prefix back : List (List ℕ)) (node : List ℕ) → IsStrictlySortedBy text_cmp (prefix ++ node ∷ back) → names_before node (prefix ++ node ∷ back) ≡ prefix
 unfolding IsStrictlySortedBy
-front_names [] back node o =
+prefix_names [] back node o =
     take_while-cons (λ n. not (text_eq n node)) node back
     ∙ ap (λ b. cond (not b) (node ∷ take_while (λ n. not (text_eq n node)) back) []) (text_eq-same node)
-front_names (x ∷ xs) back node o =
+prefix_names (x ∷ xs) back node o =
     let less = below x xs back node o.0 in
     let other : text_eq x node ≡ false = false_from_ne_true (text_eq x node) (λ t. never_less x (ap (λ y. text_cmp x y) (same_from_text_eq x node t) ∙ less)) in
     take_while-cons (λ n. not (text_eq n node)) x (xs ++ node ∷ back)
-    ∙ ap (λ b. cond (not b) (x ∷ take_while (λ n. not (text_eq n node)) (xs ++ node ∷ back)) []) other ∙ ap (λ l. x ∷ l) (front_names xs back node o.1)
+    ∙ ap (λ b. cond (not b) (x ∷ take_while (λ n. not (text_eq n node)) (xs ++ node ∷ back)) []) other ∙ ap (λ l. x ∷ l) (prefix_names xs back node o.1)
 
 -- ---- decisions
 
@@ -116,7 +116,7 @@ reserve_is s pod p budget at passed taken law may order t =
         may_search = may;
         node_known = subst (λ (l : List (List ℕ)). Contains l taken.node) t.names_are
             (Contains-append_right (nodes_of passed) (taken.node ∷ t.rest) taken.node (0, omega arith, refl));
-        passed = sym (front_names (nodes_of passed) t.rest taken.node o) ∙ ap (λ l. names_before taken.node l) t.names_are;
+        passed = sym (prefix_names (nodes_of passed) t.rest taken.node o) ∙ ap (λ l. names_before taken.node l) t.names_are;
         causes = all_true s p.pod.object budget law passed t.causes;
         here = t.found.here;
         item = t.found.item;

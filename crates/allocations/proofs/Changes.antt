@@ -25,7 +25,7 @@ use Rattle.cluster.specs.State.{empty_state}
 use Rattle.cluster.specs.Tables.{put_at}
 use Rattle.cluster.specs.Wrote.{as_published, with_written, written_by}
 use Rattle.allocations.proofs.HeldIds.{Claims, held_in}
-use Rattle.allocations.proofs.Holding.{Apart, apart_back, apart_disjoint, apart_front, apart_join, apart_of, inserted_held, once_from, once_same, same_from_key_cmp, same_held, some_claim}
+use Rattle.allocations.proofs.Holding.{Apart, apart_back, apart_disjoint, apart_prefix, apart_join, apart_of, inserted_held, once_from, once_same, same_from_key_cmp, same_held, some_claim}
 
 pub once_empty : HeldOnce empty_state
 once_empty = once_from empty_state tt
@@ -60,7 +60,7 @@ left_by false test e es is olds later =
     let r : Left (held_in es) rest = later (apart_back first (held_in es) olds) in
     let same : first ++ rest ≡ held_in (remove_entry test (e ∷ es)) = sym (ap (λ b. held_in (cond b es (e ∷ remove_entry test es))) is) in
     let left : Left (held_in (e ∷ es)) (first ++ rest) = record {
-      apart = apart_join first rest (apart_front first (held_in es) olds) r.apart (λ d h g. apart_disjoint first (held_in es) olds d h (r.among d g));
+      apart = apart_join first rest (apart_prefix first (held_in es) olds) r.apart (λ d h g. apart_disjoint first (held_in es) olds d h (r.among d g));
       among = λ d c. ⊎_elim (λ h. Contains-append_left first (held_in es) d h) (λ h. Contains-append_right first (held_in es) d (r.among d h)) (Contains-append_cases first rest d c);
     } in
     subst (λ (ds : List DeviceId). Left (held_in (e ∷ es)) ds) same left

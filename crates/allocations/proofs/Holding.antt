@@ -73,9 +73,9 @@ apart_join (x ∷ xs) ys a b n = (
   apart_join xs ys a.1 b (λ d h g. n d (tail_in x xs d h) g),
 )
 
-pub apart_front : (xs ys : List DeviceId) → Apart (xs ++ ys) → Apart xs
-apart_front [] ys a = tt
-apart_front (x ∷ xs) ys a = (λ c. a.0 (Contains-append_left xs ys x c), apart_front xs ys a.1)
+pub apart_prefix : (xs ys : List DeviceId) → Apart (xs ++ ys) → Apart xs
+apart_prefix [] ys a = tt
+apart_prefix (x ∷ xs) ys a = (λ c. a.0 (Contains-append_left xs ys x c), apart_prefix xs ys a.1)
 
 pub apart_back : (xs ys : List DeviceId) → Apart (xs ++ ys) → Apart ys
 apart_back [] ys a = a
@@ -165,7 +165,7 @@ given_by test false e es v w is h none news olds apart later =
     let set : first ++ rest ≡ held_in (set_value test (e ∷ es) w) = sym (ap (λ b. held_in (cond b ((e.0, w) ∷ es) (e ∷ set_value test es w))) is) in
     let r : Given (held_by w.grant) (held_in es) rest = later there (apart_back first (held_in es) olds) (λ d h g. apart d h (Contains-append_right first (held_in es) d g)) in
     let given : Given (held_by w.grant) (held_in (e ∷ es)) (first ++ rest) = record {
-      apart = apart_join first rest (apart_front first (held_in es) olds) r.apart
+      apart = apart_join first rest (apart_prefix first (held_in es) olds) r.apart
           (λ d h g. ⊎_elim (λ k. apart d k (Contains-append_left first (held_in es) d h)) (λ k. apart_disjoint first (held_in es) olds d h k) (r.among d g));
       among = λ d c. ⊎_elim (λ h. inr (Contains-append_left first (held_in es) d h)) (λ h. ⊎_elim (λ k. inl k) (λ k. inr (Contains-append_right first (held_in es) d k)) (r.among d h)) (Contains-append_cases first rest d c);
     } in
@@ -340,7 +340,7 @@ grants_apart node pod [] claims each keys olds news apart = olds
 grants_apart node pod (g ∷ gs) claims each keys olds news apart =
     let first = devices_held g.results in
     let rest = devices_of gs in
-    let given = grant_given node pod claims g each.0 olds (apart_front first rest news) (λ d h k. apart d (Contains-append_left first rest d h) k) in
+    let given = grant_given node pod claims g each.0 olds (apart_prefix first rest news) (λ d h k. apart d (Contains-append_left first rest d h) k) in
     grants_apart node pod gs (with_grant node pod g.claim g.results claims) (each_kept node pod g.claim g.results claims each.0 gs keys.0 each.1) keys.1 given.apart (apart_back first rest news)
     (λ d h k. ⊎_elim (λ m. apart_disjoint first rest news d m h) (λ m. apart d (Contains-append_right first rest d h) m) (given.among d k))
 

@@ -29,11 +29,11 @@ use Rattle.allocator.proofs.Alike.{same_answer}
 
 -- ---- where a search ends
 
-in_front : {X : Type 0} (b : ℕ) (xs : List X) (x : X) (k : ℕ) → k < length (take b xs) → get_or (take b xs) k x ≡ x → Contains xs x
-in_front zero xs x k h e = absurd (omega arith)
-in_front (suc b) [] x k h e = absurd (omega arith)
-in_front (suc b) (y ∷ ys) x zero h e = (0, omega arith, e)
-in_front (suc b) (y ∷ ys) x (suc k) h e = let r = in_front b ys x k (omega (arith, h)) e in (suc r.0, omega (arith, r.1), r.2)
+in_prefix : {X : Type 0} (b : ℕ) (xs : List X) (x : X) (k : ℕ) → k < length (take b xs) → get_or (take b xs) k x ≡ x → Contains xs x
+in_prefix zero xs x k h e = absurd (omega arith)
+in_prefix (suc b) [] x k h e = absurd (omega arith)
+in_prefix (suc b) (y ∷ ys) x zero h e = (0, omega arith, e)
+in_prefix (suc b) (y ∷ ys) x (suc k) h e = let r = in_prefix b ys x k (omega (arith, h)) e in (suc r.0, omega (arith, r.1), r.2)
 
 not_filled : (A B : Type 0) → (A × (Fault ≡ Part)) ⊎ (B × (Fault ≡ Full)) → ⊥
 not_filled A B (inl h) = let e = h.1 in absurd (cc)
@@ -64,7 +64,7 @@ fault_shape old new b a c l within only e f g =
     let x : Item = record { choice = c; positions = []; mark = Fault } in
     let i = within p b x (f ∙ ap (λ (z : Answer). told z c l) g) in
     ap (λ (s : Setting). shape_of s.input c) e
-    ∙ faulty_by p c (shape_of old.input c) (only p x (in_front b (walk p) x i.0 i.1 i.2)).kind
+    ∙ faulty_by p c (shape_of old.input c) (only p x (in_prefix b (walk p) x i.0 i.1 i.2)).kind
 
 pub answered : (old new : Setting) (b : ℕ) (a : Answer) (c l : List ℕ) (found : outcomes.Outcome) → new ≡ old → outcome b (walk (problem_of old.input)) ≡ told a c l → answer_by new.input (told a c l) ≡ Some found → answer_of old.input b ≡ Some found
 unfolding answer_of

@@ -24,8 +24,8 @@ rest_same old now i b h n e =
 pub still_many : {X : Type 0} (old now : List X) (i : ℕ) (b : X) → length now ≡ length old → length (set now i b) ≡ length old
 still_many old now i b n = length-set now i b ∙ n
 
-pub front_old : {X : Type 0} (old : List X) (i : ℕ) (a : X) → i < length old → a ≡ get_or old i a → take (i + 1) old ≡ take i old ++ a ∷ []
-front_old {X} old i a h e = take_more old i a h ∙ ap (λ (z : X). take i old ++ z ∷ []) (sym e)
+pub prefix_old : {X : Type 0} (old : List X) (i : ℕ) (a : X) → i < length old → a ≡ get_or old i a → take (i + 1) old ≡ take i old ++ a ∷ []
+prefix_old {X} old i a h e = take_more old i a h ∙ ap (λ (z : X). take i old ++ z ∷ []) (sym e)
 
-pub front_new : {X : Type 0} (now : List X) (i : ℕ) (b : X) → i < length now → take (i + 1) (set now i b) ≡ take i now ++ b ∷ []
-front_new now i b h = take_more_set now i b h
+pub prefix_new : {X : Type 0} (now : List X) (i : ℕ) (b : X) → i < length now → take (i + 1) (set now i b) ≡ take i now ++ b ∷ []
+prefix_new now i b h = take_more_set now i b h

@@ -18,7 +18,7 @@ use Rattle.allocator.specs.Agreeing.{Agreed, AreAgreed, EachLeft, EachTook, Have
 use Rattle.allocator.proofs.Tests.{left_of, right_of}
 use Rattle.std.proofs.Math.ListN.{set}
 use Rattle.allocator.proofs.Places.{drop_next, got}
-use Rattle.allocator.proofs.Changed.{front_new, front_old, was_there}
+use Rattle.allocator.proofs.Changed.{prefix_new, prefix_old, was_there}
 
 -- ---- one constraint
 
@@ -110,7 +110,7 @@ took_more claim picked old now i a b e f t u =
 -- one agreement more that took the result
 pub took_step : (claim : ℕ) (picked : constraints.Pick) (old now : List ClaimAgreement) (i : ℕ) (a b : ClaimAgreement) → i < length old → length now ≡ length old → drop i now ≡ drop i old → a ≡ get_or now i a
     → EachTook claim picked (take i old) (take i now) → Took claim picked a b → EachTook claim picked (take (i + 1) old) (take (i + 1) (set now i b))
-took_step claim picked old now i a b h n e f t u = took_more claim picked old now i a b (front_old old i a h (was_there old now i a h n e f)) (front_new now i b (omega (arith, h, n))) t u
+took_step claim picked old now i a b h n e f t u = took_more claim picked old now i a b (prefix_old old i a h (was_there old now i a h n e f)) (prefix_new now i b (omega (arith, h, n))) t u
 
 left_more : (claim : ℕ) (picked : constraints.Pick) (old now : List ClaimAgreement) (i : ℕ) (a b : ClaimAgreement) → take (i + 1) old ≡ take i old ++ a ∷ [] → take (i + 1) (set now i b) ≡ take i now ++ b ∷ []
     → EachLeft claim picked (take i old) (take i now) → Left claim picked a b → EachLeft claim picked (take (i + 1) old) (take (i + 1) (set now i b))
@@ -121,7 +121,7 @@ left_more claim picked old now i a b e f t u =
 -- one agreement more from which the result was removed
 pub left_step : (claim : ℕ) (picked : constraints.Pick) (old now : List ClaimAgreement) (i : ℕ) (a b : ClaimAgreement) → i < length old → length now ≡ length old → drop i now ≡ drop i old → a ≡ get_or now i a
     → EachLeft claim picked (take i old) (take i now) → Left claim picked a b → EachLeft claim picked (take (i + 1) old) (take (i + 1) (set now i b))
-left_step claim picked old now i a b h n e f t u = left_more claim picked old now i a b (front_old old i a h (was_there old now i a h n e f)) (front_new now i b (omega (arith, h, n))) t u
+left_step claim picked old now i a b h n e f t u = left_more claim picked old now i a b (prefix_old old i a h (was_there old now i a h n e f)) (prefix_new now i b (omega (arith, h, n))) t u
 
 pub room_there : (old now : List ClaimAgreement) (i : ℕ) (a : ClaimAgreement) → HaveRoom old → i < length old → length now ≡ length old → drop i now ≡ drop i old → a ≡ get_or now i a → a.agreement.count + 1 < 18446744073709551616
 room_there old now i a r h n e f = r i a (got old i a h (was_there old now i a h n e f))
@@ -196,7 +196,7 @@ pub added_step : (v : SearchInput) (claim : ℕ) (rs : List Rule) (cs : List Dev
 added_step v claim rs cs i c gs hs g h e k a f t =
     subst (AreAgreed v [] (rs ++ map (rule_at claim) (take (i + 1) cs))) (sym k)
     (subst (λ (l : List Rule). AreAgreed v [] l (gs ++ g ∷ []))
-    (sym (ap (λ (l : List DeviceConstraint). rs ++ map (rule_at claim) l) (front_old cs i c h e) ∙ rules_push claim rs (take i cs) c))
+    (sym (ap (λ (l : List DeviceConstraint). rs ++ map (rule_at claim) l) (prefix_old cs i c h e) ∙ rules_push claim rs (take i cs) c))
     (none_added v claim (rs ++ map (rule_at claim) (take i cs)) gs c g a f t))
 
 rules_more : (k : ℕ) (cs : List ResourceClaim) (c : ResourceClaim) → rules_from k (cs ++ c ∷ []) ≡ rules_from k cs ++ map (rule_at (k + length cs)) c.constraints
@@ -212,7 +212,7 @@ rules_more k (d ∷ cs) c =
 pub rules_next : (cs : List ResourceClaim) (i : ℕ) (c : ResourceClaim) → i < length cs → c ≡ get_or cs i c → rules_from 0 (take (i + 1) cs) ≡ rules_from 0 (take i cs) ++ map (rule_at i) c.constraints
 rules_next cs i c h e =
     let n : 0 + length (take i cs) ≡ i = let f = length-take-le i cs (omega (arith, h)) in omega (arith, f) in
-    ap (rules_from 0) (front_old cs i c h e) ∙ rules_more 0 (take i cs) c ∙ ap (λ (k : ℕ). rules_from 0 (take i cs) ++ map (rule_at k) c.constraints) n
+    ap (rules_from 0) (prefix_old cs i c h e) ∙ rules_more 0 (take i cs) c ∙ ap (λ (k : ℕ). rules_from 0 (take i cs) ++ map (rule_at k) c.constraints) n
 
 pub claims_step : (v : SearchInput) (cs : List ResourceClaim) (i : ℕ) (c : ResourceClaim) (ds : List DeviceConstraint) (gs hs : List ClaimAgreement) → i < length cs → c ≡ get_or cs i c → ds ≡ c.constraints
     → ((w : SearchInput) (rs : List Rule) → AreAgreed w [] rs gs → AreAgreed w [] (rs ++ map (rule_at i) ds) hs) → AreAgreed v [] (rules_from 0 (take i cs)) gs → AreAgreed v [] (rules_from 0 (take (i + 1) cs)) hs

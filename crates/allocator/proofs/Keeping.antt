@@ -111,13 +111,13 @@ room m v r a h =
 
 -- ---- one less
 
-front_got : {X : Type 0} (m : List X) (x : X) (i : ℕ) (y : X) → slice_get m i ≡ Some y → slice_get (m ++ x ∷ []) i ≡ Some y
-front_got [] x i y e = absurd (cc)
-front_got (z ∷ m) x zero y e = e
-front_got (z ∷ m) x (suc i) y e = front_got m x i y e
+prefix_got : {X : Type 0} (m : List X) (x : X) (i : ℕ) (y : X) → slice_get m i ≡ Some y → slice_get (m ++ x ∷ []) i ≡ Some y
+prefix_got [] x i y e = absurd (cc)
+prefix_got (z ∷ m) x zero y e = e
+prefix_got (z ∷ m) x (suc i) y e = prefix_got m x i y e
 
-front_all : {X : Type 0} (P : X → Type 0) (m : List X) (x : X) → Each P (m ++ x ∷ []) → Each P m
-front_all P m x a = λ k y e. a k y (front_got m x k y e)
+prefix_all : {X : Type 0} (P : X → Type 0) (m : List X) (x : X) → Each P (m ++ x ∷ []) → Each P m
+prefix_all P m x a = λ k y e. a k y (prefix_got m x k y e)
 
 less_placing : (v : SearchInput) (ss tt : List Slot) (l m : List ℕ) (x : ℕ) → IsPlacing v ss l → tt ≡ ss → l ≡ m ++ x ∷ [] → IsPlacing v tt m
 less_placing v ss tt l m x a e f = record {
@@ -128,7 +128,7 @@ less_placing v ss tt l m x a e f = record {
       let k = length-append m (x ∷ []) in
       let q = ap length e in
       omega (arith, i, j, k, q);
-  positions = front_all (λ y. y < length v.devices) m x (subst (λ (z : List ℕ). Each (λ y. y < length v.devices) z) f a.positions);
+  positions = prefix_all (λ y. y < length v.devices) m x (subst (λ (z : List ℕ). Each (λ y. y < length v.devices) z) f a.positions);
 }
 
 pub popped : {X : Type 0} (old new : List X) (o : Option X) (x : X) → old ≡ new ++ option_to_list o → o ≡ Some x → old ≡ new ++ x ∷ []
@@ -179,7 +179,7 @@ ends x [] = ([], x, refl)
 ends {X} x (z ∷ l) = let e = ends z l in (x ∷ e.0, e.1, ap (λ (w : List X). x ∷ w) e.2)
 
 -- what is left after the last one was taken is shorter
-pub shorter : (l m : List ℕ) (n : ℕ) (b : Bool) → b ≡ eqb n 0 → b ≡ false → n ≡ length l → ((front : List ℕ) (x : ℕ) → l ≡ front ++ x ∷ [] → m ≡ front) → length m < length l
+pub shorter : (l m : List ℕ) (n : ℕ) (b : Bool) → b ≡ eqb n 0 → b ≡ false → n ≡ length l → ((prefix : List ℕ) (x : ℕ) → l ≡ prefix ++ x ∷ [] → m ≡ prefix) → length m < length l
 shorter [] m n b e f g h =
     let a : eqb n 0 ≡ true = ap (λ (k : ℕ). eqb k 0) g in
     let bad : true ≡ false = sym a ∙ sym e ∙ f in

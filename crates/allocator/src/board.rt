@@ -135,7 +135,7 @@ fn window_of(slots: &[Slot], positions: &[usize], devices: usize) -> (usize, usi
 
 impl<'a> Board for RequestBoard<'a> {
     ghost use Rattle.allocator.specs.Kept as kept;
-    ghost use Rattle.request_rules.specs.Fronts.{good-nil, good-front};
+    ghost use Rattle.request_rules.specs.Fronts.{good-nil, good-prefix};
     ghost use Rattle.request_rules.specs.Problem.{open_slots, problem_of};
 
     ghost Setting = { kept.Setting };
@@ -171,5 +171,5 @@ impl<'a> Board for RequestBoard<'a> {
 
     ghost empty = { λ g c. good-nil g.input (open_slots g.input c) };
 
-    ghost closed = { λ g c l x. good-front g.input (open_slots g.input c) l (x ∷ []) };
+    ghost closed = { λ g c l x. good-prefix g.input (open_slots g.input c) l (x ∷ []) };
 }

@@ -20,7 +20,7 @@ use Rattle.cel_tree.specs.Faults.{◌>>=◌, item_type, joined}
 use Rattle.cel_tree.specs.Typing.{Names, variable_of, with_variable, is_bind, map_type, keys_type, form_type, has_of, has_form, bind_of, with_first, key_type, key_of, beside, literal_of, type_of, types_of, items_of, values_of}
 use Rattle.cel_check.specs.Fronts.{with_last, also}
 use Rattle.cel_check.specs.Parts.{method_of, map_of}
-use Rattle.cel_check.specs.Keys.{in_front, literals}
+use Rattle.cel_check.specs.Keys.{in_prefix, literals}
 use Rattle.cel_check.proofs.Joins.{joined_assoc}
 
 -- ---- arguments
@@ -32,10 +32,10 @@ appended (arguments.Two k l) rest = with_first k (with_first l rest)
 appended arguments.Many rest = arguments.Many
 
 abbrev pub all_given : Arguments → Result Arguments Fault → Result Arguments Fault
-all_given front (Ok rest) = Ok (appended front rest)
-all_given front (Err e) = Err e
+all_given prefix (Ok rest) = Ok (appended prefix rest)
+all_given prefix (Err e) = Err e
 
-appended_more : (front : Arguments) (k : CelType) (rest : Arguments) → appended (with_last front k) rest ≡ appended front (with_first k rest)
+appended_more : (prefix : Arguments) (k : CelType) (rest : Arguments) → appended (with_last prefix k) rest ≡ appended prefix (with_first k rest)
 appended_more arguments.None k rest = refl
 appended_more (arguments.One l) k rest = refl
 appended_more (arguments.Two l m) k arguments.None = refl
@@ -44,11 +44,11 @@ appended_more (arguments.Two l m) k (arguments.Two n o) = refl
 appended_more (arguments.Two l m) k arguments.Many = refl
 appended_more arguments.Many k rest = refl
 
-given_more : (front : Arguments) (k : CelType) (r : Result Arguments Fault) → all_given (with_last front k) r ≡ all_given front (r >>= λ given. Ok (with_first k given))
-given_more front k (Ok rest) = ap Ok (appended_more front k rest)
-given_more front k (Err e) = refl
+given_more : (prefix : Arguments) (k : CelType) (r : Result Arguments Fault) → all_given (with_last prefix k) r ≡ all_given prefix (r >>= λ given. Ok (with_first k given))
+given_more prefix k (Ok rest) = ap Ok (appended_more prefix k rest)
+given_more prefix k (Err e) = refl
 
-given_end : (front : Arguments) → all_given front (Ok arguments.None) ≡ Ok front
+given_end : (prefix : Arguments) → all_given prefix (Ok arguments.None) ≡ Ok prefix
 given_end arguments.None = refl
 given_end (arguments.One k) = refl
 given_end (arguments.Two k l) = refl
@@ -61,23 +61,23 @@ rest_at xs i t e h = ap (λ (ys : List Tree). asts_of (map tree_view ys)) (drop_
 pub rest_end : (xs : List Tree) (i : ℕ) → length xs ≤ i → asts_of (map tree_view (drop i xs)) ≡ End
 rest_end xs i h = ap (λ (ys : List Tree). asts_of (map tree_view ys)) (drop_all i xs h)
 
-pub types-step : (names : Names) (xs : List Tree) (i : ℕ) (t : Tree) (front : Arguments) (k : CelType) (whole : Result Arguments Fault) → t ≡ get_or xs i t → i < length xs →
-    type_of names (tree_view t) ≡ Ok k → all_given front (types_of names (asts_of (map tree_view (drop i xs)))) ≡ whole →
-    all_given (with_last front k) (types_of names (asts_of (map tree_view (drop (i + 1) xs)))) ≡ whole
-types-step names xs i t front k whole e h found w =
-    given_more front k (types_of names (asts_of (map tree_view (drop (i + 1) xs))))
-    ∙ ap (λ (r : Result CelType Fault). all_given front (r >>= λ l. types_of names (asts_of (map tree_view (drop (i + 1) xs))) >>= λ given. Ok (with_first l given))) (sym found)
-    ∙ ap (λ ts. all_given front (types_of names ts)) (sym (rest_at xs i t e h)) ∙ w
+pub types-step : (names : Names) (xs : List Tree) (i : ℕ) (t : Tree) (prefix : Arguments) (k : CelType) (whole : Result Arguments Fault) → t ≡ get_or xs i t → i < length xs →
+    type_of names (tree_view t) ≡ Ok k → all_given prefix (types_of names (asts_of (map tree_view (drop i xs)))) ≡ whole →
+    all_given (with_last prefix k) (types_of names (asts_of (map tree_view (drop (i + 1) xs)))) ≡ whole
+types-step names xs i t prefix k whole e h found w =
+    given_more prefix k (types_of names (asts_of (map tree_view (drop (i + 1) xs))))
+    ∙ ap (λ (r : Result CelType Fault). all_given prefix (r >>= λ l. types_of names (asts_of (map tree_view (drop (i + 1) xs))) >>= λ given. Ok (with_first l given))) (sym found)
+    ∙ ap (λ ts. all_given prefix (types_of names ts)) (sym (rest_at xs i t e h)) ∙ w
 
-pub types-err : (names : Names) (xs : List Tree) (i : ℕ) (t : Tree) (front : Arguments) (f : Fault) (whole : Result Arguments Fault) → t ≡ get_or xs i t → i < length xs →
-    type_of names (tree_view t) ≡ Err f → all_given front (types_of names (asts_of (map tree_view (drop i xs)))) ≡ whole → Err f ≡ whole
-types-err names xs i t front f whole e h found w =
-    ap (λ (r : Result CelType Fault). all_given front (r >>= λ l. types_of names (asts_of (map tree_view (drop (i + 1) xs))) >>= λ given. Ok (with_first l given))) (sym found)
-    ∙ ap (λ ts. all_given front (types_of names ts)) (sym (rest_at xs i t e h)) ∙ w
+pub types-err : (names : Names) (xs : List Tree) (i : ℕ) (t : Tree) (prefix : Arguments) (f : Fault) (whole : Result Arguments Fault) → t ≡ get_or xs i t → i < length xs →
+    type_of names (tree_view t) ≡ Err f → all_given prefix (types_of names (asts_of (map tree_view (drop i xs)))) ≡ whole → Err f ≡ whole
+types-err names xs i t prefix f whole e h found w =
+    ap (λ (r : Result CelType Fault). all_given prefix (r >>= λ l. types_of names (asts_of (map tree_view (drop (i + 1) xs))) >>= λ given. Ok (with_first l given))) (sym found)
+    ∙ ap (λ ts. all_given prefix (types_of names ts)) (sym (rest_at xs i t e h)) ∙ w
 
-pub types-end : (names : Names) (xs : List Tree) (i : ℕ) (front : Arguments) (whole : Result Arguments Fault) → length xs ≤ i →
-    all_given front (types_of names (asts_of (map tree_view (drop i xs)))) ≡ whole → Ok front ≡ whole
-types-end names xs i front whole h w = sym (given_end front) ∙ ap (λ ts. all_given front (types_of names ts)) (sym (rest_end xs i h)) ∙ w
+pub types-end : (names : Names) (xs : List Tree) (i : ℕ) (prefix : Arguments) (whole : Result Arguments Fault) → length xs ≤ i →
+    all_given prefix (types_of names (asts_of (map tree_view (drop i xs)))) ≡ whole → Ok prefix ≡ whole
+types-end names xs i prefix whole h w = sym (given_end prefix) ∙ ap (λ ts. all_given prefix (types_of names ts)) (sym (rest_end xs i h)) ∙ w
 
 -- ---- items
 
@@ -86,46 +86,46 @@ together None rest = rest
 together (Some s) rest = Some (joined s rest)
 
 abbrev pub all_found : Option Scalar → Result (Option Scalar) Fault → Result (Option Scalar) Fault
-all_found front (Ok rest) = Ok (together front rest)
-all_found front (Err e) = Err e
+all_found prefix (Ok rest) = Ok (together prefix rest)
+all_found prefix (Err e) = Err e
 
-together_more : (front : Option Scalar) (s : Scalar) (rest : Option Scalar) → together (Some (also front s)) rest ≡ together front (Some (joined s rest))
+together_more : (prefix : Option Scalar) (s : Scalar) (rest : Option Scalar) → together (Some (also prefix s)) rest ≡ together prefix (Some (joined s rest))
 together_more None s rest = refl
 together_more (Some f) s rest = ap Some (joined_assoc f s rest)
 
-found_more : (front : Option Scalar) (s : Scalar) (r : Result (Option Scalar) Fault) → all_found (Some (also front s)) r ≡ all_found front (r >>= λ rest. Ok (Some (joined s rest)))
-found_more front s (Ok rest) = ap Ok (together_more front s rest)
-found_more front s (Err e) = refl
+found_more : (prefix : Option Scalar) (s : Scalar) (r : Result (Option Scalar) Fault) → all_found (Some (also prefix s)) r ≡ all_found prefix (r >>= λ rest. Ok (Some (joined s rest)))
+found_more prefix s (Ok rest) = ap Ok (together_more prefix s rest)
+found_more prefix s (Err e) = refl
 
-found_end : (front : Option Scalar) → all_found front (Ok None) ≡ Ok front
+found_end : (prefix : Option Scalar) → all_found prefix (Ok None) ≡ Ok prefix
 found_end None = refl
 found_end (Some s) = refl
 
-pub items-step : (names : Names) (xs : List Tree) (i : ℕ) (t : Tree) (front : Option Scalar) (k : CelType) (s : Scalar) (whole : Result (Option Scalar) Fault) → t ≡ get_or xs i t → i < length xs →
-    type_of names (tree_view t) ≡ Ok k → item_type t.span k ≡ Ok s → all_found front (items_of names (asts_of (map tree_view (drop i xs)))) ≡ whole →
-    all_found (Some (also front s)) (items_of names (asts_of (map tree_view (drop (i + 1) xs)))) ≡ whole
-items-step names xs i t front k s whole e h found item w =
-    found_more front s (items_of names (asts_of (map tree_view (drop (i + 1) xs))))
-    ∙ ap (λ (r : Result Scalar Fault). all_found front (r >>= λ q. items_of names (asts_of (map tree_view (drop (i + 1) xs))) >>= λ rest. Ok (Some (joined q rest)))) (sym item)
-    ∙ ap (λ (r : Result CelType Fault). all_found front (r >>= λ l. item_type t.span l >>= λ q. items_of names (asts_of (map tree_view (drop (i + 1) xs))) >>= λ rest. Ok (Some (joined q rest)))) (sym found)
-    ∙ ap (λ ts. all_found front (items_of names ts)) (sym (rest_at xs i t e h)) ∙ w
+pub items-step : (names : Names) (xs : List Tree) (i : ℕ) (t : Tree) (prefix : Option Scalar) (k : CelType) (s : Scalar) (whole : Result (Option Scalar) Fault) → t ≡ get_or xs i t → i < length xs →
+    type_of names (tree_view t) ≡ Ok k → item_type t.span k ≡ Ok s → all_found prefix (items_of names (asts_of (map tree_view (drop i xs)))) ≡ whole →
+    all_found (Some (also prefix s)) (items_of names (asts_of (map tree_view (drop (i + 1) xs)))) ≡ whole
+items-step names xs i t prefix k s whole e h found item w =
+    found_more prefix s (items_of names (asts_of (map tree_view (drop (i + 1) xs))))
+    ∙ ap (λ (r : Result Scalar Fault). all_found prefix (r >>= λ q. items_of names (asts_of (map tree_view (drop (i + 1) xs))) >>= λ rest. Ok (Some (joined q rest)))) (sym item)
+    ∙ ap (λ (r : Result CelType Fault). all_found prefix (r >>= λ l. item_type t.span l >>= λ q. items_of names (asts_of (map tree_view (drop (i + 1) xs))) >>= λ rest. Ok (Some (joined q rest)))) (sym found)
+    ∙ ap (λ ts. all_found prefix (items_of names ts)) (sym (rest_at xs i t e h)) ∙ w
 
-pub items-err : (names : Names) (xs : List Tree) (i : ℕ) (t : Tree) (front : Option Scalar) (f : Fault) (whole : Result (Option Scalar) Fault) → t ≡ get_or xs i t → i < length xs →
-    type_of names (tree_view t) ≡ Err f → all_found front (items_of names (asts_of (map tree_view (drop i xs)))) ≡ whole → Err f ≡ whole
-items-err names xs i t front f whole e h found w =
-    ap (λ (r : Result CelType Fault). all_found front (r >>= λ l. item_type t.span l >>= λ q. items_of names (asts_of (map tree_view (drop (i + 1) xs))) >>= λ rest. Ok (Some (joined q rest)))) (sym found)
-    ∙ ap (λ ts. all_found front (items_of names ts)) (sym (rest_at xs i t e h)) ∙ w
+pub items-err : (names : Names) (xs : List Tree) (i : ℕ) (t : Tree) (prefix : Option Scalar) (f : Fault) (whole : Result (Option Scalar) Fault) → t ≡ get_or xs i t → i < length xs →
+    type_of names (tree_view t) ≡ Err f → all_found prefix (items_of names (asts_of (map tree_view (drop i xs)))) ≡ whole → Err f ≡ whole
+items-err names xs i t prefix f whole e h found w =
+    ap (λ (r : Result CelType Fault). all_found prefix (r >>= λ l. item_type t.span l >>= λ q. items_of names (asts_of (map tree_view (drop (i + 1) xs))) >>= λ rest. Ok (Some (joined q rest)))) (sym found)
+    ∙ ap (λ ts. all_found prefix (items_of names ts)) (sym (rest_at xs i t e h)) ∙ w
 
-pub items-not : (names : Names) (xs : List Tree) (i : ℕ) (t : Tree) (front : Option Scalar) (k : CelType) (f : Fault) (whole : Result (Option Scalar) Fault) → t ≡ get_or xs i t → i < length xs →
-    type_of names (tree_view t) ≡ Ok k → item_type t.span k ≡ Err f → all_found front (items_of names (asts_of (map tree_view (drop i xs)))) ≡ whole → Err f ≡ whole
-items-not names xs i t front k f whole e h found item w =
-    ap (λ (r : Result Scalar Fault). all_found front (r >>= λ q. items_of names (asts_of (map tree_view (drop (i + 1) xs))) >>= λ rest. Ok (Some (joined q rest)))) (sym item)
-    ∙ ap (λ (r : Result CelType Fault). all_found front (r >>= λ l. item_type t.span l >>= λ q. items_of names (asts_of (map tree_view (drop (i + 1) xs))) >>= λ rest. Ok (Some (joined q rest)))) (sym found)
-    ∙ ap (λ ts. all_found front (items_of names ts)) (sym (rest_at xs i t e h)) ∙ w
+pub items-not : (names : Names) (xs : List Tree) (i : ℕ) (t : Tree) (prefix : Option Scalar) (k : CelType) (f : Fault) (whole : Result (Option Scalar) Fault) → t ≡ get_or xs i t → i < length xs →
+    type_of names (tree_view t) ≡ Ok k → item_type t.span k ≡ Err f → all_found prefix (items_of names (asts_of (map tree_view (drop i xs)))) ≡ whole → Err f ≡ whole
+items-not names xs i t prefix k f whole e h found item w =
+    ap (λ (r : Result Scalar Fault). all_found prefix (r >>= λ q. items_of names (asts_of (map tree_view (drop (i + 1) xs))) >>= λ rest. Ok (Some (joined q rest)))) (sym item)
+    ∙ ap (λ (r : Result CelType Fault). all_found prefix (r >>= λ l. item_type t.span l >>= λ q. items_of names (asts_of (map tree_view (drop (i + 1) xs))) >>= λ rest. Ok (Some (joined q rest)))) (sym found)
+    ∙ ap (λ ts. all_found prefix (items_of names ts)) (sym (rest_at xs i t e h)) ∙ w
 
-pub items-end : (names : Names) (xs : List Tree) (i : ℕ) (front : Option Scalar) (whole : Result (Option Scalar) Fault) → length xs ≤ i →
-    all_found front (items_of names (asts_of (map tree_view (drop i xs)))) ≡ whole → Ok front ≡ whole
-items-end names xs i front whole h w = sym (found_end front) ∙ ap (λ ts. all_found front (items_of names ts)) (sym (rest_end xs i h)) ∙ w
+pub items-end : (names : Names) (xs : List Tree) (i : ℕ) (prefix : Option Scalar) (whole : Result (Option Scalar) Fault) → length xs ≤ i →
+    all_found prefix (items_of names (asts_of (map tree_view (drop i xs)))) ≡ whole → Ok prefix ≡ whole
+items-end names xs i prefix whole h w = sym (found_end prefix) ∙ ap (λ ts. all_found prefix (items_of names ts)) (sym (rest_end xs i h)) ∙ w
 
 -- ---- values
 
@@ -136,13 +136,13 @@ entry_at xs i t e h = ap (λ (ys : List Entry). entries_of (map entry_view ys)) 
 pub entry_end : (xs : List Entry) (i : ℕ) → length xs ≤ i → entries_of (map entry_view (drop i xs)) ≡ NoEntry
 entry_end xs i h = ap (λ (ys : List Entry). entries_of (map entry_view ys)) (drop_all i xs h)
 
-front_more : (o : Option Constant) (cs : List Constant) (c : Constant) → in_front o (cs ++ c ∷ []) ≡ in_front o cs ++ c ∷ []
-front_more None cs c = refl
-front_more (Some d) cs c = refl
+prefix_more : (o : Option Constant) (cs : List Constant) (c : Constant) → in_prefix o (cs ++ c ∷ []) ≡ in_prefix o cs ++ c ∷ []
+prefix_more None cs c = refl
+prefix_more (Some d) cs c = refl
 
 literals_more : (es : List (Ast × Ast)) (e : Ast × Ast) (c : Constant) → literal_of e.0 ≡ Some c → literals (es ++ e ∷ []) ≡ literals es ++ c ∷ []
 literals_more [] e c l = rw l refl
-literals_more (d ∷ es) e c l = rw (literals_more es e c l) (front_more (literal_of d.0) (literals es) c)
+literals_more (d ∷ es) e c l = rw (literals_more es e c l) (prefix_more (literal_of d.0) (literals es) c)
 
 literals_at : (xs : List Entry) (i : ℕ) (t : Entry) (c : Constant) → t ≡ get_or xs i t → i < length xs → literal_of (tree_view t.key) ≡ Some c →
     literals (map entry_view (take (i + 1) xs)) ≡ literals (map entry_view (take i xs)) ++ c ∷ []
@@ -183,43 +183,43 @@ values_at names xs i t c e h k l =
     ∙ ap (λ (r : Result Constant Fault). r >>= λ d. one_value names xs i t (literals (map entry_view (take i xs)) ++ d ∷ [])) k
     ∙ ap (one_value names xs i t) (sym (literals_at xs i t c e h l))
 
-pub values-step : (names : Names) (xs : List Entry) (i : ℕ) (t : Entry) (front : Option Scalar) (k : CelType) (s : Scalar) (whole : Result (Option Scalar) Fault) → t ≡ get_or xs i t → i < length xs →
+pub values-step : (names : Names) (xs : List Entry) (i : ℕ) (t : Entry) (prefix : Option Scalar) (k : CelType) (s : Scalar) (whole : Result (Option Scalar) Fault) → t ≡ get_or xs i t → i < length xs →
     is_ok (key_of t.key.span (literals (map entry_view (take i xs))) (literal_of (tree_view t.key))) ≡ true → type_of names (tree_view t.value) ≡ Ok k → item_type t.value.span k ≡ Ok s →
-    all_found front (values_from names xs i) ≡ whole → all_found (Some (also front s)) (values_from names xs (i + 1)) ≡ whole
-values-step names xs i t front k s whole e h key found item w =
+    all_found prefix (values_from names xs i) ≡ whole → all_found (Some (also prefix s)) (values_from names xs (i + 1)) ≡ whole
+values-step names xs i t prefix k s whole e h key found item w =
     let c = key_is t.key.span (literals (map entry_view (take i xs))) (literal_of (tree_view t.key)) key in
-    found_more front s (values_from names xs (i + 1))
-    ∙ ap (λ (r : Result Scalar Fault). all_found front (r >>= λ q. values_from names xs (i + 1) >>= λ rest. Ok (Some (joined q rest)))) (sym item)
-    ∙ ap (λ (r : Result CelType Fault). all_found front (r >>= λ l. item_type t.value.span l >>= λ q. values_from names xs (i + 1) >>= λ rest. Ok (Some (joined q rest)))) (sym found)
-    ∙ ap (all_found front) (sym (values_at names xs i t c.0 e h c.1 c.2)) ∙ w
+    found_more prefix s (values_from names xs (i + 1))
+    ∙ ap (λ (r : Result Scalar Fault). all_found prefix (r >>= λ q. values_from names xs (i + 1) >>= λ rest. Ok (Some (joined q rest)))) (sym item)
+    ∙ ap (λ (r : Result CelType Fault). all_found prefix (r >>= λ l. item_type t.value.span l >>= λ q. values_from names xs (i + 1) >>= λ rest. Ok (Some (joined q rest)))) (sym found)
+    ∙ ap (all_found prefix) (sym (values_at names xs i t c.0 e h c.1 c.2)) ∙ w
 
-pub values-err : (names : Names) (xs : List Entry) (i : ℕ) (t : Entry) (front : Option Scalar) (f : Fault) (whole : Result (Option Scalar) Fault) → t ≡ get_or xs i t → i < length xs →
+pub values-err : (names : Names) (xs : List Entry) (i : ℕ) (t : Entry) (prefix : Option Scalar) (f : Fault) (whole : Result (Option Scalar) Fault) → t ≡ get_or xs i t → i < length xs →
     is_ok (key_of t.key.span (literals (map entry_view (take i xs))) (literal_of (tree_view t.key))) ≡ true → type_of names (tree_view t.value) ≡ Err f →
-    all_found front (values_from names xs i) ≡ whole → Err f ≡ whole
-values-err names xs i t front f whole e h key found w =
+    all_found prefix (values_from names xs i) ≡ whole → Err f ≡ whole
+values-err names xs i t prefix f whole e h key found w =
     let c = key_is t.key.span (literals (map entry_view (take i xs))) (literal_of (tree_view t.key)) key in
-    ap (λ (r : Result CelType Fault). all_found front (r >>= λ l. item_type t.value.span l >>= λ q. values_from names xs (i + 1) >>= λ rest. Ok (Some (joined q rest)))) (sym found)
-    ∙ ap (all_found front) (sym (values_at names xs i t c.0 e h c.1 c.2)) ∙ w
+    ap (λ (r : Result CelType Fault). all_found prefix (r >>= λ l. item_type t.value.span l >>= λ q. values_from names xs (i + 1) >>= λ rest. Ok (Some (joined q rest)))) (sym found)
+    ∙ ap (all_found prefix) (sym (values_at names xs i t c.0 e h c.1 c.2)) ∙ w
 
-pub values-not : (names : Names) (xs : List Entry) (i : ℕ) (t : Entry) (front : Option Scalar) (k : CelType) (f : Fault) (whole : Result (Option Scalar) Fault) → t ≡ get_or xs i t → i < length xs →
+pub values-not : (names : Names) (xs : List Entry) (i : ℕ) (t : Entry) (prefix : Option Scalar) (k : CelType) (f : Fault) (whole : Result (Option Scalar) Fault) → t ≡ get_or xs i t → i < length xs →
     is_ok (key_of t.key.span (literals (map entry_view (take i xs))) (literal_of (tree_view t.key))) ≡ true → type_of names (tree_view t.value) ≡ Ok k → item_type t.value.span k ≡ Err f →
-    all_found front (values_from names xs i) ≡ whole → Err f ≡ whole
-values-not names xs i t front k f whole e h key found item w =
+    all_found prefix (values_from names xs i) ≡ whole → Err f ≡ whole
+values-not names xs i t prefix k f whole e h key found item w =
     let c = key_is t.key.span (literals (map entry_view (take i xs))) (literal_of (tree_view t.key)) key in
-    ap (λ (r : Result Scalar Fault). all_found front (r >>= λ q. values_from names xs (i + 1) >>= λ rest. Ok (Some (joined q rest)))) (sym item)
-    ∙ ap (λ (r : Result CelType Fault). all_found front (r >>= λ l. item_type t.value.span l >>= λ q. values_from names xs (i + 1) >>= λ rest. Ok (Some (joined q rest)))) (sym found)
-    ∙ ap (all_found front) (sym (values_at names xs i t c.0 e h c.1 c.2)) ∙ w
+    ap (λ (r : Result Scalar Fault). all_found prefix (r >>= λ q. values_from names xs (i + 1) >>= λ rest. Ok (Some (joined q rest)))) (sym item)
+    ∙ ap (λ (r : Result CelType Fault). all_found prefix (r >>= λ l. item_type t.value.span l >>= λ q. values_from names xs (i + 1) >>= λ rest. Ok (Some (joined q rest)))) (sym found)
+    ∙ ap (all_found prefix) (sym (values_at names xs i t c.0 e h c.1 c.2)) ∙ w
 
-pub values-key : (names : Names) (xs : List Entry) (i : ℕ) (t : Entry) (front : Option Scalar) (whole : Result (Option Scalar) Fault) → t ≡ get_or xs i t → i < length xs →
+pub values-key : (names : Names) (xs : List Entry) (i : ℕ) (t : Entry) (prefix : Option Scalar) (whole : Result (Option Scalar) Fault) → t ≡ get_or xs i t → i < length xs →
     is_ok (key_of t.key.span (literals (map entry_view (take i xs))) (literal_of (tree_view t.key))) ≡ false →
-    all_found front (values_from names xs i) ≡ whole → Err (NoOverload t.key.span) ≡ whole
-values-key names xs i t front whole e h key w =
-    ap (λ (r : Result Constant Fault). all_found front (r >>= λ d. one_value names xs i t (literals (map entry_view (take i xs)) ++ d ∷ []))) (sym (key_not t.key.span (literals (map entry_view (take i xs))) (literal_of (tree_view t.key)) key))
-    ∙ ap (λ es. all_found front (values_of names (literals (map entry_view (take i xs))) es)) (sym (entry_at xs i t e h)) ∙ w
+    all_found prefix (values_from names xs i) ≡ whole → Err (NoOverload t.key.span) ≡ whole
+values-key names xs i t prefix whole e h key w =
+    ap (λ (r : Result Constant Fault). all_found prefix (r >>= λ d. one_value names xs i t (literals (map entry_view (take i xs)) ++ d ∷ []))) (sym (key_not t.key.span (literals (map entry_view (take i xs))) (literal_of (tree_view t.key)) key))
+    ∙ ap (λ es. all_found prefix (values_of names (literals (map entry_view (take i xs))) es)) (sym (entry_at xs i t e h)) ∙ w
 
-pub values-end : (names : Names) (xs : List Entry) (i : ℕ) (front : Option Scalar) (whole : Result (Option Scalar) Fault) → length xs ≤ i →
-    all_found front (values_from names xs i) ≡ whole → Ok front ≡ whole
-values-end names xs i front whole h w = sym (found_end front) ∙ ap (λ es. all_found front (values_of names (literals (map entry_view (take i xs))) es)) (sym (entry_end xs i h)) ∙ w
+pub values-end : (names : Names) (xs : List Entry) (i : ℕ) (prefix : Option Scalar) (whole : Result (Option Scalar) Fault) → length xs ≤ i →
+    all_found prefix (values_from names xs i) ≡ whole → Ok prefix ≡ whole
+values-end names xs i prefix whole h w = sym (found_end prefix) ∙ ap (λ es. all_found prefix (values_of names (literals (map entry_view (take i xs))) es)) (sym (entry_end xs i h)) ∙ w
 
 found_none : (r : Result (Option Scalar) Fault) → all_found None r ≡ r
 found_none (Ok rest) = refl

@@ -41,16 +41,16 @@ entries_at xs i t e h = ap (λ (ys : List Entry). entries_of (map entry_view ys)
 
 -- ---- the items of a list literal
 
-pub items-step : (device : Device) (names : Bindings) (xs : List Tree) (i : ℕ) (t : Tree) (front front' : List Single) (x : Single) (whole : Result (List Single) EvalError) →
-    t ≡ get_or xs i t → i < length xs → as_single (means device names (tree_view t)) ≡ Ok x → front' ≡ front ++ x ∷ [] →
-    behind_all front (items_of device names (asts_of (map tree_view (drop i xs)))) ≡ whole →
-    behind_all front' (items_of device names (asts_of (map tree_view (drop (i + 1) xs)))) ≡ whole
-items-step device names xs i t front front' x whole e h found put w =
+pub items-step : (device : Device) (names : Bindings) (xs : List Tree) (i : ℕ) (t : Tree) (prefix prefix' : List Single) (x : Single) (whole : Result (List Single) EvalError) →
+    t ≡ get_or xs i t → i < length xs → as_single (means device names (tree_view t)) ≡ Ok x → prefix' ≡ prefix ++ x ∷ [] →
+    behind_all prefix (items_of device names (asts_of (map tree_view (drop i xs)))) ≡ whole →
+    behind_all prefix' (items_of device names (asts_of (map tree_view (drop (i + 1) xs)))) ≡ whole
+items-step device names xs i t prefix prefix' x whole e h found put w =
     let rest : Result (List Single) EvalError = items_of device names (asts_of (map tree_view (drop (i + 1) xs))) in
     ap (λ (f : List Single). behind_all f rest) put
-    ∙ behind-more front x rest
-    ∙ ap (λ (r : Result Single EvalError). behind_all front (r >>= λ y. rest >>= λ ys. Ok (y ∷ ys))) (sym found)
-    ∙ ap (λ ts. behind_all front (items_of device names ts)) (sym (rest_at xs i t e h)) ∙ w
+    ∙ behind-more prefix x rest
+    ∙ ap (λ (r : Result Single EvalError). behind_all prefix (r >>= λ y. rest >>= λ ys. Ok (y ∷ ys))) (sym found)
+    ∙ ap (λ ts. behind_all prefix (items_of device names ts)) (sym (rest_at xs i t e h)) ∙ w
 
 pub items-count : (device : Device) (names : Bindings) (xs : List Tree) (i : ℕ) (t : Tree) (x : Single) (old new whole : ℕ) →
     t ≡ get_or xs i t → i < length xs → as_single (means device names (tree_view t)) ≡ Ok x → new ≡ old + cost device names (tree_view t) →
@@ -86,16 +86,16 @@ values-stop device names xs i t e start old new total is h g c least w =
     counts-from (failed (List Value) e) start old new (cost device names (tree_view t) + behind m (λ y. n)) total least (ap (λ (k : ℕ). old + k) (sym at) ∙ w)
     (counts-behind Value (List Value) e m old new (cost device names (tree_view t)) (λ y. n) g c)
 
-pub values-step : (device : Device) (names : Bindings) (xs : List Tree) (i : ℕ) (t : Tree) (front front' : List Value) (x : Value) (whole : Result (List Value) EvalError) →
-    t ≡ get_or xs i t → i < length xs → means device names (tree_view t) ≡ Ok x → front' ≡ front ++ x ∷ [] →
-    behind_all front (each device names (asts_of (map tree_view (drop i xs)))) ≡ whole →
-    behind_all front' (each device names (asts_of (map tree_view (drop (i + 1) xs)))) ≡ whole
-values-step device names xs i t front front' x whole e h found put w =
+pub values-step : (device : Device) (names : Bindings) (xs : List Tree) (i : ℕ) (t : Tree) (prefix prefix' : List Value) (x : Value) (whole : Result (List Value) EvalError) →
+    t ≡ get_or xs i t → i < length xs → means device names (tree_view t) ≡ Ok x → prefix' ≡ prefix ++ x ∷ [] →
+    behind_all prefix (each device names (asts_of (map tree_view (drop i xs)))) ≡ whole →
+    behind_all prefix' (each device names (asts_of (map tree_view (drop (i + 1) xs)))) ≡ whole
+values-step device names xs i t prefix prefix' x whole e h found put w =
     let rest : Result (List Value) EvalError = each device names (asts_of (map tree_view (drop (i + 1) xs))) in
     ap (λ (f : List Value). behind_all f rest) put
-    ∙ behind-more front x rest
-    ∙ ap (λ (r : Result Value EvalError). behind_all front (r >>= λ y. rest >>= λ ys. Ok (y ∷ ys))) (sym found)
-    ∙ ap (λ ts. behind_all front (each device names ts)) (sym (rest_at xs i t e h)) ∙ w
+    ∙ behind-more prefix x rest
+    ∙ ap (λ (r : Result Value EvalError). behind_all prefix (r >>= λ y. rest >>= λ ys. Ok (y ∷ ys))) (sym found)
+    ∙ ap (λ ts. behind_all prefix (each device names ts)) (sym (rest_at xs i t e h)) ∙ w
 
 pub values-count : (device : Device) (names : Bindings) (xs : List Tree) (i : ℕ) (t : Tree) (x : Value) (old new whole : ℕ) →
     t ≡ get_or xs i t → i < length xs → means device names (tree_view t) ≡ Ok x → new ≡ old + cost device names (tree_view t) →

@@ -32,8 +32,8 @@ module _ (most : ℕ) where
   asked_at : (ws : List Lexeme) (p : Part) (st : List Frame) (k : Lexeme) → Collapsed most 1 ws (p, st) → expects_top st ≤ 0 → k.kind ≡ kind.Question → At most (ws ++ k ∷ []) (Want Expr, frame.Test p ∷ st)
   asked_at ws p st k c lo ek =
       subst (λ (q : Part). At most (ws ++ k ∷ []) (Want Expr, frame.Test q ∷ st)) (sym c.part)
-      (move most (ws ++ k ∷ []) (c.before ++ (c.front ++ k ∷ [])) (Want Expr, frame.Test (cut most c.tree) ∷ st) (ap (λ (l : List Lexeme). l ++ k ∷ []) c.same ∙ append_assoc c.before c.front (k ∷ []))
-      (want_expr (test_at k c.tree c.stacked lo (weaken c.at 1 c.front c.tree c.high c.has) ek) (omega arith)))
+      (move most (ws ++ k ∷ []) (c.before ++ (c.prefix ++ k ∷ [])) (Want Expr, frame.Test (cut most c.tree) ∷ st) (ap (λ (l : List Lexeme). l ++ k ∷ []) c.same ∙ append_assoc c.before c.prefix (k ∷ []))
+      (want_expr (test_at k c.tree c.stacked lo (weaken c.at 1 c.prefix c.tree c.high c.has) ek) (omega arith)))
 
   asked_goes : (ws : List Lexeme) (p : Part) (st : List Frame) (k : Lexeme) → Collapsed most 1 ws (p, st) → k.kind ≡ kind.Question → Goes most (ws ++ k ∷ []) (asked p st)
   asked_goes ws p [] k c ek = asked_at ws p [] k c (omega arith) ek
@@ -43,42 +43,42 @@ module _ (most : ℕ) where
   asked_goes ws p (f ∷ st) k c ek = asked_at ws p (f ∷ st) k c (omega arith) ek
 
   -- a `:`
-  parted_by : (before front : List Lexeme) (f : Frame) (st : List Frame) (t : Ast) (m : ℕ) (k : Lexeme) → Stacked most before (f ∷ st) → Has m front t → expects f ≤ m → k.kind ≡ kind.Colon →
-      Goes most ((before ++ front) ++ k ∷ []) (parted (cut most t) (f ∷ st))
-  parted_by before front f st t m k (test_at {pre = pre} {a = a} q u s lo ha eq) h l ek =
-      move most ((before ++ front) ++ k ∷ []) (pre ++ (a ++ q ∷ (front ++ k ∷ []))) (Want Expr, frame.Branch (cut most u) (cut most t) ∷ st) (simp append_assoc)
-      (want_expr (branch_at q k u t s lo ha eq (weaken m 1 front t l h) ek) (omega arith))
-  parted_by before front f st t m k (map_at {pre = pre} {us = us} o l s eo b) h i ek =
-      move most ((before ++ front) ++ k ∷ []) (pre ++ (o ∷ (us ++ (front ++ k ∷ [])))) (Want Expr, frame.Value (place o) (cut_pairs most l) (cut most t) ∷ st) (simp append_assoc)
-      (want_expr (value_at o k l t s eo b (weaken m 0 front t (omega arith) h) ek) (omega arith))
-  parted_by before front f st t m k (prefix_first n s lo en) h l ek = tt
-  parted_by before front f st t m k (prefix_again n s en) h l ek = tt
-  parted_by before front f st t m k (infix_at o u s lo ha eo) h l ek = tt
-  parted_by before front f st t m k (branch_at q c u v s lo ha eq hb ec) h l ek = tt
-  parted_by before front f st t m k (round_at o s eo) h l ek = tt
-  parted_by before front f st t m k (subscript_at o u s ha eo) h l ek = tt
-  parted_by before front f st t m k (list_at o l s eo b) h i ek = tt
-  parted_by before front f st t m k (call_at n o l s en eo b) h i ek = tt
-  parted_by before front f st t m k (method_at d n o u l s ha ed en eo b) h i ek = tt
-  parted_by before front f st t m k (value_at o c l u s eo b ha ec) h i ek = tt
+  parted_by : (before prefix : List Lexeme) (f : Frame) (st : List Frame) (t : Ast) (m : ℕ) (k : Lexeme) → Stacked most before (f ∷ st) → Has m prefix t → expects f ≤ m → k.kind ≡ kind.Colon →
+      Goes most ((before ++ prefix) ++ k ∷ []) (parted (cut most t) (f ∷ st))
+  parted_by before prefix f st t m k (test_at {pre = pre} {a = a} q u s lo ha eq) h l ek =
+      move most ((before ++ prefix) ++ k ∷ []) (pre ++ (a ++ q ∷ (prefix ++ k ∷ []))) (Want Expr, frame.Branch (cut most u) (cut most t) ∷ st) (simp append_assoc)
+      (want_expr (branch_at q k u t s lo ha eq (weaken m 1 prefix t l h) ek) (omega arith))
+  parted_by before prefix f st t m k (map_at {pre = pre} {us = us} o l s eo b) h i ek =
+      move most ((before ++ prefix) ++ k ∷ []) (pre ++ (o ∷ (us ++ (prefix ++ k ∷ [])))) (Want Expr, frame.Value (place o) (cut_pairs most l) (cut most t) ∷ st) (simp append_assoc)
+      (want_expr (value_at o k l t s eo b (weaken m 0 prefix t (omega arith) h) ek) (omega arith))
+  parted_by before prefix f st t m k (prefix_first n s lo en) h l ek = tt
+  parted_by before prefix f st t m k (prefix_again n s en) h l ek = tt
+  parted_by before prefix f st t m k (infix_at o u s lo ha eo) h l ek = tt
+  parted_by before prefix f st t m k (branch_at q c u v s lo ha eq hb ec) h l ek = tt
+  parted_by before prefix f st t m k (round_at o s eo) h l ek = tt
+  parted_by before prefix f st t m k (subscript_at o u s ha eo) h l ek = tt
+  parted_by before prefix f st t m k (list_at o l s eo b) h i ek = tt
+  parted_by before prefix f st t m k (call_at n o l s en eo b) h i ek = tt
+  parted_by before prefix f st t m k (method_at d n o u l s ha ed en eo b) h i ek = tt
+  parted_by before prefix f st t m k (value_at o c l u s eo b ha ec) h i ek = tt
 
   parted_goes : (ws : List Lexeme) (p : Part) (st : List Frame) (k : Lexeme) → Collapsed most 0 ws (p, st) → k.kind ≡ kind.Colon → Goes most (ws ++ k ∷ []) (parted p st)
   parted_goes ws p [] k c ek = tt
   parted_goes ws p (f ∷ st) k c ek =
       subst (λ (l : List Lexeme). Goes most (l ++ k ∷ []) (parted p (f ∷ st))) (sym c.same)
-      (subst (λ (q : Part). Goes most ((c.before ++ c.front) ++ k ∷ []) (parted q (f ∷ st))) (sym c.part) (parted_by c.before c.front f st c.tree c.at k c.stacked c.has c.low ek))
+      (subst (λ (q : Part). Goes most ((c.before ++ c.prefix) ++ k ∷ []) (parted q (f ∷ st))) (sym c.part) (parted_by c.before c.prefix f st c.tree c.at k c.stacked c.has c.low ek))
 
   next_goes : (ws : List Lexeme) (p : Part) (st : List Frame) (k : Lexeme) → Collapsed most 0 ws (p, st) → k.kind ≡ kind.Comma → Goes most (ws ++ k ∷ []) (next_of p st)
   next_goes ws p [] k c ek = tt
   next_goes ws p (f ∷ st) k c ek =
       subst (λ (l : List Lexeme). Goes most (l ++ k ∷ []) (next_of p (f ∷ st))) (sym c.same)
-      (subst (λ (q : Part). Goes most ((c.before ++ c.front) ++ k ∷ []) (next_of q (f ∷ st))) (sym c.part) (comma_goes most c.before c.front f st c.tree k c.stacked (weaken c.at 0 c.front c.tree (omega arith) c.has) ek))
+      (subst (λ (q : Part). Goes most ((c.before ++ c.prefix) ++ k ∷ []) (next_of q (f ∷ st))) (sym c.part) (comma_goes most c.before c.prefix f st c.tree k c.stacked (weaken c.at 0 c.prefix c.tree (omega arith) c.has) ek))
 
   closed_goes : (ws : List Lexeme) (p : Part) (st : List Frame) (k : Lexeme) → Collapsed most 0 ws (p, st) → Goes most (ws ++ k ∷ []) (closed most p st k)
   closed_goes ws p [] k c = tt
   closed_goes ws p (f ∷ st) k c =
       subst (λ (l : List Lexeme). Goes most (l ++ k ∷ []) (closed most p (f ∷ st) k)) (sym c.same)
-      (subst (λ (q : Part). Goes most ((c.before ++ c.front) ++ k ∷ []) (closed most q (f ∷ st) k)) (sym c.part) (close_goes most c.before c.front f st c.tree k c.stacked (weaken c.at 0 c.front c.tree (omega arith) c.has)))
+      (subst (λ (q : Part). Goes most ((c.before ++ c.prefix) ++ k ∷ []) (closed most q (f ∷ st) k)) (sym c.part) (close_goes most c.before c.prefix f st c.tree k c.stacked (weaken c.at 0 c.prefix c.tree (omega arith) c.has)))
 
   -- an operator with two operands
   low_by : (x : BinaryOp) (st : List Frame) → binds_top (level x) st ≡ false → expects_top st ≤ level x
@@ -91,8 +91,8 @@ module _ (most : ℕ) where
   infix_goes : (ws : List Lexeme) (p : Part) (st : List Frame) (k : Lexeme) (x : BinaryOp) → Collapsed most (level x) ws (p, st) → binary_op k.kind ≡ Some x → At most (ws ++ k ∷ []) (Want Expr, frame.Infix x p ∷ st)
   infix_goes ws p st k x c ek =
       subst (λ (q : Part). At most (ws ++ k ∷ []) (Want Expr, frame.Infix x q ∷ st)) (sym c.part)
-      (move most (ws ++ k ∷ []) (c.before ++ (c.front ++ k ∷ [])) (Want Expr, frame.Infix x (cut most c.tree) ∷ st) (ap (λ (l : List Lexeme). l ++ k ∷ []) c.same ∙ append_assoc c.before c.front (k ∷ []))
-      (want_expr (infix_at k c.tree c.stacked (low_by x st c.stop) (weaken c.at (level x) c.front c.tree c.high c.has) ek) (level_within x)))
+      (move most (ws ++ k ∷ []) (c.before ++ (c.prefix ++ k ∷ [])) (Want Expr, frame.Infix x (cut most c.tree) ∷ st) (ap (λ (l : List Lexeme). l ++ k ∷ []) c.same ∙ append_assoc c.before c.prefix (k ∷ []))
+      (want_expr (infix_at k c.tree c.stacked (low_by x st c.stop) (weaken c.at (level x) c.prefix c.tree c.high c.has) ek) (level_within x)))
 
   abbrev Collapses : List Lexeme → Part → List Frame → Type 0
   Collapses ws p st = (n : ℕ) → n ≤ 6 → Collapsed most n ws (reduced most n p st)

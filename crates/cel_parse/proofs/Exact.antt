@@ -26,12 +26,12 @@ module _ (most : ℕ) (e : Span) where
     pub part : p ≡ cut most tree
 
   alone_whole : (ws : List Lexeme) (q p : Part) (st : List Frame) → Collapsed most 0 ws (q, st) → alone q st ≡ Some p → Whole_of ws p
-  alone_whole ws q p [] c f = at_bottom c.before c.front c.tree c.stacked c.has (c.same) (c.part)
+  alone_whole ws q p [] c f = at_bottom c.before c.prefix c.tree c.stacked c.has (c.same) (c.part)
     where
-      at_bottom : (before front : List Lexeme) (t : Ast) → Stacked most before [] → Has c.at front t → ws ≡ before ++ front → q ≡ cut most t → Whole_of ws p
-      at_bottom before front t bottom h s g = record {
+      at_bottom : (before prefix : List Lexeme) (t : Ast) → Stacked most before [] → Has c.at prefix t → ws ≡ before ++ prefix → q ≡ cut most t → Whole_of ws p
+      at_bottom before prefix t bottom h s g = record {
         tree = t;
-        has = subst (λ (l : List Lexeme). Has 0 l t) (sym s) (weaken c.at 0 front t (omega arith) h);
+        has = subst (λ (l : List Lexeme). Has 0 l t) (sym s) (weaken c.at 0 prefix t (omega arith) h);
         part = (let i : p ≡ q = cc in i ∙ g);
       }
   alone_whole ws q p (f ∷ st) c g = absurd (cc)
@@ -64,49 +64,49 @@ module _ (most : ℕ) (e : Span) where
   reached : (ts : List Lexeme) (x : State) (k : Lexeme) (y : State) → At most ts x → step_of most x.0 x.1 k ≡ Some y → At most (ts ++ k ∷ []) y
   reached ts x k y a f = subst (λ (o : Option State). Goes most (ts ++ k ∷ []) o) f (step_sound most ts x k a)
 
-  token_read : (front : List Lexeme) (k : Lexeme) (ks : List Lexeme) (x : State) (p : Part) → At most front x →
-      ((y : State) → At most (front ++ k ∷ []) y → reading most e ks y ≡ Read p → Whole_of ((front ++ k ∷ []) ++ ks) p) →
-      (o : Option State) → step_of most x.0 x.1 k ≡ o → read_token (place k) o (reading most e ks) ≡ Read p → Whole_of (front ++ k ∷ ks) p
-  token_read front k ks x p a r None g f = absurd (cc)
-  token_read front k ks x p a r (Some y) g f = subst (λ (l : List Lexeme). Whole_of l p) (append_assoc front (k ∷ []) ks) (r y (reached front x k y a g) f)
+  token_read : (prefix : List Lexeme) (k : Lexeme) (ks : List Lexeme) (x : State) (p : Part) → At most prefix x →
+      ((y : State) → At most (prefix ++ k ∷ []) y → reading most e ks y ≡ Read p → Whole_of ((prefix ++ k ∷ []) ++ ks) p) →
+      (o : Option State) → step_of most x.0 x.1 k ≡ o → read_token (place k) o (reading most e ks) ≡ Read p → Whole_of (prefix ++ k ∷ ks) p
+  token_read prefix k ks x p a r None g f = absurd (cc)
+  token_read prefix k ks x p a r (Some y) g f = subst (λ (l : List Lexeme). Whole_of l p) (append_assoc prefix (k ∷ []) ks) (r y (reached prefix x k y a g) f)
 
-  pub read_sound : (front ts : List Lexeme) (x : State) (p : Part) → At most front x → reading most e ts x ≡ Read p → Whole_of (front ++ ts) p
-  read_sound front [] x p a f = subst (λ (l : List Lexeme). Whole_of l p) (sym (append-nil front)) (end_read front x p a (finished most x.0 x.1) refl f)
-  read_sound front (k ∷ ks) x p a f = token_read front k ks x p a (λ y b g. read_sound (front ++ k ∷ []) ks y p b g) (step_of most x.0 x.1 k) refl f
+  pub read_sound : (prefix ts : List Lexeme) (x : State) (p : Part) → At most prefix x → reading most e ts x ≡ Read p → Whole_of (prefix ++ ts) p
+  read_sound prefix [] x p a f = subst (λ (l : List Lexeme). Whole_of l p) (sym (append-nil prefix)) (end_read prefix x p a (finished most x.0 x.1) refl f)
+  read_sound prefix (k ∷ ks) x p a f = token_read prefix k ks x p a (λ y b g. read_sound (prefix ++ k ∷ []) ks y p b g) (step_of most x.0 x.1 k) refl f
 
   abbrev Leads : List Lexeme → State → Type 0
-  Leads front x = (more : List Lexeme) → reading most e (front ++ more) begun ≡ reading most e more x
+  Leads prefix x = (more : List Lexeme) → reading most e (prefix ++ more) begun ≡ reading most e more x
 
-  end_fault : (front : List Lexeme) (x : State) (s : Span) → At most front x → Leads front x → (o : Option Part) → finished most x.0 x.1 ≡ o → read_end e o ≡ Fault s → Unfit e front s
-  end_fault front x s a r (Some p) f g = absurd (cc)
-  end_fault front x s a r None f g = record {
-    front = front;
+  end_fault : (prefix : List Lexeme) (x : State) (s : Span) → At most prefix x → Leads prefix x → (o : Option Part) → finished most x.0 x.1 ≡ o → read_end e o ≡ Fault s → Unfit e prefix s
+  end_fault prefix x s a r (Some p) f g = absurd (cc)
+  end_fault prefix x s a r None f g = record {
+    prefix = prefix;
     rest = [];
-    split = sym (append-nil front);
-    begins = at_begins most front x a;
-    stops = λ t h. (let i : reading most e front begun ≡ Read (cut most t) = read_whole most e front t h in
-        let j : reading most e front begun ≡ Fault e = ap (λ (l : List Lexeme). reading most e l begun) (sym (append-nil front)) ∙ r [] ∙ ap (read_end e) f in absurd (cc));
+    split = sym (append-nil prefix);
+    begins = at_begins most prefix x a;
+    stops = λ t h. (let i : reading most e prefix begun ≡ Read (cut most t) = read_whole most e prefix t h in
+        let j : reading most e prefix begun ≡ Fault e = ap (λ (l : List Lexeme). reading most e l begun) (sym (append-nil prefix)) ∙ r [] ∙ ap (read_end e) f in absurd (cc));
     here = cc;
   }
 
-  token_stops : (front : List Lexeme) (k : Lexeme) (x : State) → Leads front x → step_of most x.0 x.1 k ≡ None → Begins (front ++ k ∷ []) → ⊥
-  token_stops front k x r f b =
-      let i : reading most e ((front ++ k ∷ []) ++ b.rest) begun ≡ Read (cut most b.tree) = read_whole most e ((front ++ k ∷ []) ++ b.rest) b.tree b.has in
-      let j : reading most e ((front ++ k ∷ []) ++ b.rest) begun ≡ Fault (place k) =
-      ap (λ (l : List Lexeme). reading most e l begun) (append_assoc front (k ∷ []) b.rest) ∙ r (k ∷ b.rest) ∙ ap (λ (o : Option State). read_token (place k) o (reading most e b.rest)) f in absurd (cc)
+  token_stops : (prefix : List Lexeme) (k : Lexeme) (x : State) → Leads prefix x → step_of most x.0 x.1 k ≡ None → Begins (prefix ++ k ∷ []) → ⊥
+  token_stops prefix k x r f b =
+      let i : reading most e ((prefix ++ k ∷ []) ++ b.rest) begun ≡ Read (cut most b.tree) = read_whole most e ((prefix ++ k ∷ []) ++ b.rest) b.tree b.has in
+      let j : reading most e ((prefix ++ k ∷ []) ++ b.rest) begun ≡ Fault (place k) =
+      ap (λ (l : List Lexeme). reading most e l begun) (append_assoc prefix (k ∷ []) b.rest) ∙ r (k ∷ b.rest) ∙ ap (λ (o : Option State). read_token (place k) o (reading most e b.rest)) f in absurd (cc)
 
-  token_fault : (front : List Lexeme) (k : Lexeme) (ks : List Lexeme) (x : State) (s : Span) → At most front x → Leads front x →
-      ((y : State) → At most (front ++ k ∷ []) y → Leads (front ++ k ∷ []) y → reading most e ks y ≡ Fault s → Unfit e ((front ++ k ∷ []) ++ ks) s) →
-      (o : Option State) → step_of most x.0 x.1 k ≡ o → read_token (place k) o (reading most e ks) ≡ Fault s → Unfit e (front ++ k ∷ ks) s
-  token_fault front k ks x s a r i None g f = record { front = front; rest = k ∷ ks; split = refl; begins = at_begins most front x a; stops = token_stops front k x r g; here = cc }
-  token_fault front k ks x s a r i (Some y) g f =
-      subst (λ (l : List Lexeme). Unfit e l s) (append_assoc front (k ∷ []) ks)
-      (i y (reached front x k y a g)
-      (λ more. ap (λ (l : List Lexeme). reading most e l begun) (append_assoc front (k ∷ []) more) ∙ r (k ∷ more) ∙ ap (λ (o : Option State). read_token (place k) o (reading most e more)) g) f)
+  token_fault : (prefix : List Lexeme) (k : Lexeme) (ks : List Lexeme) (x : State) (s : Span) → At most prefix x → Leads prefix x →
+      ((y : State) → At most (prefix ++ k ∷ []) y → Leads (prefix ++ k ∷ []) y → reading most e ks y ≡ Fault s → Unfit e ((prefix ++ k ∷ []) ++ ks) s) →
+      (o : Option State) → step_of most x.0 x.1 k ≡ o → read_token (place k) o (reading most e ks) ≡ Fault s → Unfit e (prefix ++ k ∷ ks) s
+  token_fault prefix k ks x s a r i None g f = record { prefix = prefix; rest = k ∷ ks; split = refl; begins = at_begins most prefix x a; stops = token_stops prefix k x r g; here = cc }
+  token_fault prefix k ks x s a r i (Some y) g f =
+      subst (λ (l : List Lexeme). Unfit e l s) (append_assoc prefix (k ∷ []) ks)
+      (i y (reached prefix x k y a g)
+      (λ more. ap (λ (l : List Lexeme). reading most e l begun) (append_assoc prefix (k ∷ []) more) ∙ r (k ∷ more) ∙ ap (λ (o : Option State). read_token (place k) o (reading most e more)) g) f)
 
-  pub fault_sound : (front ts : List Lexeme) (x : State) (s : Span) → At most front x → Leads front x → reading most e ts x ≡ Fault s → Unfit e (front ++ ts) s
-  fault_sound front [] x s a r f = subst (λ (l : List Lexeme). Unfit e l s) (sym (append-nil front)) (end_fault front x s a r (finished most x.0 x.1) refl f)
-  fault_sound front (k ∷ ks) x s a r f = token_fault front k ks x s a r (λ y b i g. fault_sound (front ++ k ∷ []) ks y s b i g) (step_of most x.0 x.1 k) refl f
+  pub fault_sound : (prefix ts : List Lexeme) (x : State) (s : Span) → At most prefix x → Leads prefix x → reading most e ts x ≡ Fault s → Unfit e (prefix ++ ts) s
+  fault_sound prefix [] x s a r f = subst (λ (l : List Lexeme). Unfit e l s) (sym (append-nil prefix)) (end_fault prefix x s a r (finished most x.0 x.1) refl f)
+  fault_sound prefix (k ∷ ks) x s a r f = token_fault prefix k ks x s a r (λ y b i g. fault_sound (prefix ++ k ∷ []) ks y s b i g) (step_of most x.0 x.1 k) refl f
 
   start : At most [] begun
   start = want_expr bottom (omega arith)

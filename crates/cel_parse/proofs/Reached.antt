@@ -130,57 +130,57 @@ module _ (most : ℕ) where
   end_map ts pre us st o k l ps e f s eo h i g = tt
 
   -- a comma after an expression
-  pub comma_goes : (before front : List Lexeme) (f : Frame) (st : List Frame) (t : Ast) (k : Lexeme) → Stacked most before (f ∷ st) → Has 0 front t → k.kind ≡ kind.Comma → Goes ((before ++ front) ++ k ∷ []) (want_next st (grown f (cut most t)))
-  comma_goes before front f st t k (list_at {pre = pre} {us = us} o l s eo b) h ek =
-      subst (λ (ps : Parts). At ((before ++ front) ++ k ∷ []) (Want Next, frame.Square (place o) ps ∷ st)) (sym (cuts_more most l t))
-      (move ((before ++ front) ++ k ∷ []) (pre ++ (o ∷ ((us ++ front) ++ k ∷ []))) (Want Next, frame.Square (place o) (cuts most (l ++ t ∷ [])) ∷ st) (simp append_assoc) (next_list o k (l ++ t ∷ []) s eo (listed us front l t b h) ek))
-  comma_goes before front f st t k (call_at {pre = pre} {us = us} n o l s en eo b) h ek =
-      subst (λ (ps : Parts). At ((before ++ front) ++ k ∷ []) (Want Expr, frame.Function (place n) n.text ps ∷ st)) (sym (cuts_more most l t))
-      (move ((before ++ front) ++ k ∷ []) (pre ++ (n ∷ o ∷ ((us ++ front) ++ k ∷ []))) (Want Expr, frame.Function (place n) n.text (cuts most (l ++ t ∷ [])) ∷ st) (simp append_assoc)
-      (want_expr (call_at n o (l ++ t ∷ []) s en eo (some_items k (listed us front l t b h) ek)) (omega arith)))
-  comma_goes before front f st t k (method_at {pre = pre} {a = a} {us = us} d n o u l s ha ed en eo b) h ek =
-      subst (λ (ps : Parts). At ((before ++ front) ++ k ∷ []) (Want Expr, frame.Method (cut most u) n.text ps ∷ st)) (sym (cuts_more most l t))
-      (move ((before ++ front) ++ k ∷ []) (pre ++ (a ++ d ∷ n ∷ o ∷ ((us ++ front) ++ k ∷ []))) (Want Expr, frame.Method (cut most u) n.text (cuts most (l ++ t ∷ [])) ∷ st) (simp append_assoc)
-      (want_expr (method_at d n o u (l ++ t ∷ []) s ha ed en eo (some_items k (listed us front l t b h) ek)) (omega arith)))
-  comma_goes before front f st t k (value_at {pre = pre} {us = us} {a = a} o c l u s eo b ha ec) h ek =
-      subst (λ (ps : Entries). At ((before ++ front) ++ k ∷ []) (Want Next, frame.Braces (place o) ps ∷ st)) (sym (cuts_pair most l u t))
-      (move ((before ++ front) ++ k ∷ []) (pre ++ (o ∷ ((us ++ (a ++ c ∷ front)) ++ k ∷ []))) (Want Next, frame.Braces (place o) (cut_pairs most (l ++ (u, t) ∷ [])) ∷ st) (simp append_assoc) (next_map o k (l ++ (u, t) ∷ []) s eo (paired us a front c l u t b ha ec h) ek))
-  comma_goes before front f st t k (prefix_first n s lo en) h ek = tt
-  comma_goes before front f st t k (prefix_again n s en) h ek = tt
-  comma_goes before front f st t k (infix_at o u s lo ha eo) h ek = tt
-  comma_goes before front f st t k (test_at q u s lo ha eq) h ek = tt
-  comma_goes before front f st t k (branch_at q c u v s lo ha eq hb ec) h ek = tt
-  comma_goes before front f st t k (round_at o s eo) h ek = tt
-  comma_goes before front f st t k (subscript_at o u s ha eo) h ek = tt
-  comma_goes before front f st t k (map_at o l s eo b) h ek = tt
+  pub comma_goes : (before prefix : List Lexeme) (f : Frame) (st : List Frame) (t : Ast) (k : Lexeme) → Stacked most before (f ∷ st) → Has 0 prefix t → k.kind ≡ kind.Comma → Goes ((before ++ prefix) ++ k ∷ []) (want_next st (grown f (cut most t)))
+  comma_goes before prefix f st t k (list_at {pre = pre} {us = us} o l s eo b) h ek =
+      subst (λ (ps : Parts). At ((before ++ prefix) ++ k ∷ []) (Want Next, frame.Square (place o) ps ∷ st)) (sym (cuts_more most l t))
+      (move ((before ++ prefix) ++ k ∷ []) (pre ++ (o ∷ ((us ++ prefix) ++ k ∷ []))) (Want Next, frame.Square (place o) (cuts most (l ++ t ∷ [])) ∷ st) (simp append_assoc) (next_list o k (l ++ t ∷ []) s eo (listed us prefix l t b h) ek))
+  comma_goes before prefix f st t k (call_at {pre = pre} {us = us} n o l s en eo b) h ek =
+      subst (λ (ps : Parts). At ((before ++ prefix) ++ k ∷ []) (Want Expr, frame.Function (place n) n.text ps ∷ st)) (sym (cuts_more most l t))
+      (move ((before ++ prefix) ++ k ∷ []) (pre ++ (n ∷ o ∷ ((us ++ prefix) ++ k ∷ []))) (Want Expr, frame.Function (place n) n.text (cuts most (l ++ t ∷ [])) ∷ st) (simp append_assoc)
+      (want_expr (call_at n o (l ++ t ∷ []) s en eo (some_items k (listed us prefix l t b h) ek)) (omega arith)))
+  comma_goes before prefix f st t k (method_at {pre = pre} {a = a} {us = us} d n o u l s ha ed en eo b) h ek =
+      subst (λ (ps : Parts). At ((before ++ prefix) ++ k ∷ []) (Want Expr, frame.Method (cut most u) n.text ps ∷ st)) (sym (cuts_more most l t))
+      (move ((before ++ prefix) ++ k ∷ []) (pre ++ (a ++ d ∷ n ∷ o ∷ ((us ++ prefix) ++ k ∷ []))) (Want Expr, frame.Method (cut most u) n.text (cuts most (l ++ t ∷ [])) ∷ st) (simp append_assoc)
+      (want_expr (method_at d n o u (l ++ t ∷ []) s ha ed en eo (some_items k (listed us prefix l t b h) ek)) (omega arith)))
+  comma_goes before prefix f st t k (value_at {pre = pre} {us = us} {a = a} o c l u s eo b ha ec) h ek =
+      subst (λ (ps : Entries). At ((before ++ prefix) ++ k ∷ []) (Want Next, frame.Braces (place o) ps ∷ st)) (sym (cuts_pair most l u t))
+      (move ((before ++ prefix) ++ k ∷ []) (pre ++ (o ∷ ((us ++ (a ++ c ∷ prefix)) ++ k ∷ []))) (Want Next, frame.Braces (place o) (cut_pairs most (l ++ (u, t) ∷ [])) ∷ st) (simp append_assoc) (next_map o k (l ++ (u, t) ∷ []) s eo (paired us a prefix c l u t b ha ec h) ek))
+  comma_goes before prefix f st t k (prefix_first n s lo en) h ek = tt
+  comma_goes before prefix f st t k (prefix_again n s en) h ek = tt
+  comma_goes before prefix f st t k (infix_at o u s lo ha eo) h ek = tt
+  comma_goes before prefix f st t k (test_at q u s lo ha eq) h ek = tt
+  comma_goes before prefix f st t k (branch_at q c u v s lo ha eq hb ec) h ek = tt
+  comma_goes before prefix f st t k (round_at o s eo) h ek = tt
+  comma_goes before prefix f st t k (subscript_at o u s ha eo) h ek = tt
+  comma_goes before prefix f st t k (map_at o l s eo b) h ek = tt
 
   -- a closing bracket after an expression
-  round_goes : (ts pre front : List Lexeme) (st : List Frame) (o k : Lexeme) (t : Ast) → ts ≡ pre ++ (o ∷ (front ++ k ∷ [])) → Stacked most pre st → o.kind ≡ kind.LeftParen → Has 0 front t →
+  round_goes : (ts pre prefix : List Lexeme) (st : List Frame) (o k : Lexeme) (t : Ast) → ts ≡ pre ++ (o ∷ (prefix ++ k ∷ [])) → Stacked most pre st → o.kind ≡ kind.LeftParen → Has 0 prefix t →
       (i : TokenKind) → k.kind ≡ i → Goes ts (have_whole st (closed_round (cut most t) i))
-  round_goes ts pre front st o k t e s eo h kind.RightParen g = put ts pre (o ∷ (front ++ k ∷ [])) t (cut most t) st e refl s (brackets o k eo h g)
-  round_goes ts pre front st o k t e s eo h i g = tt
+  round_goes ts pre prefix st o k t e s eo h kind.RightParen g = put ts pre (o ∷ (prefix ++ k ∷ [])) t (cut most t) st e refl s (brackets o k eo h g)
+  round_goes ts pre prefix st o k t e s eo h i g = tt
 
-  subscript_goes : (ts pre a front : List Lexeme) (st : List Frame) (o k : Lexeme) (t u : Ast) → ts ≡ pre ++ (a ++ o ∷ (front ++ k ∷ [])) → Stacked most pre st → Has 7 a u → o.kind ≡ kind.LeftBracket → Has 0 front t →
+  subscript_goes : (ts pre a prefix : List Lexeme) (st : List Frame) (o k : Lexeme) (t u : Ast) → ts ≡ pre ++ (a ++ o ∷ (prefix ++ k ∷ [])) → Stacked most pre st → Has 7 a u → o.kind ≡ kind.LeftBracket → Has 0 prefix t →
       (i : TokenKind) → k.kind ≡ i → Goes ts (have_whole st (closed_subscript most (cut most u) (cut most t) i (place k)))
-  subscript_goes ts pre a front st o k t u e s ha eo h kind.RightBracket g =
-      put ts pre (a ++ o ∷ (front ++ k ∷ [])) (Node (over (span_of u) (place k)) (Index u t)) (index_part most (cut most u) (cut most t) (place k)) st e (cut_index most u t (place k)) s (index o k ha eo h g)
-  subscript_goes ts pre a front st o k t u e s ha eo h i g = tt
+  subscript_goes ts pre a prefix st o k t u e s ha eo h kind.RightBracket g =
+      put ts pre (a ++ o ∷ (prefix ++ k ∷ [])) (Node (over (span_of u) (place k)) (Index u t)) (index_part most (cut most u) (cut most t) (place k)) st e (cut_index most u t (place k)) s (index o k ha eo h g)
+  subscript_goes ts pre a prefix st o k t u e s ha eo h i g = tt
 
-  pub close_goes : (before front : List Lexeme) (f : Frame) (st : List Frame) (t : Ast) (k : Lexeme) → Stacked most before (f ∷ st) → Has 0 front t →
-      Goes ((before ++ front) ++ k ∷ []) (have_whole st (closed_frame most f (cut most t) k.kind (place k)))
-  close_goes before front f st t k (round_at {pre = pre} o s eo) h = round_goes ((before ++ front) ++ k ∷ []) pre front st o k t (simp append_assoc) s eo h k.kind refl
-  close_goes before front f st t k (subscript_at {pre = pre} {a = a} o u s ha eo) h = subscript_goes ((before ++ front) ++ k ∷ []) pre a front st o k t u (simp append_assoc) s ha eo h k.kind refl
-  close_goes before front f st t k (list_at {pre = pre} {us = us} o l s eo b) h =
-      end_list ((before ++ front) ++ k ∷ []) pre (us ++ front) st o k (l ++ t ∷ []) (added_item (cuts most l) (cut most t)) (simp append_assoc) (cuts_more most l t) s eo (items (arguments (listed us front l t b h))) k.kind refl
-  close_goes before front f st t k (call_at {pre = pre} {us = us} n o l s en eo b) h =
-      end_call ((before ++ front) ++ k ∷ []) pre (us ++ front) st n o k (l ++ t ∷ []) (added_item (cuts most l) (cut most t)) (simp append_assoc) (cuts_more most l t) s en eo (arguments (listed us front l t b h)) k.kind refl
-  close_goes before front f st t k (method_at {pre = pre} {a = a} {us = us} d n o u l s ha ed en eo b) h =
-      end_method ((before ++ front) ++ k ∷ []) pre a (us ++ front) st d n o k u (l ++ t ∷ []) (added_item (cuts most l) (cut most t)) (simp append_assoc) (cuts_more most l t) s ha ed en eo (arguments (listed us front l t b h)) k.kind refl
-  close_goes before front f st t k (value_at {pre = pre} {us = us} {a = a} o c l u s eo b ha ec) h =
-      end_map ((before ++ front) ++ k ∷ []) pre (us ++ (a ++ c ∷ front)) st o k (l ++ (u, t) ∷ []) (added_pair (cut_pairs most l) (cut most u) (cut most t)) (simp append_assoc) (cuts_pair most l u t) s eo (pairs (paired us a front c l u t b ha ec h)) k.kind refl
-  close_goes before front f st t k (prefix_first n s lo en) h = tt
-  close_goes before front f st t k (prefix_again n s en) h = tt
-  close_goes before front f st t k (infix_at o u s lo ha eo) h = tt
-  close_goes before front f st t k (test_at q u s lo ha eq) h = tt
-  close_goes before front f st t k (branch_at q c u v s lo ha eq hb ec) h = tt
-  close_goes before front f st t k (map_at o l s eo b) h = tt
+  pub close_goes : (before prefix : List Lexeme) (f : Frame) (st : List Frame) (t : Ast) (k : Lexeme) → Stacked most before (f ∷ st) → Has 0 prefix t →
+      Goes ((before ++ prefix) ++ k ∷ []) (have_whole st (closed_frame most f (cut most t) k.kind (place k)))
+  close_goes before prefix f st t k (round_at {pre = pre} o s eo) h = round_goes ((before ++ prefix) ++ k ∷ []) pre prefix st o k t (simp append_assoc) s eo h k.kind refl
+  close_goes before prefix f st t k (subscript_at {pre = pre} {a = a} o u s ha eo) h = subscript_goes ((before ++ prefix) ++ k ∷ []) pre a prefix st o k t u (simp append_assoc) s ha eo h k.kind refl
+  close_goes before prefix f st t k (list_at {pre = pre} {us = us} o l s eo b) h =
+      end_list ((before ++ prefix) ++ k ∷ []) pre (us ++ prefix) st o k (l ++ t ∷ []) (added_item (cuts most l) (cut most t)) (simp append_assoc) (cuts_more most l t) s eo (items (arguments (listed us prefix l t b h))) k.kind refl
+  close_goes before prefix f st t k (call_at {pre = pre} {us = us} n o l s en eo b) h =
+      end_call ((before ++ prefix) ++ k ∷ []) pre (us ++ prefix) st n o k (l ++ t ∷ []) (added_item (cuts most l) (cut most t)) (simp append_assoc) (cuts_more most l t) s en eo (arguments (listed us prefix l t b h)) k.kind refl
+  close_goes before prefix f st t k (method_at {pre = pre} {a = a} {us = us} d n o u l s ha ed en eo b) h =
+      end_method ((before ++ prefix) ++ k ∷ []) pre a (us ++ prefix) st d n o k u (l ++ t ∷ []) (added_item (cuts most l) (cut most t)) (simp append_assoc) (cuts_more most l t) s ha ed en eo (arguments (listed us prefix l t b h)) k.kind refl
+  close_goes before prefix f st t k (value_at {pre = pre} {us = us} {a = a} o c l u s eo b ha ec) h =
+      end_map ((before ++ prefix) ++ k ∷ []) pre (us ++ (a ++ c ∷ prefix)) st o k (l ++ (u, t) ∷ []) (added_pair (cut_pairs most l) (cut most u) (cut most t)) (simp append_assoc) (cuts_pair most l u t) s eo (pairs (paired us a prefix c l u t b ha ec h)) k.kind refl
+  close_goes before prefix f st t k (prefix_first n s lo en) h = tt
+  close_goes before prefix f st t k (prefix_again n s en) h = tt
+  close_goes before prefix f st t k (infix_at o u s lo ha eo) h = tt
+  close_goes before prefix f st t k (test_at q u s lo ha eq) h = tt
+  close_goes before prefix f st t k (branch_at q c u v s lo ha eq hb ec) h = tt
+  close_goes before prefix f st t k (map_at o l s eo b) h = tt

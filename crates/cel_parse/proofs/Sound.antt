@@ -65,13 +65,13 @@ module _ (most : ℕ) where
   -- what is left once all that binds was completed
   pub record Collapsed (n : ℕ) (tokens : List Lexeme) (r : Part × List Frame) : Type 0 where
     pub before : List Lexeme
-    pub front : List Lexeme
+    pub prefix : List Lexeme
     pub tree : Ast
     pub at : ℕ
     pub stacked : Stacked before r.1
-    pub has : Has at front tree
+    pub has : Has at prefix tree
     pub part : r.0 ≡ cut most tree
-    pub same : tokens ≡ before ++ front
+    pub same : tokens ≡ before ++ prefix
     pub low : expects_top r.1 ≤ at
     pub high : n ≤ at
     pub stop : binds_top n r.1 ≡ false
@@ -80,7 +80,7 @@ module _ (most : ℕ) where
   carry n ts us p q st e f c = subst (λ (l : List Lexeme). Collapsed n l (reduced most n p st)) (sym e) (subst (λ (r : Part). Collapsed n us (reduced most n r st)) (sym f) c)
 
   stay : (n m : ℕ) (pre ts : List Lexeme) (t : Ast) (st : List Frame) → Stacked pre st → Has m ts t → expects_top st ≤ m → n ≤ m → binds_top n st ≡ false → Collapsed n (pre ++ ts) (cut most t, st)
-  stay n m pre ts t st s h l g b = record { before = pre; front = ts; tree = t; at = m; stacked = s; has = h; part = refl; same = refl; low = l; high = g; stop = b }
+  stay n m pre ts t st s h l g b = record { before = pre; prefix = ts; tree = t; at = m; stacked = s; has = h; part = refl; same = refl; low = l; high = g; stop = b }
 
   choose : (n : ℕ) (ts : List Lexeme) (b c : Bool) (x y : Part × List Frame) → c ≡ b → (c ≡ true → Collapsed n ts x) → (c ≡ false → Collapsed n ts y) → Collapsed n ts (if b then x else y)
   choose n ts true c x y e f g = f e

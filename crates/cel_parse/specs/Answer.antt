@@ -21,16 +21,16 @@ first_place e (k ∷ ks) = place k
 
 -- the prefix is no expression if nothing follows; else none begins with it and the token after it
 abbrev pub GoesNot : List Lexeme → List Lexeme → Type 0
-GoesNot front [] = (t : Ast) → Has 0 front t → ⊥
-GoesNot front (k ∷ ks) = Begins (front ++ k ∷ []) → ⊥
+GoesNot prefix [] = (t : Ast) → Has 0 prefix t → ⊥
+GoesNot prefix (k ∷ ks) = Begins (prefix ++ k ∷ []) → ⊥
 
 -- The tokens are no expression, and this is the span of the first token such that none begins with the tokens up to and with it. The end of the text, at e, counts as a token.
 pub record Unfit (e : Span) (ts : List Lexeme) (s : Span) : Type 0 where
-  pub front : List Lexeme
+  pub prefix : List Lexeme
   pub rest : List Lexeme
-  pub split : ts ≡ front ++ rest
-  pub begins : Begins front
-  pub stops : GoesNot front rest
+  pub split : ts ≡ prefix ++ rest
+  pub begins : Begins prefix
+  pub stops : GoesNot prefix rest
   pub here : s ≡ first_place e rest
 
 -- the tokens have a tree, and it is this deep

@@ -37,10 +37,10 @@ coded_bytes = coded_list coded_ℕ
 abbrev pub coded_constant : Coded Constant
 coded_constant = code_by Constants (coded⊎ coded_unit (coded⊎ coded_bool (coded⊎ coded_ℤ coded_bytes))) constant_cases constant_of constant_same
 
-abbrev front : Gv → Gv
-front gnil = gnil
-front (gnum n) = gnil
-front (gcons a b) = a
+abbrev prefix : Gv → Gv
+prefix gnil = gnil
+prefix (gnum n) = gnil
+prefix (gcons a b) = a
 
 abbrev rest : Gv → Gv
 rest gnil = gnil
@@ -73,13 +73,13 @@ abbrev mutual
   code_entries (Pair t u es) = gcons (gcons (code_ast t) (code_ast u)) (code_entries es)
 
 abbrev tag : Gv → ℕ
-tag g = num (front g)
+tag g = num (prefix g)
 
 abbrev second : Gv → Gv
-second g = front (rest g)
+second g = prefix (rest g)
 
 abbrev third : Gv → Gv
-third g = front (rest (rest g))
+third g = prefix (rest (rest g))
 
 abbrev IsCons : Gv → Type 0
 IsCons gnil = ⊥
@@ -101,7 +101,7 @@ same_of m n e = subst (Same m) e (same_itself m)
 
 mutual
   pub inj_ast : (x y : Ast) → code_ast x ≡ code_ast y → x ≡ y
-  inj_ast (Node s f) (Node r g) p = λ i. Node (span.the_row.coded.inj s r (ap front p) i) (inj_form f g (ap rest p) i)
+  inj_ast (Node s f) (Node r g) p = λ i. Node (span.the_row.coded.inj s r (ap prefix p) i) (inj_form f g (ap rest p) i)
 
   inj_form : (x y : Form) → code_form x ≡ code_form y → x ≡ y
   inj_form (Literal' c) (Literal' d) p = ap Literal' (coded_constant.inj c d (ap rest p))
@@ -129,13 +129,13 @@ mutual
 
   inj_asts : (x y : Asts) → code_asts x ≡ code_asts y → x ≡ y
   inj_asts End End p = refl
-  inj_asts (More t ts) (More x xs) p = λ i. More (inj_ast t x (ap front p) i) (inj_asts ts xs (ap rest p) i)
+  inj_asts (More t ts) (More x xs) p = λ i. More (inj_ast t x (ap prefix p) i) (inj_asts ts xs (ap rest p) i)
   inj_asts End (More x xs) p = absurd (subst IsCons (sym p) tt)
   inj_asts (More t ts) End p = absurd (subst IsCons p tt)
 
   inj_entries : (x y : Entries) → code_entries x ≡ code_entries y → x ≡ y
   inj_entries NoEntry NoEntry p = refl
-  inj_entries (Pair t u es) (Pair x y xs) p = λ i. Pair (inj_ast t x (ap (λ g. front (front g)) p) i) (inj_ast u y (ap (λ g. rest (front g)) p) i) (inj_entries es xs (ap rest p) i)
+  inj_entries (Pair t u es) (Pair x y xs) p = λ i. Pair (inj_ast t x (ap (λ g. prefix (prefix g)) p) i) (inj_ast u y (ap (λ g. rest (prefix g)) p) i) (inj_entries es xs (ap rest p) i)
   inj_entries NoEntry (Pair x y xs) p = absurd (subst IsCons (sym p) tt)
   inj_entries (Pair t u es) NoEntry p = absurd (subst IsCons p tt)
 

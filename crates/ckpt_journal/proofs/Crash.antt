@@ -6,12 +6,12 @@ use Rattle.std.specs.List.{AllByRecursion}
 use Rattle.std.specs.Option.{option_map}
 use Rattle.dra_ports.specs.DiskContent.{Agrees, Content, Partly, Sure, blurred, exactly, spliced, synced, written}
 use Rattle.dra_ports.specs.DiskImages.{AtEachMoment, Leaves, Where}
-use Rattle.ckpt_journal.proofs.Moments.{sure_front, no_call, moves, may_move}
+use Rattle.ckpt_journal.proofs.Moments.{sure_prefix, no_call, moves, may_move}
 use Rattle.ckpt_journal.specs.declared.record.Record.{Record}
-use Rattle.ckpt_journal.specs.Format.{header, block, blocks, front, Fits}
+use Rattle.ckpt_journal.specs.Format.{header, block, blocks, prefix, Fits}
 use Rattle.ckpt_journal.specs.Reading.{records}
 use Rattle.ckpt_journal.specs.Standing.{Has, IsBeforeOrAfter, Settled, Staged}
-use Rattle.ckpt_journal.proofs.Read.{read_front, blocks-more}
+use Rattle.ckpt_journal.proofs.Read.{read_prefix, blocks-more}
 
 pub if_true : {X : Type 0} (b : Bool) (x y : X) → IsTrue b → (if b then x else y) ≡ x
 if_true true x y is = refl
@@ -21,14 +21,14 @@ pub one_more : {X : Type 0} (P : X → Type 0) (xs : List X) (x : X) → AllByRe
 one_more P [] x all this = (this, tt)
 one_more P (y ∷ xs) x all this = (all.0, one_more P xs x all.1 this)
 
-pub front-more : (es : List Record) (e : Record) (rest : List ℕ) → front (es ++ e ∷ []) ++ rest ≡ front es ++ 90 ∷ (block e ++ rest)
-front-more es e rest = append_assoc header (blocks (es ++ e ∷ [])) rest ∙ ap (λ (l : List ℕ). header ++ l) (blocks-more es e rest) ∙ sym (append_assoc header (blocks es) (90 ∷ (block e ++ rest)))
+pub prefix-more : (es : List Record) (e : Record) (rest : List ℕ) → prefix (es ++ e ∷ []) ++ rest ≡ prefix es ++ 90 ∷ (block e ++ rest)
+prefix-more es e rest = append_assoc header (blocks (es ++ e ∷ [])) rest ∙ ap (λ (l : List ℕ). header ++ l) (blocks-more es e rest) ∙ sym (append_assoc header (blocks es) (90 ∷ (block e ++ rest)))
 
-length-front-more : (es : List Record) (e : Record) → length (front (es ++ e ∷ [])) ≡ length (front es) + 1 + length (block e)
-length-front-more es e =
-    let whole = append-nil (front (es ++ e ∷ [])) in
-    let last = ap (λ (l : List ℕ). front es ++ 90 ∷ l) (append-nil (block e)) in
-    omega (arith, ap length (sym whole ∙ front-more es e [] ∙ last), length-append (front es) (90 ∷ block e))
+length-prefix-more : (es : List Record) (e : Record) → length (prefix (es ++ e ∷ [])) ≡ length (prefix es) + 1 + length (block e)
+length-prefix-more es e =
+    let whole = append-nil (prefix (es ++ e ∷ [])) in
+    let last = ap (λ (l : List ℕ). prefix es ++ 90 ∷ l) (append-nil (block e)) in
+    omega (arith, ap length (sym whole ∙ prefix-more es e [] ∙ last), length-append (prefix es) (90 ∷ block e))
 
 abbrev Places : Type 0
 Places = List (Option ℕ)
@@ -45,24 +45,24 @@ abbrev gapped : ℕ → ℕ → Places → Places
 gapped at n places = take at places ++ replicate (min (at + n) (length places) - min at (length places)) None ++ drop (at + n) places
 
 -- one byte within may be any
-gapped_one : (front : Places) (s : Option ℕ) (rest : Places) (at : ℕ) → at ≡ length front → gapped at 1 (front ++ s ∷ rest) ≡ front ++ None ∷ rest
-gapped_one front s rest at is =
-    let whole = front ++ s ∷ rest in
-    let one : min (at + 1) (length whole) - min at (length whole) ≡ 1 = omega (arith, length-append front (s ∷ rest)) in
-    let front_is : take at whole ≡ front = take_at front (s ∷ rest) at (sym is) in
+gapped_one : (prefix : Places) (s : Option ℕ) (rest : Places) (at : ℕ) → at ≡ length prefix → gapped at 1 (prefix ++ s ∷ rest) ≡ prefix ++ None ∷ rest
+gapped_one prefix s rest at is =
+    let whole = prefix ++ s ∷ rest in
+    let one : min (at + 1) (length whole) - min at (length whole) ≡ 1 = omega (arith, length-append prefix (s ∷ rest)) in
+    let prefix_is : take at whole ≡ prefix = take_at prefix (s ∷ rest) at (sym is) in
     let rest_is : drop (at + 1) whole ≡ rest =
-    ap (λ (l : Places). drop (at + 1) l) (sym (append_assoc front (s ∷ []) rest)) ∙ drop_at (front ++ s ∷ []) rest (at + 1) (omega (arith, length-append front (s ∷ []))) in
-    (λ i. front_is i ++ replicate (one i) None ++ rest_is i) ∙ append_assoc front (None ∷ []) rest
+    ap (λ (l : Places). drop (at + 1) l) (sym (append_assoc prefix (s ∷ []) rest)) ∙ drop_at (prefix ++ s ∷ []) rest (at + 1) (omega (arith, length-append prefix (s ∷ []))) in
+    (λ i. prefix_is i ++ replicate (one i) None ++ rest_is i) ∙ append_assoc prefix (None ∷ []) rest
 
 -- a closed gate that is sure keeps the records
-behind_gate : (es : List Record) (gate : ℕ) (places : Places) → AllByRecursion Fits es → gate ≢ 90 → Across (Has es) (map Some (front es ++ gate ∷ []) ++ places)
+behind_gate : (es : List Record) (gate : ℕ) (places : Places) → AllByRecursion Fits es → gate ≢ 90 → Across (Has es) (map Some (prefix es ++ gate ∷ []) ++ places)
 behind_gate es gate places fits shut image is =
-    let found = sure_front (front es ++ gate ∷ []) places image is in
-    subst (Has es) (sym (found.1 ∙ append_assoc (front es) (gate ∷ []) found.0)) (read_front es gate found.0 fits shut)
+    let found = sure_prefix (prefix es ++ gate ∷ []) places image is in
+    subst (Has es) (sym (found.1 ∙ append_assoc (prefix es) (gate ∷ []) found.0)) (read_prefix es gate found.0 fits shut)
 
 module _ (es : List Record) (end : ℕ) (c : Content) (s : Settled es end c) (honest : IsTrue c.honest) where
-  places_are : c.sure.places ≡ map Some (front es ++ s.gate ∷ []) ++ map Some s.tail
-  places_are = ap (λ (u : Sure). u.places) (s.sure honest) ∙ ap (map Some) (s.bytes ∙ sym (append_assoc (front es) (s.gate ∷ []) s.tail)) ∙ map-append Some (front es ++ s.gate ∷ []) s.tail
+  places_are : c.sure.places ≡ map Some (prefix es ++ s.gate ∷ []) ++ map Some s.tail
+  places_are = ap (λ (u : Sure). u.places) (s.sure honest) ∙ ap (map Some) (s.bytes ∙ sym (append_assoc (prefix es) (s.gate ∷ []) s.tail)) ∙ map-append Some (prefix es ++ s.gate ∷ []) s.tail
 
   pub settled_leaves : Leaves (Has es) c.sure
   settled_leaves = leaves_from (Has es) c.sure _ places_are (behind_gate es s.gate (map Some s.tail) s.fits s.shut)
@@ -72,9 +72,9 @@ module _ (es : List Record) (end : ℕ) (c : Content) (s : Settled es end c) (ho
       let places = c.sure.places in
       let gap = replicate (min (end + 1 + n) (length places) - min (end + 1) (length places)) None in
       let rest = drop (end + 1 + n) places in
-      let place : length (map Some (front es ++ s.gate ∷ [])) ≡ end + 1 = omega (arith, s.place, length-map (front es ++ s.gate ∷ []) Some, length-append (front es) (s.gate ∷ [])) in
-      let front_is : take (end + 1) places ≡ map Some (front es ++ s.gate ∷ []) = ap (λ (l : Places). take (end + 1) l) places_are ∙ take_at _ (map Some s.tail) (end + 1) place in
-      let gap_is : gapped (end + 1) n places ≡ map Some (front es ++ s.gate ∷ []) ++ (gap ++ rest) = (λ i. front_is i ++ gap ++ rest) ∙ append_assoc _ gap rest in
+      let place : length (map Some (prefix es ++ s.gate ∷ [])) ≡ end + 1 = omega (arith, s.place, length-map (prefix es ++ s.gate ∷ []) Some, length-append (prefix es) (s.gate ∷ [])) in
+      let prefix_is : take (end + 1) places ≡ map Some (prefix es ++ s.gate ∷ []) = ap (λ (l : Places). take (end + 1) l) places_are ∙ take_at _ (map Some s.tail) (end + 1) place in
+      let gap_is : gapped (end + 1) n places ≡ map Some (prefix es ++ s.gate ∷ []) ++ (gap ++ rest) = (λ i. prefix_is i ++ gap ++ rest) ∙ append_assoc _ gap rest in
       leaves_from (Has es) (blurred (end + 1) n c.sure) _ gap_is (behind_gate es s.gate (gap ++ rest) s.fits s.shut)
 
 -- the block is after the gate, and all is sure
@@ -84,8 +84,8 @@ staged es item end bytes None y z s is w k = subst (λ (o : Option Content). IfS
 staged es item end bytes (Some c) y z s is w k = subst (λ (o : Option Content). IfSome o (Staged es item end)) (sym (k ∙ ap (option_map synced) w)) (record {
   gate = s.gate;
   tail = rest;
-  bytes = (λ i. front_is i ++ is i ++ rest) ∙ ap (λ (l : List ℕ). l ++ rest) (append_assoc (front es) (s.gate ∷ []) (block item ++ 0 ∷ []))
-      ∙ append_assoc (front es) (s.gate ∷ (block item ++ 0 ∷ [])) rest ∙ ap (λ (l : List ℕ). front es ++ s.gate ∷ l) (append_assoc (block item) (0 ∷ []) rest);
+  bytes = (λ i. prefix_is i ++ is i ++ rest) ∙ ap (λ (l : List ℕ). l ++ rest) (append_assoc (prefix es) (s.gate ∷ []) (block item ++ 0 ∷ []))
+      ∙ append_assoc (prefix es) (s.gate ∷ (block item ++ 0 ∷ [])) rest ∙ ap (λ (l : List ℕ). prefix es ++ s.gate ∷ l) (append_assoc (block item) (0 ∷ []) rest);
   place = s.place;
   fits = s.fits;
   sure = λ honest. if_true c.honest _ _ honest;
@@ -94,46 +94,46 @@ staged es item end bytes (Some c) y z s is w k = subst (λ (o : Option Content).
     rest : List ℕ
     rest = drop (end + 1 + length bytes) c.bytes
 
-    front_is : take (end + 1) c.bytes ≡ front es ++ s.gate ∷ []
-    front_is = ap (λ (l : List ℕ). take (end + 1) l) (s.bytes ∙ sym (append_assoc (front es) (s.gate ∷ []) s.tail)) ∙ take_at (front es ++ s.gate ∷ []) s.tail (end + 1) (omega (arith, s.place, length-append (front es) (s.gate ∷ [])))
+    prefix_is : take (end + 1) c.bytes ≡ prefix es ++ s.gate ∷ []
+    prefix_is = ap (λ (l : List ℕ). take (end + 1) l) (s.bytes ∙ sym (append_assoc (prefix es) (s.gate ∷ []) s.tail)) ∙ take_at (prefix es ++ s.gate ∷ []) s.tail (end + 1) (omega (arith, s.place, length-append (prefix es) (s.gate ∷ [])))
 
 -- a staged block after any gate counts or it doesn't
-any_gate : (es : List Record) (item : Record) (gate : ℕ) (tail : List ℕ) → AllByRecursion Fits es → Fits item → IsBeforeOrAfter es item (front es ++ gate ∷ (block item ++ 0 ∷ tail))
+any_gate : (es : List Record) (item : Record) (gate : ℕ) (tail : List ℕ) → AllByRecursion Fits es → Fits item → IsBeforeOrAfter es item (prefix es ++ gate ∷ (block item ++ 0 ∷ tail))
 any_gate es item gate tail fits this = elim (cases_eq gate 90) [
-  | inl is ↦ inr (ap (λ (g : ℕ). records (front es ++ g ∷ (block item ++ 0 ∷ tail))) is ∙ ap records (sym (front-more es item (0 ∷ tail))) ∙ read_front (es ++ item ∷ []) 0 tail (one_more Fits es item fits this) (omega arith))
-  | inr shut ↦ inl (read_front es gate (block item ++ 0 ∷ tail) fits shut)
+  | inl is ↦ inr (ap (λ (g : ℕ). records (prefix es ++ g ∷ (block item ++ 0 ∷ tail))) is ∙ ap records (sym (prefix-more es item (0 ∷ tail))) ∙ read_prefix (es ++ item ∷ []) 0 tail (one_more Fits es item fits this) (omega arith))
+  | inr shut ↦ inl (read_prefix es gate (block item ++ 0 ∷ tail) fits shut)
 ]
 
 -- the first byte of what is sure but for its first
 loose_first : (xs : List ℕ) (image : List ℕ) → Agrees (None ∷ map Some xs) image → (gate : ℕ) × (rest : List ℕ) × (image ≡ gate ∷ xs ++ rest)
 loose_first xs [] is = absurd is
 loose_first xs (b ∷ image) is =
-    let found = sure_front xs [] image (subst (λ (l : Places). Agrees l image) (sym (append-nil (map Some xs))) is) in
+    let found = sure_prefix xs [] image (subst (λ (l : Places). Agrees l image) (sym (append-nil (map Some xs))) is) in
     (b, found.0, ap (λ (l : List ℕ). b ∷ l) found.1)
 
-gate_across : (es : List Record) (item : Record) (tail : List ℕ) → AllByRecursion Fits es → Fits item → Across (IsBeforeOrAfter es item) (map Some (front es) ++ None ∷ map Some (block item ++ 0 ∷ tail))
+gate_across : (es : List Record) (item : Record) (tail : List ℕ) → AllByRecursion Fits es → Fits item → Across (IsBeforeOrAfter es item) (map Some (prefix es) ++ None ∷ map Some (block item ++ 0 ∷ tail))
 gate_across es item tail fits this image is =
     let behind = block item ++ 0 ∷ tail in
-    let found = sure_front (front es) (None ∷ map Some behind) image is in
+    let found = sure_prefix (prefix es) (None ∷ map Some behind) image is in
     let gate = loose_first behind found.0 found.2 in
-    let whole : image ≡ front es ++ gate.0 ∷ (block item ++ 0 ∷ (tail ++ gate.1)) =
-    found.1 ∙ ap (λ (l : List ℕ). front es ++ l) gate.2 ∙ ap (λ (l : List ℕ). front es ++ gate.0 ∷ l) (append_assoc (block item) (0 ∷ tail) gate.1) in
+    let whole : image ≡ prefix es ++ gate.0 ∷ (block item ++ 0 ∷ (tail ++ gate.1)) =
+    found.1 ∙ ap (λ (l : List ℕ). prefix es ++ l) gate.2 ∙ ap (λ (l : List ℕ). prefix es ++ gate.0 ∷ l) (append_assoc (block item) (0 ∷ tail) gate.1) in
     subst (IsBeforeOrAfter es item) (sym whole) (any_gate es item gate.0 (tail ++ gate.1) fits this)
 
 pub gate_leaves : (es : List Record) (item : Record) (end : ℕ) (c : Content) → Staged es item end c → Fits item → IsTrue c.honest → Leaves (IsBeforeOrAfter es item) (blurred end 1 c.sure)
 gate_leaves es item end c s this honest =
     let behind = block item ++ 0 ∷ s.tail in
-    let places_are : c.sure.places ≡ map Some (front es) ++ Some s.gate ∷ map Some behind = ap (λ (u : Sure). u.places) (s.sure honest) ∙ ap (map Some) s.bytes ∙ map-append Some (front es) (s.gate ∷ behind) in
-    let gap_is : gapped end 1 c.sure.places ≡ map Some (front es) ++ None ∷ map Some behind =
-    ap (gapped end 1) places_are ∙ gapped_one (map Some (front es)) (Some s.gate) (map Some behind) end (omega (arith, s.place, length-map (front es) Some)) in
+    let places_are : c.sure.places ≡ map Some (prefix es) ++ Some s.gate ∷ map Some behind = ap (λ (u : Sure). u.places) (s.sure honest) ∙ ap (map Some) s.bytes ∙ map-append Some (prefix es) (s.gate ∷ behind) in
+    let gap_is : gapped end 1 c.sure.places ≡ map Some (prefix es) ++ None ∷ map Some behind =
+    ap (gapped end 1) places_are ∙ gapped_one (map Some (prefix es)) (Some s.gate) (map Some behind) end (omega (arith, s.place, length-map (prefix es) Some)) in
     leaves_from (IsBeforeOrAfter es item) (blurred end 1 c.sure) _ gap_is (gate_across es item s.tail s.fits this)
 
-staged_across : (es : List Record) (item : Record) (gate : ℕ) (tail : List ℕ) → AllByRecursion Fits es → Fits item → Across (IsBeforeOrAfter es item) (map Some (front es ++ gate ∷ (block item ++ 0 ∷ tail)))
+staged_across : (es : List Record) (item : Record) (gate : ℕ) (tail : List ℕ) → AllByRecursion Fits es → Fits item → Across (IsBeforeOrAfter es item) (map Some (prefix es ++ gate ∷ (block item ++ 0 ∷ tail)))
 staged_across es item gate tail fits this image is =
-    let whole = front es ++ gate ∷ (block item ++ 0 ∷ tail) in
-    let found = sure_front whole [] image (subst (λ (l : Places). Agrees l image) (sym (append-nil (map Some whole))) is) in
-    let more : image ≡ front es ++ gate ∷ (block item ++ 0 ∷ (tail ++ found.0)) =
-    found.1 ∙ append_assoc (front es) (gate ∷ (block item ++ 0 ∷ tail)) found.0 ∙ ap (λ (l : List ℕ). front es ++ gate ∷ l) (append_assoc (block item) (0 ∷ tail) found.0) in
+    let whole = prefix es ++ gate ∷ (block item ++ 0 ∷ tail) in
+    let found = sure_prefix whole [] image (subst (λ (l : Places). Agrees l image) (sym (append-nil (map Some whole))) is) in
+    let more : image ≡ prefix es ++ gate ∷ (block item ++ 0 ∷ (tail ++ found.0)) =
+    found.1 ∙ append_assoc (prefix es) (gate ∷ (block item ++ 0 ∷ tail)) found.0 ∙ ap (λ (l : List ℕ). prefix es ++ gate ∷ l) (append_assoc (block item) (0 ∷ tail) found.0) in
     subst (IsBeforeOrAfter es item) (sym more) (any_gate es item gate (tail ++ found.0) fits this)
 
 pub staged_leaves : (es : List Record) (item : Record) (end : ℕ) (c : Content) → Staged es item end c → Fits item → IsTrue c.honest → Leaves (IsBeforeOrAfter es item) c.sure
@@ -148,8 +148,8 @@ opened es item end (Some c) y z s this w k = subst (λ (o : Option Content). IfS
   gate = 0;
   tail = s.tail;
   shut = omega arith;
-  bytes = (λ i. front_is i ++ (90 ∷ []) ++ rest_is i) ∙ append_assoc (front es) (90 ∷ []) behind ∙ sym (front-more es item (0 ∷ s.tail));
-  place = omega (arith, s.place, length-front-more es item);
+  bytes = (λ i. prefix_is i ++ (90 ∷ []) ++ rest_is i) ∙ append_assoc (prefix es) (90 ∷ []) behind ∙ sym (prefix-more es item (0 ∷ s.tail));
+  place = omega (arith, s.place, length-prefix-more es item);
   fits = one_more Fits es item s.fits this;
   sure = λ honest. if_true c.honest _ _ honest;
 })
@@ -157,11 +157,11 @@ opened es item end (Some c) y z s this w k = subst (λ (o : Option Content). IfS
     behind : List ℕ
     behind = block item ++ 0 ∷ s.tail
 
-    front_is : take end c.bytes ≡ front es
-    front_is = ap (λ (l : List ℕ). take end l) s.bytes ∙ take_at (front es) (s.gate ∷ behind) end (sym s.place)
+    prefix_is : take end c.bytes ≡ prefix es
+    prefix_is = ap (λ (l : List ℕ). take end l) s.bytes ∙ take_at (prefix es) (s.gate ∷ behind) end (sym s.place)
 
     rest_is : drop (end + 1) c.bytes ≡ behind
-    rest_is = ap (λ (l : List ℕ). drop (end + 1) l) (s.bytes ∙ sym (append_assoc (front es) (s.gate ∷ []) behind)) ∙ drop_at (front es ++ s.gate ∷ []) behind (end + 1) (omega (arith, s.place, length-append (front es) (s.gate ∷ [])))
+    rest_is = ap (λ (l : List ℕ). drop (end + 1) l) (s.bytes ∙ sym (append_assoc (prefix es) (s.gate ∷ []) behind)) ∙ drop_at (prefix es ++ s.gate ∷ []) behind (end + 1) (omega (arith, s.place, length-append (prefix es) (s.gate ∷ [])))
 
 pub where_from : (P Q : Content → Type 0) → ((c : Content) → P c → IsTrue c.honest → Q c) → (x : Option Content) → IfSome x P → Where Q x
 where_from P Q h None p = tt
@@ -170,11 +170,11 @@ where_from P Q h (Some c) p = h c p
 kept_leaves : (es : List Record) (end : ℕ) (bytes : List ℕ) (c : Content) → Settled es end c → IsTrue c.honest → Leaves (Has es) (synced (written (end + 1) bytes c)).sure
 kept_leaves es end bytes c s honest =
     let rest = drop (end + 1 + length bytes) c.bytes in
-    let front_is : take (end + 1) c.bytes ≡ front es ++ s.gate ∷ [] =
-    ap (λ (l : List ℕ). take (end + 1) l) (s.bytes ∙ sym (append_assoc (front es) (s.gate ∷ []) s.tail)) ∙ take_at (front es ++ s.gate ∷ []) s.tail (end + 1) (omega (arith, s.place, length-append (front es) (s.gate ∷ []))) in
-    let whole : spliced (end + 1) bytes c.bytes ≡ (front es ++ s.gate ∷ []) ++ (bytes ++ rest) = (λ i. front_is i ++ bytes ++ rest) ∙ append_assoc (front es ++ s.gate ∷ []) bytes rest in
-    let places_are : (synced (written (end + 1) bytes c)).sure.places ≡ map Some (front es ++ s.gate ∷ []) ++ map Some (bytes ++ rest) =
-    ap (λ (u : Sure). u.places) (if_true c.honest (exactly (spliced (end + 1) bytes c.bytes)) _ honest) ∙ ap (map Some) whole ∙ map-append Some (front es ++ s.gate ∷ []) (bytes ++ rest) in
+    let prefix_is : take (end + 1) c.bytes ≡ prefix es ++ s.gate ∷ [] =
+    ap (λ (l : List ℕ). take (end + 1) l) (s.bytes ∙ sym (append_assoc (prefix es) (s.gate ∷ []) s.tail)) ∙ take_at (prefix es ++ s.gate ∷ []) s.tail (end + 1) (omega (arith, s.place, length-append (prefix es) (s.gate ∷ []))) in
+    let whole : spliced (end + 1) bytes c.bytes ≡ (prefix es ++ s.gate ∷ []) ++ (bytes ++ rest) = (λ i. prefix_is i ++ bytes ++ rest) ∙ append_assoc (prefix es ++ s.gate ∷ []) bytes rest in
+    let places_are : (synced (written (end + 1) bytes c)).sure.places ≡ map Some (prefix es ++ s.gate ∷ []) ++ map Some (bytes ++ rest) =
+    ap (λ (u : Sure). u.places) (if_true c.honest (exactly (spliced (end + 1) bytes c.bytes)) _ honest) ∙ ap (map Some) whole ∙ map-append Some (prefix es ++ s.gate ∷ []) (bytes ++ rest) in
     leaves_from (Has es) (synced (written (end + 1) bytes c)).sure _ places_are (behind_gate es s.gate (map Some (bytes ++ rest)) s.fits s.shut)
 
 module _ (es : List Record) (end : ℕ) (bytes : List ℕ) (x y : Option Content) (s : IfSome x (Settled es end)) where

@@ -10,10 +10,10 @@ use Rattle.dra_ports.specs.DiskContent.{Content, written, synced}
 use Rattle.dra_ports.specs.DiskImages.{AtEachMoment}
 use Rattle.ckpt_journal.proofs.Moments.{no_call}
 use Rattle.ckpt_journal.specs.declared.record.Record.{Record}
-use Rattle.ckpt_journal.specs.Format.{header, front}
+use Rattle.ckpt_journal.specs.Format.{header, prefix}
 use Rattle.ckpt_journal.specs.Reading.{records}
 use Rattle.ckpt_journal.specs.Standing.{Has, IsBeforeOrAfter, Keeps, Settled, IsSettled, recorded}
-use Rattle.ckpt_journal.proofs.Read.{read_front}
+use Rattle.ckpt_journal.proofs.Read.{read_prefix}
 use Rattle.ckpt_journal.proofs.Crash.{settled_leaves, where_from, if_true}
 
 pub settled_from : (es : List Record) (end : ℕ) (c : Content) → IsSettled es end c → Settled es end c
@@ -29,18 +29,18 @@ settled_from es end c s = record {
 
 is_settled : (es : List Record) (end : ℕ) (c : Content) → Settled es end c → IsSettled es end c
 is_settled es end c s = (
-  omega (arith, s.place, ap length s.bytes, length-append (front es) (s.gate ∷ s.tail)),
+  omega (arith, s.place, ap length s.bytes, length-append (prefix es) (s.gate ∷ s.tail)),
   subst (λ (n : ℕ). n ≢ 90) (sym gate_is) s.shut,
-  ap (λ (l : List ℕ). take end l) s.bytes ∙ take_at (front es) (s.gate ∷ s.tail) end (sym s.place),
+  ap (λ (l : List ℕ). take end l) s.bytes ∙ take_at (prefix es) (s.gate ∷ s.tail) end (sym s.place),
   s.fits,
   s.sure,
 )
   where
     gate_is : get_or c.bytes end 90 ≡ s.gate
-    gate_is = ap (λ (l : List ℕ). get_or l end 90) s.bytes ∙ get_or_at (front es) s.gate s.tail 90 end (sym s.place)
+    gate_is = ap (λ (l : List ℕ). get_or l end 90) s.bytes ∙ get_or_at (prefix es) s.gate s.tail 90 end (sym s.place)
 
 has : (es : List Record) (end : ℕ) (c : Content) → Settled es end c → Has es c.bytes
-has es end c s = ap records s.bytes ∙ read_front es s.gate s.tail s.fits s.shut
+has es end c s = ap records s.bytes ∙ read_prefix es s.gate s.tail s.fits s.shut
 
 recorded_is : (es : List Record) (c : Content) → Has es c.bytes → recorded (Some c) ≡ es
 recorded_is es c is = ap (λ (r : Result (List Record) ℕ). elim r [ Ok es ↦ es | Err at ↦ [] ]) is
@@ -70,7 +70,7 @@ formatted bytes (Some c) y z is w k = subst (λ (o : Option Content). IfSome o (
   gate = 0;
   tail = rest;
   shut = omega arith;
-  bytes = ap (λ (l : List ℕ). l ++ rest) (is ∙ ap (λ (l : List ℕ). l ++ 0 ∷ []) (sym (append-nil header))) ∙ append_assoc (front []) (0 ∷ []) rest;
+  bytes = ap (λ (l : List ℕ). l ++ rest) (is ∙ ap (λ (l : List ℕ). l ++ 0 ∷ []) (sym (append-nil header))) ∙ append_assoc (prefix []) (0 ∷ []) rest;
   place = sym (ap length (append-nil header) ∙ length-header);
   fits = tt;
   sure = λ honest. if_true c.honest _ _ honest;

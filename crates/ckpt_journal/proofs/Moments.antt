@@ -68,9 +68,9 @@ under P Q (Some a) (Some b) h p = λ honest.
     record { moments = all.moments; passed = all.passed; each = each_under P Q h all.moments all.each; now = λ image is. h image (all.now image is); honest = all.honest }
 
 -- what is sure is a prefix of each image
-pub sure_front : (xs : List ℕ) (sure : List (Option ℕ)) (image : List ℕ) → Agrees (map Some xs ++ sure) image → (rest : List ℕ) × (image ≡ xs ++ rest) × Agrees sure rest
-sure_front [] sure image is = (image, refl, is)
-sure_front (x ∷ xs) sure [] is = absurd is
-sure_front (x ∷ xs) sure (b ∷ image) is =
-    let more = sure_front xs sure image is.1 in
+pub sure_prefix : (xs : List ℕ) (sure : List (Option ℕ)) (image : List ℕ) → Agrees (map Some xs ++ sure) image → (rest : List ℕ) × (image ≡ xs ++ rest) × Agrees sure rest
+sure_prefix [] sure image is = (image, refl, is)
+sure_prefix (x ∷ xs) sure [] is = absurd is
+sure_prefix (x ∷ xs) sure (b ∷ image) is =
+    let more = sure_prefix xs sure image is.1 in
     (more.0, (λ i. is.0 i ∷ more.1 i), more.2)

@@ -6,8 +6,8 @@ use Rattle.std.proofs.lemmas.Nat.{from_be_bytes-to_be_bytes_4}
 use Rattle.std.specs.Int.{w32, to_be_bytes, from_be_bytes}
 use Rattle.std.specs.List.{AllByRecursion}
 use Rattle.ckpt_journal.specs.declared.record.Record.{Record}
-use Rattle.ckpt_journal.specs.Format.{header, body, block, blocks, front, Fits}
-use Rattle.ckpt_journal.specs.Reading.{block_at, body_at, with_rest, record_of, with_front, if_block, records_from, records, placed}
+use Rattle.ckpt_journal.specs.Format.{header, body, block, blocks, prefix, Fits}
+use Rattle.ckpt_journal.specs.Reading.{block_at, body_at, with_rest, record_of, with_prefix, if_block, records_from, records, placed}
 use Rattle.ckpt_journal.specs.Standing.{Has}
 use Rattle.ckpt_journal.proofs.Again.{record_again}
 
@@ -63,7 +63,7 @@ read_from (e ∷ es) (suc most) gate tail fits shut le =
     let fewer : length rest ≤ most = omega (arith, ap length same, length-append (block e) rest) in
     ap (λ (l : List ℕ). if_block left (records_from most) (block_at l)) same
     ∙ ap (if_block left (records_from most)) (read_block es e gate tail fits.0)
-    ∙ ap (with_front e) (read_from es most gate tail fits.1 shut fewer)
+    ∙ ap (with_prefix e) (read_from es most gate tail fits.1 shut fewer)
 
 -- the header, and what follows it
 pub header_read : (rest : List ℕ) → records (header ++ rest) ≡ placed (length (header ++ rest)) (records_from (length (header ++ rest)) rest)
@@ -74,8 +74,8 @@ length-header : length header ≡ 16
 unfolding header
 length-header = refl
 
-pub read_front : (es : List Record) (gate : ℕ) (tail : List ℕ) → AllByRecursion Fits es → gate ≢ 90 → Has es (front es ++ gate ∷ tail)
-read_front es gate tail fits shut =
+pub read_prefix : (es : List Record) (gate : ℕ) (tail : List ℕ) → AllByRecursion Fits es → gate ≢ 90 → Has es (prefix es ++ gate ∷ tail)
+read_prefix es gate tail fits shut =
     let rest = blocks es ++ gate ∷ tail in
     ap records (append_assoc header (blocks es) (gate ∷ tail)) ∙ header_read rest
     ∙ ap (placed (length (header ++ rest))) (read_from es (length (header ++ rest)) gate tail fits shut (omega (arith, length-append header rest)))

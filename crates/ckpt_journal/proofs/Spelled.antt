@@ -3,11 +3,11 @@ use Rattle.std.proofs.Common.{◌≡◌, ◌≢◌, inl, inr, ℕ, zero, suc, Li
 use Rattle.std.proofs.lemmas.Bool.{cases_eq}
 use Rattle.std.proofs.lemmas.Bool.Decides.{nat_tests}
 use Rattle.std.specs.List.{AllByRecursion}
-use Rattle.ckpt_journal.specs.Format.{Fits, block, blocks, front, header}
-use Rattle.ckpt_journal.specs.Reading.{behind_header, block_at, differs_at, if_block, placed, records, records_from, with_front}
+use Rattle.ckpt_journal.specs.Format.{Fits, block, blocks, prefix, header}
+use Rattle.ckpt_journal.specs.Reading.{behind_header, block_at, differs_at, if_block, placed, records, records_from, with_prefix}
 use Rattle.ckpt_journal.specs.Standing.{IsSpelled}
 use Rattle.ckpt_journal.specs.declared.record.Record.{Record}
-use Rattle.ckpt_journal.proofs.Header.{same_front}
+use Rattle.ckpt_journal.proofs.Header.{same_prefix}
 use Rattle.ckpt_journal.proofs.Kept.{length-header}
 use Rattle.ckpt_journal.proofs.Taken.{block_taken}
 use Rattle.ckpt_journal.proofs.TakenBody.{IsBytes, bytes_drop, bytes_rest}
@@ -26,7 +26,7 @@ record Behind (rs : List Record) (bytes : List ℕ) : Type 0 where
   parts : bytes ≡ blocks rs ++ gate ∷ tail
   fits : AllByRecursion Fits rs
 
-with_more : (r : Record) (more : Read) (rs : List Record) → with_front r more ≡ Ok rs → (later : List Record) × (more ≡ Ok later) × (rs ≡ r ∷ later)
+with_more : (r : Record) (more : Read) (rs : List Record) → with_prefix r more ≡ Ok rs → (later : List Record) × (more ≡ Ok later) × (rs ≡ r ∷ later)
 with_more r (Err left) rs is = absurd cc
 with_more r (Ok later) rs is = (later, refl, cc)
 
@@ -81,6 +81,6 @@ spelled bytes rs small is = go (differs_at 0 header bytes) refl is
     go : (fault : Option ℕ) → differs_at 0 header bytes ≡ fault → behind_header bytes fault ≡ Ok rs → IsSpelled rs bytes
     go (Some at) there e = absurd cc
     go None there e =
-        let whole = same_front header bytes 0 there ∙ ap (λ (n : ℕ). header ++ drop n bytes) length-header in
+        let whole = same_prefix header bytes 0 there ∙ ap (λ (n : ℕ). header ++ drop n bytes) length-header in
         let more = behind (length bytes) (drop 16 bytes) rs (bytes_drop 16 bytes small) (unplaced _ e) in
         record { gate = more.gate; tail = more.tail; shut = more.shut; parts = whole ∙ ap (λ (l : List ℕ). header ++ l) more.parts ∙ sym (append_assoc header (blocks rs) (more.gate ∷ more.tail)); fits = more.fits }

@@ -7,15 +7,15 @@ use Rattle.std.proofs.lemmas.Nat.{be_bytes_4}
 use Rattle.std.specs.Int.{w32, to_be_bytes, from_be_bytes}
 use Rattle.std.specs.List.{AllByRecursion}
 use Rattle.ckpt_journal.specs.declared.record.Record.{Record}
-use Rattle.ckpt_journal.specs.Format.{BodyFits, header, body, block, blocks, front, Fits}
-use Rattle.ckpt_journal.specs.Reading.{Gives, block_at, body_at, with_rest, record_of, with_front, if_block, records_from, records, placed, differs_at, behind_header}
+use Rattle.ckpt_journal.specs.Format.{BodyFits, header, body, block, blocks, prefix, Fits}
+use Rattle.ckpt_journal.specs.Reading.{Gives, block_at, body_at, with_rest, record_of, with_prefix, if_block, records_from, records, placed, differs_at, behind_header}
 use Rattle.ckpt_journal.specs.Standing.{EndsAt}
 use Rattle.ckpt_journal.specs.declared.error.Unread.{Unread}
 use Rattle.ckpt_journal.specs.declared.error.Unread.TheVariants.{NoRecord}
-use Rattle.ckpt_journal.proofs.Read.{read_block, read_front, header_read}
-use Rattle.ckpt_journal.proofs.Header.{same_front}
+use Rattle.ckpt_journal.proofs.Read.{read_block, read_prefix, header_read}
+use Rattle.ckpt_journal.proofs.Header.{same_prefix}
 use Rattle.ckpt_journal.proofs.TakenBody.{IsBytes, bytes_drop, bytes_take, record_taken}
-use Rattle.ckpt_journal.proofs.Crash.{front-more}
+use Rattle.ckpt_journal.proofs.Crash.{prefix-more}
 use Rattle.ckpt_journal.proofs.Kept.{length-header}
 
 -- a test that did not fail
@@ -61,10 +61,10 @@ block_taken e rest bytes small is =
     let test = guard (nat_lt (length bytes) 4) (body_at n behind) (e, rest) is in
     let long : 4 ≤ length bytes = lt_false _ _ test.0 in
     let parts = body_taken e n rest behind (bytes_drop 4 bytes small) test.1 in
-    let small_front = bytes_take 4 bytes small in
-    let below : n < 2 ^ 32 = omega (arith, small_front 0, small_front 1, small_front 2, small_front 3) in
+    let small_prefix = bytes_take 4 bytes small in
+    let below : n < 2 ^ 32 = omega (arith, small_prefix 0, small_prefix 1, small_prefix 2, small_prefix 3) in
     let len : length (body e) ≡ n = omega (arith, ap length parts.1, length-take n behind, parts.0) in
-    let spelled : to_be_bytes w32 (length (body e)) ≡ take 4 bytes = be_bytes_4 (take 4 bytes) (length (body e)) (omega (arith, length-take 4 bytes)) small_front len in
+    let spelled : to_be_bytes w32 (length (body e)) ≡ take 4 bytes = be_bytes_4 (take 4 bytes) (length (body e)) (omega (arith, length-take 4 bytes)) small_prefix len in
     record {
       parts = sym (take-append-drop 4 bytes) ∙ ap (λ (l : List ℕ). l ++ drop 4 bytes) (sym spelled) ∙ ap (λ (l : List ℕ). to_be_bytes w32 (length (body e)) ++ l) (sym (take-append-drop n behind) ∙ (λ i. parts.1 i ++ parts.2 i)) ∙ sym (append_assoc (to_be_bytes w32 (length (body e))) (body e) rest);
       fits = (parts.3, omega (arith, len, below));
@@ -83,7 +83,7 @@ fault_from (e ∷ es) (suc most) gate left tail fits le fault =
     let fewer : length rest ≤ most = omega (arith, ap length same, length-append (block e) rest) in
     ap (λ (l : List ℕ). if_block here (records_from most) (block_at l)) same
     ∙ ap (if_block here (records_from most)) (read_block es e gate tail fits.0)
-    ∙ ap (with_front e) (fault_from es most gate left tail fits.1 fewer fault)
+    ∙ ap (with_prefix e) (fault_from es most gate left tail fits.1 fewer fault)
 
 pub no_block : (m : ℕ) (tail : List ℕ) → length (90 ∷ tail) ≤ m → block_at tail ≡ None → records_from m (90 ∷ tail) ≡ Err (length tail + 1)
 no_block zero tail le is = absurd (omega arith)
@@ -92,7 +92,7 @@ no_block (suc m) tail le is = ap (if_block (length tail + 1) (records_from m)) i
 -- the loop over the blocks
 pub header_only : (bytes : List ℕ) → differs_at 0 header bytes ≡ None → length bytes ≤ 16 → records bytes ≡ Err (length bytes)
 header_only bytes same short =
-    let is = same_front header bytes 0 same in
+    let is = same_prefix header bytes 0 same in
     let none : drop (length header) bytes ≡ [] = drop_all (length header) bytes (omega (arith, length-header)) in
     let whole : bytes ≡ header ++ [] = is ∙ ap (λ (l : List ℕ). header ++ l) none in
     ap records whole ∙ header_read [] ∙ ap (λ (l : List ℕ). placed (length l) (Err 0)) (sym whole) ∙ ap (λ (n : ℕ). Err n) all
@@ -100,22 +100,22 @@ header_only bytes same short =
     all : length bytes - 0 ≡ length bytes
     all = omega arith
 
-pub starts : (bytes rest : List ℕ) → differs_at 0 header bytes ≡ None → rest ≡ drop 16 bytes → bytes ≡ front [] ++ rest
+pub starts : (bytes rest : List ℕ) → differs_at 0 header bytes ≡ None → rest ≡ drop 16 bytes → bytes ≡ prefix [] ++ rest
 starts bytes rest same is =
-    same_front header bytes 0 same ∙ ap (λ (n : ℕ). header ++ drop n bytes) length-header
+    same_prefix header bytes 0 same ∙ ap (λ (n : ℕ). header ++ drop n bytes) length-header
     ∙ ap (λ (l : List ℕ). header ++ l) (sym is) ∙ ap (λ (l : List ℕ). l ++ rest) (sym (append-nil header))
 
 -- one block more, after an open gate
-pub goes_on : (es : List Record) (e : Record) (bytes rest after : List ℕ) → bytes ≡ front es ++ rest → 0 < length rest → get_or rest 0 0 ≡ 90 → Taken e after (drop 1 rest) → bytes ≡ front (es ++ e ∷ []) ++ after
+pub goes_on : (es : List Record) (e : Record) (bytes rest after : List ℕ) → bytes ≡ prefix es ++ rest → 0 < length rest → get_or rest 0 0 ≡ 90 → Taken e after (drop 1 rest) → bytes ≡ prefix (es ++ e ∷ []) ++ after
 goes_on es e bytes [] after parts more open_gate taken = absurd (omega arith)
 goes_on es e bytes (gate ∷ behind) after parts more open_gate taken =
-    parts ∙ (λ i. front es ++ open_gate i ∷ taken.parts i) ∙ sym (front-more es e after)
+    parts ∙ (λ i. prefix es ++ open_gate i ∷ taken.parts i) ∙ sym (prefix-more es e after)
 
-pub fault_at : (es : List Record) (bytes rest : List ℕ) → bytes ≡ front es ++ rest → AllByRecursion Fits es → 0 < length rest → get_or rest 0 0 ≡ 90 → block_at (drop 1 rest) ≡ None
+pub fault_at : (es : List Record) (bytes rest : List ℕ) → bytes ≡ prefix es ++ rest → AllByRecursion Fits es → 0 < length rest → get_or rest 0 0 ≡ 90 → block_at (drop 1 rest) ≡ None
     → records bytes ≡ Err (length bytes - length rest)
 fault_at es bytes [] parts fits more open_gate none = absurd (omega arith)
 fault_at es bytes (gate ∷ tail) parts fits more open_gate none =
-    let whole : bytes ≡ header ++ (blocks es ++ 90 ∷ tail) = parts ∙ ap (λ (g : ℕ). front es ++ g ∷ tail) open_gate ∙ append_assoc header (blocks es) (90 ∷ tail) in
+    let whole : bytes ≡ header ++ (blocks es ++ 90 ∷ tail) = parts ∙ ap (λ (g : ℕ). prefix es ++ g ∷ tail) open_gate ∙ append_assoc header (blocks es) (90 ∷ tail) in
     let most = length (header ++ (blocks es ++ 90 ∷ tail)) in
     ap records whole ∙ header_read (blocks es ++ 90 ∷ tail)
     ∙ ap (placed most) (fault_from es most 90 (length tail + 1) tail fits (omega (arith, length-append header (blocks es ++ 90 ∷ tail))) (λ m le. no_block m tail le none))
@@ -127,32 +127,32 @@ fault_at es bytes (gate ∷ tail) parts fits more open_gate none =
     counted : (tail : List ℕ) → length tail + 1 ≡ length (gate ∷ tail)
     counted tail = omega arith
 
-pub ends : (es : List Record) (bytes rest : List ℕ) → bytes ≡ front es ++ rest → AllByRecursion Fits es → 0 < length rest → get_or rest 0 0 ≢ 90 → EndsAt es (length bytes - length rest) bytes
+pub ends : (es : List Record) (bytes rest : List ℕ) → bytes ≡ prefix es ++ rest → AllByRecursion Fits es → 0 < length rest → get_or rest 0 0 ≢ 90 → EndsAt es (length bytes - length rest) bytes
 ends es bytes [] parts fits more shut = absurd (omega arith)
 ends es bytes (gate ∷ tail) parts fits more shut =
-    let place : length (front es) ≡ length bytes - length (gate ∷ tail) = omega (arith, ap length parts, length-append (front es) (gate ∷ tail)) in
+    let place : length (prefix es) ≡ length bytes - length (gate ∷ tail) = omega (arith, ap length parts, length-append (prefix es) (gate ∷ tail)) in
     let at = length bytes - length (gate ∷ tail) in
-    let gate_is : get_or bytes at 90 ≡ gate = ap (λ (l : List ℕ). get_or l at 90) parts ∙ get_or_at (front es) gate tail 90 at place in (
-      omega (arith, ap length parts, length-append (front es) (gate ∷ tail)),
+    let gate_is : get_or bytes at 90 ≡ gate = ap (λ (l : List ℕ). get_or l at 90) parts ∙ get_or_at (prefix es) gate tail 90 at place in (
+      omega (arith, ap length parts, length-append (prefix es) (gate ∷ tail)),
       subst (λ (n : ℕ). n ≢ 90) (sym gate_is) shut,
-      ap (λ (l : List ℕ). take at l) parts ∙ take_at (front es) (gate ∷ tail) at place,
+      ap (λ (l : List ℕ). take at l) parts ∙ take_at (prefix es) (gate ∷ tail) at place,
       fits,
     )
 
-pub read_is : (es : List Record) (bytes rest : List ℕ) → bytes ≡ front es ++ rest → AllByRecursion Fits es → 0 < length rest → get_or rest 0 0 ≢ 90 → records bytes ≡ Ok es
+pub read_is : (es : List Record) (bytes rest : List ℕ) → bytes ≡ prefix es ++ rest → AllByRecursion Fits es → 0 < length rest → get_or rest 0 0 ≢ 90 → records bytes ≡ Ok es
 read_is es bytes [] parts fits more shut = absurd (omega arith)
-read_is es bytes (gate ∷ tail) parts fits more shut = ap records parts ∙ read_front es gate tail fits shut
+read_is es bytes (gate ∷ tail) parts fits more shut = ap records parts ∙ read_prefix es gate tail fits shut
 
 pub fault_header : (bytes : List ℕ) (at : ℕ) → differs_at 0 header bytes ≡ Some at → records bytes ≡ Err at
 unfolding records
 fault_header bytes at is = ap (behind_header bytes) is
 
 -- the block after the open gate of the rest
-pub next_taken : (es : List Record) (e : Record) (bytes rest after : List ℕ) → bytes ≡ front es ++ rest → IsBytes bytes → block_at (drop 1 rest) ≡ Some (e, after) → Taken e after (drop 1 rest)
+pub next_taken : (es : List Record) (e : Record) (bytes rest after : List ℕ) → bytes ≡ prefix es ++ rest → IsBytes bytes → block_at (drop 1 rest) ≡ Some (e, after) → Taken e after (drop 1 rest)
 next_taken es e bytes rest after parts small is = block_taken e after (drop 1 rest) (bytes_drop 1 rest (λ i. behind i)) is
   where
     behind : (i : ℕ) → get_or rest i 0 < 256
-    behind i = subst (λ (n : ℕ). n < 256) (ap (λ (l : List ℕ). get_or l (length (front es) + i) 0) parts ∙ get_or-append-add (front es) rest i 0) (small (length (front es) + i))
+    behind i = subst (λ (n : ℕ). n < 256) (ap (λ (l : List ℕ). get_or l (length (prefix es) + i) 0) parts ∙ get_or-append-add (prefix es) rest i 0) (small (length (prefix es) + i))
 
 -- what a reader returns that finds no record
 pub no_record : {V X : Type 0} (view : V → X) (e : Unread) (found : Option X) → e ≡ NoRecord → Gives view (Err e) found → found ≡ None

@@ -31,8 +31,8 @@ bytes_take n bytes h i =
       | inr le ↦ rw (get_or_past (take n bytes) i 0 (omega (arith, length-take n bytes))) (omega arith)
     ]
 
-pub bytes_rest : (front rest bytes : List ℕ) → bytes ≡ front ++ rest → IsBytes bytes → IsBytes rest
-bytes_rest front rest bytes parts h i = subst (λ (n : ℕ). n < 256) (ap (λ (l : List ℕ). get_or l (length front + i) 0) parts ∙ get_or-append-add front rest i 0) (h (length front + i))
+pub bytes_rest : (prefix rest bytes : List ℕ) → bytes ≡ prefix ++ rest → IsBytes bytes → IsBytes rest
+bytes_rest prefix rest bytes parts h i = subst (λ (n : ℕ). n < 256) (ap (λ (l : List ℕ). get_or l (length prefix + i) 0) parts ∙ get_or-append-add prefix rest i 0) (h (length prefix + i))
 
 -- a step of a reading that went well
 then_some : {X Y : Type 0} (f : X → Option Y) (o : Option X) (y : Y) → option_and_then f o ≡ Some y → (x : X) × (o ≡ Some x) × (f x ≡ Some y)
@@ -67,12 +67,12 @@ unfolding count_at
 count_taken n rest bytes small is =
     let test = unless (nat_lt (length bytes) 2) (Some (from_be_bytes w16 (take 2 bytes), drop 2 bytes)) (n, rest) is in
     let long : 2 ≤ length bytes = lt_false _ _ test.0 in
-    let front = bytes_take 2 bytes small in
+    let prefix = bytes_take 2 bytes small in
     let pair = some_is (n, rest) (from_be_bytes w16 (take 2 bytes), drop 2 bytes) (n, rest) test.1 in
     let count : n ≡ from_be_bytes w16 (take 2 bytes) = sym (ap (λ (x : ℕ × List ℕ). x.0) pair) in
     let behind : drop 2 bytes ≡ rest = ap (λ (x : ℕ × List ℕ). x.1) pair in
-    let spelled : to_be_bytes w16 n ≡ take 2 bytes = be_bytes_2 (take 2 bytes) n (omega (arith, length-take 2 bytes, long)) front count in
-    (omega (arith, count, front 0, front 1), record { parts = sym (take-append-drop 2 bytes) ∙ (λ i. sym spelled i ++ behind i); small = subst IsBytes behind (bytes_drop 2 bytes small) })
+    let spelled : to_be_bytes w16 n ≡ take 2 bytes = be_bytes_2 (take 2 bytes) n (omega (arith, length-take 2 bytes, long)) prefix count in
+    (omega (arith, count, prefix 0, prefix 1), record { parts = sym (take-append-drop 2 bytes) ∙ (λ i. sym spelled i ++ behind i); small = subst IsBytes behind (bytes_drop 2 bytes small) })
 
 raw_taken : (text rest bytes : List ℕ) → IsBytes bytes → raw_at bytes ≡ Some (text, rest) → (length text < 2 ^ 16) × Front (text_bytes text) rest bytes
 raw_taken text rest bytes small is =

@@ -54,8 +54,8 @@ blocks [] = []
 blocks (r ∷ rs) = 90 ∷ block r ++ blocks rs
 
 -- all that comes before the first closed gate
-abbrev pub front : List Record → List ℕ
-front rs = header ++ blocks rs
+abbrev pub prefix : List Record → List ℕ
+prefix rs = header ++ blocks rs
 
 -- ---- limits
 

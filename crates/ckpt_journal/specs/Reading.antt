@@ -83,13 +83,13 @@ body_at n bytes = if nat_le (length bytes) n then None else with_rest (drop n by
 unfoldable pub block_at : List ℕ → Option (Record × List ℕ)
 block_at bytes = if nat_lt (length bytes) 4 then None else body_at (from_be_bytes w32 (take 4 bytes)) (drop 4 bytes)
 
-abbrev pub with_front : Record → Result (List Record) ℕ → Result (List Record) ℕ
-with_front r (Ok rs) = Ok (r ∷ rs)
-with_front r (Err left) = Err left
+abbrev pub with_prefix : Record → Result (List Record) ℕ → Result (List Record) ℕ
+with_prefix r (Ok rs) = Ok (r ∷ rs)
+with_prefix r (Err left) = Err left
 
 abbrev pub if_block : ℕ → (List ℕ → Result (List Record) ℕ) → Option (Record × List ℕ) → Result (List Record) ℕ
 if_block left next None = Err left
-if_block left next (Some x) = with_front x.0 (next x.1)
+if_block left next (Some x) = with_prefix x.0 (next x.1)
 
 -- The records of bytes that begin with a gate, at most this many. An error says how many bytes there are
 -- from its gate on.

@@ -3,7 +3,7 @@ use Rattle.std.specs.Prelude.{◌≡◌, ◌≢◌, ◌⊎◌, ℕ, ◌<◌, get
 use Rattle.std.specs.List.{AllByRecursion}
 use Rattle.dra_ports.specs.DiskContent.{Content, exactly}
 use Rattle.dra_ports.specs.DiskImages.{Leaves}
-use Rattle.ckpt_journal.specs.Format.{Fits, block, front}
+use Rattle.ckpt_journal.specs.Format.{Fits, block, prefix}
 use Rattle.ckpt_journal.specs.Reading.{records}
 use Rattle.ckpt_journal.specs.declared.error.JournalError.{JournalError}
 use Rattle.ckpt_journal.specs.declared.error.JournalError.TheVariants.{Memory, NotAJournal}
@@ -32,8 +32,8 @@ pub record Settled (rs : List Record) (end : ℕ) (c : Content) : Type 0 where
   pub gate : ℕ
   pub tail : List ℕ
   pub shut : gate ≢ 90
-  pub bytes : c.bytes ≡ front rs ++ gate ∷ tail
-  pub place : end ≡ length (front rs)
+  pub bytes : c.bytes ≡ prefix rs ++ gate ∷ tail
+  pub place : end ≡ length (prefix rs)
   pub fits : AllByRecursion Fits rs
   pub sure : IsTrue c.honest → c.sure ≡ exactly c.bytes
 
@@ -41,27 +41,27 @@ pub record Settled (rs : List Record) (end : ℕ) (c : Content) : Type 0 where
 pub record Staged (rs : List Record) (item : Record) (end : ℕ) (c : Content) : Type 0 where
   pub gate : ℕ
   pub tail : List ℕ
-  pub bytes : c.bytes ≡ front rs ++ gate ∷ (block item ++ 0 ∷ tail)
-  pub place : end ≡ length (front rs)
+  pub bytes : c.bytes ≡ prefix rs ++ gate ∷ (block item ++ 0 ∷ tail)
+  pub place : end ≡ length (prefix rs)
   pub fits : AllByRecursion Fits rs
   pub sure : IsTrue c.honest → c.sure ≡ exactly c.bytes
 
 -- the same as `Settled` without what follows the records, so that it has one proof at most
 abbrev pub IsSettled : List Record → ℕ → Content → Type 0
 IsSettled rs end c =
-    (end < length c.bytes) × (get_or c.bytes end 90 ≢ 90) × (take end c.bytes ≡ front rs) × AllByRecursion Fits rs × (IsTrue c.honest → c.sure ≡ exactly c.bytes)
+    (end < length c.bytes) × (get_or c.bytes end 90 ≢ 90) × (take end c.bytes ≡ prefix rs) × AllByRecursion Fits rs × (IsTrue c.honest → c.sure ≡ exactly c.bytes)
 
 -- the bytes are the header, these records after open gates, a closed gate, and anything
 pub record IsSpelled (rs : List Record) (bytes : List ℕ) : Type 0 where
   pub gate : ℕ
   pub tail : List ℕ
   pub shut : gate ≢ 90
-  pub parts : bytes ≡ front rs ++ gate ∷ tail
+  pub parts : bytes ≡ prefix rs ++ gate ∷ tail
   pub fits : AllByRecursion Fits rs
 
 -- the bytes have these records, with the first closed gate at this offset
 abbrev pub EndsAt : List Record → ℕ → List ℕ → Type 0
-EndsAt rs end bytes = (end < length bytes) × (get_or bytes end 90 ≢ 90) × (take end bytes ≡ front rs) × AllByRecursion Fits rs
+EndsAt rs end bytes = (end < length bytes) × (get_or bytes end 90 ≢ 90) × (take end bytes ≡ prefix rs) × AllByRecursion Fits rs
 
 -- what a call returned is what the bytes mean, unless memory ran out or the disk failed
 abbrev pub Returns : {X : Type 0} → (X → List Record) → Result X JournalError → Result (List Record) ℕ → Type 0

@@ -4,7 +4,7 @@ ghost use Rattle.std.specs.Option.{option_map};
 ghost use Rattle.dra_ports.specs.Causes.{Rose};
 ghost use Rattle.dra_ports.specs.DiskContent.{synced};
 ghost use Rattle.dra_ports.specs.DiskImages.{AtEachMoment};
-ghost use Rattle.ckpt_journal.specs.Format.{ReadsBack, block, front, is_full};
+ghost use Rattle.ckpt_journal.specs.Format.{ReadsBack, block, prefix, is_full};
 ghost use Rattle.ckpt_journal.specs.Reading.{records};
 ghost use Rattle.ckpt_journal.specs.Standing.{IsBeforeOrAfter, IsOfBytes, IsSettled, Keeps, Returns, recorded};
 ghost use Rattle.ckpt_journal.specs.Words.{disk_of, has_ended, place_of};
@@ -71,7 +71,7 @@ pub struct Unopened<D, E> {
 /// Syncs a disk and reads its records, with the offset of the first closed gate.
 fn load<D: Disk>(alloc: Global, disk: &mut D) -> Result<(u64, Vec<Record>), JournalError>
     ensures settled { IfOk result (λ x. IfSome (D.content disk.new) (IsSettled x.1.items x.0)) }
-    ensures place { IfOk result (λ x. x.0 ≡ length (front x.1.items)) }
+    ensures place { IfOk result (λ x. x.0 ≡ length (prefix x.1.items)) }
     ensures small { IfOk result (λ x. x.0 < 2 ^ 63) }
     ensures readable { IfOk result (λ x. AllByRecursion ReadsBack x.1.items) }
     ensures exact { IfSome (D.content disk.old) (λ c. Returns (λ x. x.1.items) result (records c.bytes)) }
@@ -105,7 +105,7 @@ impl<D: Disk> Journal<D> {
         ensures kept { IfOk result (λ x. IfSome (D.content (disk_of x.0)) (Keeps x.1.items)) }
         ensures records { IfOk result (λ x. IfSome (D.content disk) (λ c. records c.bytes ≡ Ok x.1.items)) }
         ensures readable { IfOk result (λ x. AllByRecursion ReadsBack x.1.items) }
-        ensures place { IfOk result (λ x. place_of x.0 ≡ length (front x.1.items)) }
+        ensures place { IfOk result (λ x. place_of x.0 ≡ length (prefix x.1.items)) }
         ensures going { IfOk result (λ x. has_ended x.0 ≡ false) }
         ensures synced { IfOk result (λ x. D.content (disk_of x.0) ≡ option_map synced (D.content disk)) }
         ensures no_fault { IfOk result (λ x. D.faults (disk_of x.0) ≡ D.faults disk) }
@@ -133,7 +133,7 @@ impl<D: Disk> Journal<D> {
     /// has, and the offset of the first closed gate after them.
     pub fn keeps(&self)
         ensures kept { has_ended self.now ≡ false → IfSome (D.content (disk_of self.now)) (Keeps (recorded (D.content (disk_of self.now)))) }
-        ensures place { has_ended self.now ≡ false → IfSome (D.content (disk_of self.now)) (λ c. place_of self.now ≡ length (front (recorded (Some c)))) }
+        ensures place { has_ended self.now ≡ false → IfSome (D.content (disk_of self.now)) (λ c. place_of self.now ≡ length (prefix (recorded (Some c)))) }
     {
         let _ended = self.ended;
     }

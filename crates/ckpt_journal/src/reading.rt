@@ -46,8 +46,8 @@ fn take_block(alloc: Global, bytes: &[u8]) -> Result<(Record, &[u8]), Unread>
     if bytes.len() < 4 {
         return Err(Unread::NoRecord);
     }
-    let (front, rest) = bytes.split_at(4);
-    let len = u32::from_be_bytes([front[0], front[1], front[2], front[3]]);
+    let (prefix, rest) = bytes.split_at(4);
+    let len = u32::from_be_bytes([prefix[0], prefix[1], prefix[2], prefix[3]]);
     take_body(alloc, len as usize, rest)
 }
 

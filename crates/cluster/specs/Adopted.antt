@@ -4,7 +4,7 @@ use Rattle.object_fields.specs.declared.key.Key.{Key}
 use Rattle.api_claim.specs.declared.types.ClaimStatus.{ClaimStatus}
 use Rattle.api_claim.specs.declared.types.StatusResult.{StatusResult}
 use Rattle.cluster.specs.declared.entry.JobState.{JobState}
-use Rattle.cluster.specs.declared.entry.JobState.TheVariants as stand
+use Rattle.cluster.specs.declared.entry.JobState.TheVariants as job_state
 use Rattle.cluster.specs.declared.plan.DeviceResult.{DeviceResult}
 use Rattle.cluster.specs.declared.state.ClaimState.{ClaimState}
 use Rattle.cluster.specs.declared.state.Granted.{Granted}
@@ -27,4 +27,4 @@ with_adopted place claim status s = record s { claims = changed_at claim (adopte
 
 -- its job is ended
 abbrev pub adopted_leaves : ℕ → JobState
-adopted_leaves place = stand.Ended place
+adopted_leaves place = job_state.Ended place

@@ -4,7 +4,7 @@ use Rattle.api_claim.specs.declared.types.ResourceClaim.{ResourceClaim}
 use Rattle.api_cluster.specs.declared.types.Pod.{Pod}
 use Rattle.pool_view.specs.Inventory.{created, updated, with_named, with_node, with_slice}
 use Rattle.cluster.specs.declared.entry.JobState.{JobState}
-use Rattle.cluster.specs.declared.entry.JobState.TheVariants as stand
+use Rattle.cluster.specs.declared.entry.JobState.TheVariants as job_state
 use Rattle.cluster.specs.declared.object.Object.{Object}
 use Rattle.cluster.specs.declared.object.Object.TheVariants as object
 use Rattle.cluster.specs.declared.state.ClaimState.{ClaimState}
@@ -39,4 +39,4 @@ with_object place (object.Pod x) s = record s { pods = changed_or_new x.key (new
 
 -- its job is ended
 abbrev pub applied_leaves : ℕ → JobState
-applied_leaves place = stand.Ended place
+applied_leaves place = job_state.Ended place

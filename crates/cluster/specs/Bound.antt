@@ -2,7 +2,7 @@
 use Rattle.std.specs.Prelude.{ℕ, List}
 use Rattle.object_fields.specs.declared.key.Key.{Key}
 use Rattle.cluster.specs.declared.entry.JobState.{JobState}
-use Rattle.cluster.specs.declared.entry.JobState.TheVariants as stand
+use Rattle.cluster.specs.declared.entry.JobState.TheVariants as job_state
 use Rattle.cluster.specs.declared.state.Phase.TheVariants as phase
 use Rattle.cluster.specs.declared.state.State.{State}
 use Rattle.cluster.specs.Tables.{with_phase}
@@ -12,4 +12,4 @@ with_bound pod node s = record s { pods = with_phase pod (phase.Bound node) s.po
 
 -- its job is ended
 abbrev pub bound_leaves : ℕ → JobState
-bound_leaves place = stand.Ended place
+bound_leaves place = job_state.Ended place

@@ -1,7 +1,7 @@
 -- As many attempts of a job have failed as it may make.
 use Rattle.std.specs.Prelude.{ℕ}
 use Rattle.cluster.specs.declared.entry.JobState.{JobState}
-use Rattle.cluster.specs.declared.entry.JobState.TheVariants as stand
+use Rattle.cluster.specs.declared.entry.JobState.TheVariants as job_state
 use Rattle.cluster.specs.declared.state.State.{State}
 
 -- nothing changes
@@ -10,4 +10,4 @@ with_contention s = s
 
 -- its job is ended
 abbrev pub contended_leaves : ℕ → JobState
-contended_leaves place = stand.Ended place
+contended_leaves place = job_state.Ended place

@@ -5,7 +5,7 @@ use Rattle.std.specs.Map.{remove_entry}
 use Rattle.pool_view.specs.Inventory.{without_named, without_node, without_slice}
 use Rattle.pool_view.specs.Names.{key_cmp}
 use Rattle.cluster.specs.declared.entry.JobState.{JobState}
-use Rattle.cluster.specs.declared.entry.JobState.TheVariants as stand
+use Rattle.cluster.specs.declared.entry.JobState.TheVariants as job_state
 use Rattle.cluster.specs.declared.object.Target.{Target}
 use Rattle.cluster.specs.declared.object.Target.TheVariants as target
 use Rattle.cluster.specs.declared.state.State.{State}
@@ -20,4 +20,4 @@ without_object (target.Pod key) s = record s { pods = remove_entry (is_at (key_c
 
 -- its job is ended
 abbrev pub deleted_leaves : ℕ → JobState
-deleted_leaves place = stand.Ended place
+deleted_leaves place = job_state.Ended place

@@ -13,7 +13,7 @@ use Rattle.cluster.specs.declared.entry.Mode.TheVariants as mode
 use Rattle.cluster.specs.declared.entry.Refusal.{Refusal}
 use Rattle.cluster.specs.declared.entry.Refusal.TheVariants as refusal
 use Rattle.cluster.specs.declared.entry.JobState.{JobState}
-use Rattle.cluster.specs.declared.entry.JobState.TheVariants as stand
+use Rattle.cluster.specs.declared.entry.JobState.TheVariants as job_state
 use Rattle.cluster.specs.declared.object.Object.{Object}
 use Rattle.cluster.specs.declared.object.Object.TheVariants as object
 use Rattle.cluster.specs.declared.object.Target.{Target}
@@ -169,4 +169,4 @@ with_denial s = s
 
 -- its job is ended
 abbrev pub denied_leaves : ℕ → JobState
-denied_leaves place = stand.Ended place
+denied_leaves place = job_state.Ended place

@@ -38,20 +38,20 @@ after place job (Adopted claim status) s = with_adopted place claim status s
 after place job (Denied command refusal) s = with_denial s
 
 -- the job's state after its entry at an index
-abbrev pub stand_after : JobState → ℕ → Event → JobState
-stand_after st place (Applied object mode) = applied_leaves place
-stand_after st place (Deleted target) = deleted_leaves place
-stand_after st place (Reserved pod plan) = reserved_leaves st
-stand_after st place (Refused pod plan why) = refused_leaves st
-stand_after st place (Wrote pod claim seen) = wrote_leaves st
-stand_after st place (Conflict pod claim had now) = conflict_leaves st
-stand_after st place (Unreserved pod) = unreserved_leaves st
-stand_after st place (Bound pod node) = bound_leaves place
-stand_after st place (VerdictGiven pod verdict) = judged_leaves place
-stand_after st place (Contended pod attempts) = contended_leaves place
-stand_after st place (Released pod) = released_leaves place
-stand_after st place (Adopted claim status) = adopted_leaves place
-stand_after st place (Denied command refusal) = denied_leaves place
+abbrev pub job_state_after : JobState → ℕ → Event → JobState
+job_state_after st place (Applied object mode) = applied_leaves place
+job_state_after st place (Deleted target) = deleted_leaves place
+job_state_after st place (Reserved pod plan) = reserved_leaves st
+job_state_after st place (Refused pod plan why) = refused_leaves st
+job_state_after st place (Wrote pod claim seen) = wrote_leaves st
+job_state_after st place (Conflict pod claim had now) = conflict_leaves st
+job_state_after st place (Unreserved pod) = unreserved_leaves st
+job_state_after st place (Bound pod node) = bound_leaves place
+job_state_after st place (VerdictGiven pod verdict) = judged_leaves place
+job_state_after st place (Contended pod attempts) = contended_leaves place
+job_state_after st place (Released pod) = released_leaves place
+job_state_after st place (Adopted claim status) = adopted_leaves place
+job_state_after st place (Denied command refusal) = denied_leaves place
 
 -- a job in this state may make the entry
 abbrev pub allows : JobState → Event → Bool

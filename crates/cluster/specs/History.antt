@@ -4,7 +4,7 @@ use Rattle.cluster.specs.declared.entry.Entry.{Entry}
 use Rattle.cluster.specs.declared.entry.JobState.{JobState}
 use Rattle.cluster.specs.declared.entry.JobState.TheVariants.{Fresh}
 use Rattle.cluster.specs.declared.state.State.{State}
-use Rattle.cluster.specs.Events.{after, stand_after}
+use Rattle.cluster.specs.Events.{after, job_state_after}
 use Rattle.cluster.specs.State.{empty_state}
 
 -- What the entries es make of a, one after another, by what each does at its index; n entries are
@@ -28,9 +28,9 @@ state_at h place = state_of (take place h)
 abbrev pub entry_at : List Entry → ℕ → Option Entry
 entry_at h place = if place == 0 then None else slice_get h (place - 1)
 
-abbrev pub next_stand : ℕ → JobState → ℕ → Entry → JobState
-next_stand job st place e = if e.job == job then stand_after st place e.event else st
+abbrev pub next_job_state : ℕ → JobState → ℕ → Entry → JobState
+next_job_state job st place e = if e.job == job then job_state_after st place e.event else st
 
 -- what the job's entries in a history leave
-unfoldable pub stand_of : List Entry → ℕ → JobState
-stand_of h job = told (next_stand job) Fresh 0 h
+unfoldable pub job_state_of : List Entry → ℕ → JobState
+job_state_of h job = told (next_job_state job) Fresh 0 h

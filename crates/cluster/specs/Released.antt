@@ -2,7 +2,7 @@
 use Rattle.std.specs.Prelude.{ℕ}
 use Rattle.object_fields.specs.declared.key.Key.{Key}
 use Rattle.cluster.specs.declared.entry.JobState.{JobState}
-use Rattle.cluster.specs.declared.entry.JobState.TheVariants as stand
+use Rattle.cluster.specs.declared.entry.JobState.TheVariants as job_state
 use Rattle.cluster.specs.declared.state.State.{State}
 use Rattle.cluster.specs.Freed.{without_uses}
 
@@ -12,4 +12,4 @@ with_released place pod s = without_uses place pod s
 
 -- its job is ended
 abbrev pub released_leaves : ℕ → JobState
-released_leaves place = stand.Ended place
+released_leaves place = job_state.Ended place

@@ -4,7 +4,7 @@ use Rattle.std.specs.BTreeMap.{insert_entry}
 use Rattle.object_fields.specs.declared.key.Key.{Key}
 use Rattle.pool_view.specs.Names.{key_cmp}
 use Rattle.cluster.specs.declared.entry.JobState.{JobState}
-use Rattle.cluster.specs.declared.entry.JobState.TheVariants as stand
+use Rattle.cluster.specs.declared.entry.JobState.TheVariants as job_state
 use Rattle.cluster.specs.declared.plan.DeviceResult.{DeviceResult}
 use Rattle.cluster.specs.declared.plan.Grant.{Grant}
 use Rattle.cluster.specs.declared.plan.Plan.{Plan}
@@ -40,4 +40,4 @@ with_reserved job pod plan s = record s { claims = with_joins pod plan.joins (wi
 
 -- its job has reserved, after as many failed attempts
 abbrev pub reserved_leaves : JobState → JobState
-reserved_leaves st = stand.Reserved (failures st)
+reserved_leaves st = job_state.Reserved (failures st)

@@ -2,7 +2,7 @@
 use Rattle.std.specs.Prelude.{ℕ, ◌+◌}
 use Rattle.object_fields.specs.declared.key.Key.{Key}
 use Rattle.cluster.specs.declared.entry.JobState.{JobState}
-use Rattle.cluster.specs.declared.entry.JobState.TheVariants as stand
+use Rattle.cluster.specs.declared.entry.JobState.TheVariants as job_state
 use Rattle.cluster.specs.declared.state.State.{State}
 use Rattle.cluster.specs.Freed.{without_uses}
 use Rattle.cluster.specs.JobState.{failures}
@@ -13,4 +13,4 @@ with_unreserved place pod s = without_uses place pod s
 
 -- one more attempt of its job has failed
 abbrev pub unreserved_leaves : JobState → JobState
-unreserved_leaves st = stand.Failed (failures st + 1)
+unreserved_leaves st = job_state.Failed (failures st + 1)

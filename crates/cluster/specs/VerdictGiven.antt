@@ -2,7 +2,7 @@
 use Rattle.std.specs.Prelude.{ℕ, List, Bool, true, false}
 use Rattle.std.specs.List.{list_any}
 use Rattle.cluster.specs.declared.entry.JobState.{JobState}
-use Rattle.cluster.specs.declared.entry.JobState.TheVariants as stand
+use Rattle.cluster.specs.declared.entry.JobState.TheVariants as job_state
 use Rattle.cluster.specs.declared.plan.Cause.{Cause}
 use Rattle.cluster.specs.declared.plan.Cause.TheVariants as cause
 use Rattle.cluster.specs.declared.plan.Passed.{Passed}
@@ -14,7 +14,7 @@ with_verdict s = s
 
 -- its job is ended
 abbrev pub judged_leaves : ℕ → JobState
-judged_leaves place = stand.Ended place
+judged_leaves place = job_state.Ended place
 
 abbrev pub is_fault : Cause → Bool
 is_fault cause.Unsat = false

@@ -2,7 +2,7 @@
 use Rattle.std.specs.Prelude.{ℕ, true, option_map}
 use Rattle.object_fields.specs.declared.key.Key.{Key}
 use Rattle.cluster.specs.declared.entry.JobState.{JobState}
-use Rattle.cluster.specs.declared.entry.JobState.TheVariants as stand
+use Rattle.cluster.specs.declared.entry.JobState.TheVariants as job_state
 use Rattle.cluster.specs.declared.state.ClaimState.{ClaimState}
 use Rattle.cluster.specs.declared.state.Granted.{Granted}
 use Rattle.cluster.specs.declared.state.State.{State}
@@ -24,4 +24,4 @@ with_written place pod claim s = record s { claims = changed_at claim (written_b
 
 -- its job has reserved still
 abbrev pub wrote_leaves : JobState → JobState
-wrote_leaves st = stand.Reserved (failures st)
+wrote_leaves st = job_state.Reserved (failures st)

@@ -74,9 +74,9 @@ pub have_more : (c : DeviceConstraint) (o : Option Attribute) (taken : List Pick
 have_more c o [] p h e = (e, tt)
 have_more c o (q ∷ qs) p h e = (h.0, have_more c o qs p h.1 e)
 
-have_front : (c : DeviceConstraint) (o : Option Attribute) (taken : List Pick) (p : Pick) → AllHave c o (taken ++ p ∷ []) → AllHave c o taken
-have_front c o [] p h = tt
-have_front c o (q ∷ qs) p h = (h.0, have_front c o qs p h.1)
+have_prefix : (c : DeviceConstraint) (o : Option Attribute) (taken : List Pick) (p : Pick) → AllHave c o (taken ++ p ∷ []) → AllHave c o taken
+have_prefix c o [] p h = tt
+have_prefix c o (q ∷ qs) p h = (h.0, have_prefix c o qs p h.1)
 
 none_step : (b : Bool) (n : ℕ) {X R : Type 0} → (if b then 1 + n else n) ≡ 0 → (n ≡ 0 → R) → (b ≡ true → X) × R
 none_step true n e f = absurd (omega (arith, e))
@@ -133,10 +133,10 @@ leave_step : (c : DeviceConstraint) (first : Option Attribute) (taken : List Pic
     → IsOf c taken (if b then record { constraint = c; count = n - 1; first = first } else record { constraint = c; count = n; first = first })
 leave_step c first taken p n true named is h =
     let count = is ∙ count_more c taken p ∙ ap (λ (t : Bool). if t then 1 + named_count c taken else named_count c taken) named in
-    record { constraint = refl; count = omega (arith, count); first = have_front c first taken p h }
+    record { constraint = refl; count = omega (arith, count); first = have_prefix c first taken p h }
 leave_step c first taken p n false named is h =
     let count = is ∙ count_more c taken p ∙ ap (λ (t : Bool). if t then 1 + named_count c taken else named_count c taken) named in
-    record { constraint = refl; count = count; first = have_front c first taken p h }
+    record { constraint = refl; count = count; first = have_prefix c first taken p h }
 
 -- with the last result taken back
 pub leave_less : (c : DeviceConstraint) (taken : List Pick) (a : AgreementFields) (p : Pick) → IsOf c (taken ++ p ∷ []) a → IsOf c taken (left_by a p)

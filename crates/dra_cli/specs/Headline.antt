@@ -43,13 +43,13 @@ NamesBudget budget (reason.Nodes nodes) = (p : Passed) (steps : ℕ) → Contain
 -- keep their limits, each user of a claim is a pod that is taken or bound, and such a pod uses each of
 -- its claims.
 pub record IsTrueHistory (budget : ℕ) (h : List Entry) : Type 0 where
-  pub grants : (front back : List Entry) (job : ℕ) (pod : Key) (plan : Plan) → h ≡ front ++ record { job = job; event = Reserved pod plan } ∷ back → IsGrantOf front pod plan
-  pub verdicts : (front back : List Entry) (job : ℕ) (pod : Key) (verdict : Verdict) → h ≡ front ++ record { job = job; event = VerdictGiven pod verdict } ∷ back → IsVerdictOf front pod verdict
+  pub grants : (prefix back : List Entry) (job : ℕ) (pod : Key) (plan : Plan) → h ≡ prefix ++ record { job = job; event = Reserved pod plan } ∷ back → IsGrantOf prefix pod plan
+  pub verdicts : (prefix back : List Entry) (job : ℕ) (pod : Key) (verdict : Verdict) → h ≡ prefix ++ record { job = job; event = VerdictGiven pod verdict } ∷ back → IsVerdictOf prefix pod verdict
   -- the steps of a `budget` are those of the option
-  pub budgets : (front back : List Entry) (job : ℕ) (pod : Key) (verdict : Verdict) → h ≡ front ++ record { job = job; event = VerdictGiven pod verdict } ∷ back → NamesBudget budget verdict.reason
-  pub refusals : (front back : List Entry) (job : ℕ) (pod : Key) (plan : Plan) (why : Failure) → h ≡ front ++ record { job = job; event = Refused pod plan why } ∷ back → MayRefuse front pod plan why
-  pub adoptions : (front back : List Entry) (job : ℕ) (claim : Key) (status : ClaimStatus) → h ≡ front ++ record { job = job; event = Adopted claim status } ∷ back → IsAdoptionOf front claim status
-  pub denials : (front back : List Entry) (job : ℕ) (command : Command) (refusal : Refusal) → h ≡ front ++ record { job = job; event = Denied command refusal } ∷ back → MayDeny (state_of front) command refusal
+  pub budgets : (prefix back : List Entry) (job : ℕ) (pod : Key) (verdict : Verdict) → h ≡ prefix ++ record { job = job; event = VerdictGiven pod verdict } ∷ back → NamesBudget budget verdict.reason
+  pub refusals : (prefix back : List Entry) (job : ℕ) (pod : Key) (plan : Plan) (why : Failure) → h ≡ prefix ++ record { job = job; event = Refused pod plan why } ∷ back → MayRefuse prefix pod plan why
+  pub adoptions : (prefix back : List Entry) (job : ℕ) (claim : Key) (status : ClaimStatus) → h ≡ prefix ++ record { job = job; event = Adopted claim status } ∷ back → IsAdoptionOf prefix claim status
+  pub denials : (prefix back : List Entry) (job : ℕ) (command : Command) (refusal : Refusal) → h ≡ prefix ++ record { job = job; event = Denied command refusal } ∷ back → MayDeny (state_of prefix) command refusal
   pub holders : (place : ℕ) → HeldOnce (state_at h place)
   pub limits : (place : ℕ) → ObjectsKept (state_at h place)
   pub users : (place : ℕ) → UsersAreBusy (state_at h place)
@@ -61,4 +61,4 @@ pub record IsTrueHistory (budget : ℕ) (h : List Entry) : Type 0 where
 pub record Replayed (options : ReplayOptions) (left before after : Option (List ℕ)) : Type 0 where
   pub ends : EndsDone options left before after
   pub history : IsTrueHistory options.budget ends.history
-  pub schedules : (front back : List Given) (pod : Key) (attempts : ℕ) → commands_of ends.done ≡ front ++ One (Schedule pod attempts) ∷ back → Scheduled options.budget front pod attempts ends.history
+  pub schedules : (prefix back : List Given) (pod : Key) (attempts : ℕ) → commands_of ends.done ≡ prefix ++ One (Schedule pod attempts) ∷ back → Scheduled options.budget prefix pod attempts ends.history

@@ -22,9 +22,9 @@ insert_last R o (x ∷ xs) rest k v s =
     rw above (ap (λ es. x ∷ es) (insert_last R o xs rest k v s.1))
 
 -- a prefix of the entries, with a copy of the next one inserted, is a prefix of them
-pub front_grows : {K X : Type 0} (R : K → K → Ordering) → IsTotalOrder R → (all front front2 rest rest2 : List (K × X)) (k k2 : K) (v v2 : X) → all ≡ front ++ rest → rest ≡ (k, v) ∷ rest2 → IsStrictlySortedBy R (keys_of all) → k2 ≡ k → v2 ≡ v → front2 ≡ insert_entry R front k2 v2 → all ≡ front2 ++ rest2
-front_grows R o all front front2 rest rest2 k k2 v v2 e f s kc vc i =
-    let whole : all ≡ front ++ (k, v) ∷ rest2 = e ∙ ap (λ l. front ++ l) f in
-    let same : front2 ≡ insert_entry R front k v = rw (kc, vc) at i in
-    let last : front2 ≡ front ++ (k, v) ∷ [] = same ∙ insert_last R o front rest2 k v (rw whole at s) in
+pub prefix_grows : {K X : Type 0} (R : K → K → Ordering) → IsTotalOrder R → (all prefix prefix2 rest rest2 : List (K × X)) (k k2 : K) (v v2 : X) → all ≡ prefix ++ rest → rest ≡ (k, v) ∷ rest2 → IsStrictlySortedBy R (keys_of all) → k2 ≡ k → v2 ≡ v → prefix2 ≡ insert_entry R prefix k2 v2 → all ≡ prefix2 ++ rest2
+prefix_grows R o all prefix prefix2 rest rest2 k k2 v v2 e f s kc vc i =
+    let whole : all ≡ prefix ++ (k, v) ∷ rest2 = e ∙ ap (λ l. prefix ++ l) f in
+    let same : prefix2 ≡ insert_entry R prefix k v = rw (kc, vc) at i in
+    let last : prefix2 ≡ prefix ++ (k, v) ∷ [] = same ∙ insert_last R o prefix rest2 k v (rw whole at s) in
     rw (whole, last, append_assoc) refl

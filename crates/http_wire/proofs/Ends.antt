@@ -11,50 +11,50 @@ use Rattle.http_wire.specs.Scan.{BehindEmpty, BehindLines, InLines, IsBehind, Is
 use Rattle.http_wire.specs.Steps.{Found}
 use Rattle.http_wire.proofs.Scanned.{empty_nil, none_lf, none_lf_return, none_nil, none_return, stays_one_return}
 
-at_nil : (front : List ℕ) → behind_empty front ≡ behind_empty (front ++ [])
-at_nil front = ap behind_empty (sym (append-nil front))
+at_nil : (prefix : List ℕ) → behind_empty prefix ≡ behind_empty (prefix ++ [])
+at_nil prefix = ap behind_empty (sym (append-nil prefix))
 
-lines_at : (front lines : List ℕ) → ((more : List ℕ) → behind_empty (front ++ more) ≡ lines ++ more) → behind_empty front ≡ lines
-lines_at front lines h = at_nil front ∙ h [] ∙ append-nil lines
+lines_at : (prefix lines : List ℕ) → ((more : List ℕ) → behind_empty (prefix ++ more) ≡ lines ++ more) → behind_empty prefix ≡ lines
+lines_at prefix lines h = at_nil prefix ∙ h [] ∙ append-nil lines
 
-empty_at : (front lines pending : List ℕ) → BehindEmpty front lines pending → behind_empty front ≡ behind_empty pending
-empty_at front lines pending h = at_nil front ∙ h.goes_on [] ∙ ap behind_empty (append-nil pending)
+empty_at : (prefix lines pending : List ℕ) → BehindEmpty prefix lines pending → behind_empty prefix ≡ behind_empty pending
+empty_at prefix lines pending h = at_nil prefix ∙ h.goes_on [] ∙ ap behind_empty (append-nil pending)
 
-open_at : (front lines pending : List ℕ) → InLines front lines pending → through_empty pending ≡ None → HasNoHead front
-open_at front lines pending h none =
-    ap through_empty (lines_at front lines h.lines_are)
+open_at : (prefix lines pending : List ℕ) → InLines prefix lines pending → through_empty pending ≡ None → HasNoHead prefix
+open_at prefix lines pending h none =
+    ap through_empty (lines_at prefix lines h.lines_are)
     ∙ ap through_empty (sym (append-nil lines))
     ∙ h.goes_on []
     ∙ ap (λ (l : List ℕ). shift (length h.earlier) (through_empty l)) (append-nil pending)
     ∙ ap (shift (length h.earlier)) none
 
-no_head_at : (front lines : List ℕ) (place : Place) → IsBehindAt place front lines → (place ≡ Done → ⊥) → HasNoHead front
-no_head_at front lines Before h not = ap through_empty (empty_at front lines [] h ∙ empty_nil) ∙ none_nil
-no_head_at front lines BeforeReturn h not = ap through_empty (empty_at front lines (13 ∷ []) h ∙ stays_one_return) ∙ none_return
-no_head_at front lines Inside h not = open_at front lines [] h none_nil
-no_head_at front lines Start h not = open_at front lines (10 ∷ []) h none_lf
-no_head_at front lines StartReturn h not = open_at front lines (10 ∷ 13 ∷ []) h none_lf_return
-no_head_at front lines Done h not = absurd (not refl)
+no_head_at : (prefix lines : List ℕ) (place : Place) → IsBehindAt place prefix lines → (place ≡ Done → ⊥) → HasNoHead prefix
+no_head_at prefix lines Before h not = ap through_empty (empty_at prefix lines [] h ∙ empty_nil) ∙ none_nil
+no_head_at prefix lines BeforeReturn h not = ap through_empty (empty_at prefix lines (13 ∷ []) h ∙ stays_one_return) ∙ none_return
+no_head_at prefix lines Inside h not = open_at prefix lines [] h none_nil
+no_head_at prefix lines Start h not = open_at prefix lines (10 ∷ []) h none_lf
+no_head_at prefix lines StartReturn h not = open_at prefix lines (10 ∷ 13 ∷ []) h none_lf_return
+no_head_at prefix lines Done h not = absurd (not refl)
 
-begun_lines : (front lines pending : List ℕ) → InLines front lines pending → 0 < length (behind_empty front)
-begun_lines front lines pending h = subst (λ (l : List ℕ). 0 < length l) (sym (lines_at front lines h.lines_are)) h.some
+begun_lines : (prefix lines pending : List ℕ) → InLines prefix lines pending → 0 < length (behind_empty prefix)
+begun_lines prefix lines pending h = subst (λ (l : List ℕ). 0 < length l) (sym (lines_at prefix lines h.lines_are)) h.some
 
-begun_at : (front lines : List ℕ) (place : Place) → IsBehindAt place front lines → (place ≡ Before → ⊥) → (place ≡ Done → ⊥) → 0 < length (behind_empty front)
-begun_at front lines Before h not other = absurd (not refl)
-begun_at front lines BeforeReturn h not other = subst (λ (l : List ℕ). 0 < length l) (sym (empty_at front lines (13 ∷ []) h ∙ stays_one_return)) (omega arith)
-begun_at front lines Inside h not other = begun_lines front lines [] h
-begun_at front lines Start h not other = begun_lines front lines (10 ∷ []) h
-begun_at front lines StartReturn h not other = begun_lines front lines (10 ∷ 13 ∷ []) h
-begun_at front lines Done h not other = absurd (other refl)
+begun_at : (prefix lines : List ℕ) (place : Place) → IsBehindAt place prefix lines → (place ≡ Before → ⊥) → (place ≡ Done → ⊥) → 0 < length (behind_empty prefix)
+begun_at prefix lines Before h not other = absurd (not refl)
+begun_at prefix lines BeforeReturn h not other = subst (λ (l : List ℕ). 0 < length l) (sym (empty_at prefix lines (13 ∷ []) h ∙ stays_one_return)) (omega arith)
+begun_at prefix lines Inside h not other = begun_lines prefix lines [] h
+begun_at prefix lines Start h not other = begun_lines prefix lines (10 ∷ []) h
+begun_at prefix lines StartReturn h not other = begun_lines prefix lines (10 ∷ 13 ∷ []) h
+begun_at prefix lines Done h not other = absurd (other refl)
 
-only_at : (front lines : List ℕ) (place : Place) → IsBehindAt place front lines → place ≡ Before → behind_empty front ≡ []
-only_at front lines place h e = empty_at front lines [] (subst (λ (p : Place). IsBehindAt p front lines) e h) ∙ empty_nil
+only_at : (prefix lines : List ℕ) (place : Place) → IsBehindAt place prefix lines → place ≡ Before → behind_empty prefix ≡ []
+only_at prefix lines place h e = empty_at prefix lines [] (subst (λ (p : Place). IsBehindAt p prefix lines) e h) ∙ empty_nil
 
-pub no_head : (front : List ℕ) (scan : Scan) → IsBehind front scan → (scan.place ≡ Done → ⊥) → HasNoHead front
-no_head front scan h not = no_head_at front (drop scan.blank front) scan.place h.at not
+pub no_head : (prefix : List ℕ) (scan : Scan) → IsBehind prefix scan → (scan.place ≡ Done → ⊥) → HasNoHead prefix
+no_head prefix scan h not = no_head_at prefix (drop scan.blank prefix) scan.place h.at not
 
-done_at : (front lines : List ℕ) (place : Place) → IsBehindAt place front lines → place ≡ Done → BehindLines front lines
-done_at front lines place h e = subst (λ (p : Place). IsBehindAt p front lines) e h
+done_at : (prefix lines : List ℕ) (place : Place) → IsBehindAt place prefix lines → place ≡ Done → BehindLines prefix lines
+done_at prefix lines place h e = subst (λ (p : Place). IsBehindAt p prefix lines) e h
 
 pub found_is : (bytes : List ℕ) (scan : Scan) → IsBehind (take scan.count bytes) scan → scan.place ≡ Done → scan.count ≤ length bytes → scan.count ≤ 16384 → Found bytes scan
 found_is bytes scan h e within few =

@@ -113,25 +113,25 @@ through_more (b ∷ c ∷ d ∷ ds) ys n h = through_by b (c ∷ d ∷ ds) (c �
 
 -- a head at the start of bytes
 
-pub record Fronted (bytes front lines rest : List ℕ) : Type 0 where
-  pub is : bytes ≡ front ++ rest
-  pub head : IsHead front lines
+pub record Fronted (bytes prefix lines rest : List ℕ) : Type 0 where
+  pub is : bytes ≡ prefix ++ rest
+  pub head : IsHead prefix lines
 
-pub lines_then : (bytes front lines rest : List ℕ) → Fronted bytes front lines rest → behind_empty bytes ≡ lines ++ rest
-lines_then bytes front lines rest h =
+pub lines_then : (bytes prefix lines rest : List ℕ) → Fronted bytes prefix lines rest → behind_empty bytes ≡ lines ++ rest
+lines_then bytes prefix lines rest h =
     ap behind_empty h.is
-    ∙ behind_more front rest (length lines) (ap through_empty h.head.lines_are ∙ h.head.ends)
+    ∙ behind_more prefix rest (length lines) (ap through_empty h.head.lines_are ∙ h.head.ends)
     ∙ ap (λ (l : List ℕ). l ++ rest) h.head.lines_are
 
-pub ends_then : (bytes front lines rest : List ℕ) → Fronted bytes front lines rest → through_empty (behind_empty bytes) ≡ Some (length lines)
-ends_then bytes front lines rest h = ap through_empty (lines_then bytes front lines rest h) ∙ through_more lines rest (length lines) h.head.ends
+pub ends_then : (bytes prefix lines rest : List ℕ) → Fronted bytes prefix lines rest → through_empty (behind_empty bytes) ≡ Some (length lines)
+ends_then bytes prefix lines rest h = ap through_empty (lines_then bytes prefix lines rest h) ∙ through_more lines rest (length lines) h.head.ends
 
 -- there is none if as many bytes as a head may have contain none
-pub no_head_there : (bytes front lines rest : List ℕ) (most : ℕ) → length front ≤ most → Fronted bytes front lines rest → HasNoHead (take most bytes) → ⊥
-no_head_there bytes front lines rest most few h none =
-    let cut : take most bytes ≡ front ++ take (most - length front) rest =
-    ap (λ (k : ℕ). take k bytes) (omega (arith, few)) ∙ ap (take (length front + (most - length front))) h.is ∙ take-append-add front rest (most - length front) in
-    none_some (length lines) (sym none ∙ ends_then (take most bytes) front lines (take (most - length front) rest) (record { is = cut; head = h.head }))
+pub no_head_there : (bytes prefix lines rest : List ℕ) (most : ℕ) → length prefix ≤ most → Fronted bytes prefix lines rest → HasNoHead (take most bytes) → ⊥
+no_head_there bytes prefix lines rest most few h none =
+    let cut : take most bytes ≡ prefix ++ take (most - length prefix) rest =
+    ap (λ (k : ℕ). take k bytes) (omega (arith, few)) ∙ ap (take (length prefix + (most - length prefix))) h.is ∙ take-append-add prefix rest (most - length prefix) in
+    none_some (length lines) (sym none ∙ ends_then (take most bytes) prefix lines (take (most - length prefix) rest) (record { is = cut; head = h.head }))
 
 some_is : (m n : ℕ) → ◌≡◌ {A = Option ℕ} (Some m) (Some n) → m ≡ n
 some_is m n e = cc
@@ -146,15 +146,15 @@ split_same (x ∷ a) (y ∷ b) c d l e =
     (ap (λ (l : List ℕ). x ∷ l) r.0 ∙ ap (λ (z : ℕ). z ∷ b) first, r.1)
 
 -- two heads at the start of the same bytes are one
-pub record Same (front lines rest front' lines' rest' : List ℕ) : Type 0 where
-  pub fronts : front ≡ front'
+pub record Same (prefix lines rest prefix' lines' rest' : List ℕ) : Type 0 where
+  pub fronts : prefix ≡ prefix'
   pub lines_are : lines ≡ lines'
   pub rests : rest ≡ rest'
 
-pub one_head : (bytes front lines rest front' lines' rest' : List ℕ) → Fronted bytes front lines rest → Fronted bytes front' lines' rest' → Same front lines rest front' lines' rest'
-one_head bytes front lines rest front' lines' rest' h h' =
-    let long : length lines ≡ length lines' = some_is (length lines) (length lines') (sym (ends_then bytes front lines rest h) ∙ ends_then bytes front' lines' rest' h') in
-    let s = split_same lines lines' rest rest' long (sym (lines_then bytes front lines rest h) ∙ lines_then bytes front' lines' rest' h') in
-    let all : length front + length rest ≡ length front' + length rest' = sym (length-append front rest) ∙ ap length (sym h.is ∙ h'.is) ∙ length-append front' rest' in
-    let f = split_same front front' rest rest' (omega (arith, all, ap length s.1)) (sym h.is ∙ h'.is) in
+pub one_head : (bytes prefix lines rest prefix' lines' rest' : List ℕ) → Fronted bytes prefix lines rest → Fronted bytes prefix' lines' rest' → Same prefix lines rest prefix' lines' rest'
+one_head bytes prefix lines rest prefix' lines' rest' h h' =
+    let long : length lines ≡ length lines' = some_is (length lines) (length lines') (sym (ends_then bytes prefix lines rest h) ∙ ends_then bytes prefix' lines' rest' h') in
+    let s = split_same lines lines' rest rest' long (sym (lines_then bytes prefix lines rest h) ∙ lines_then bytes prefix' lines' rest' h') in
+    let all : length prefix + length rest ≡ length prefix' + length rest' = sym (length-append prefix rest) ∙ ap length (sym h.is ∙ h'.is) ∙ length-append prefix' rest' in
+    let f = split_same prefix prefix' rest rest' (omega (arith, all, ap length s.1)) (sym h.is ∙ h'.is) in
     record { fronts = f.0; lines_are = s.0; rests = s.1 }

@@ -57,9 +57,9 @@ two_more n a b s w e h k m = omega (arith, e, h, k, m)
 count_request : (h : RequestHead) → length h.fields + 2 ≤ line_count (print_request h)
 unfolding print_request
 count_request h =
-    let front = print_blank h.blank ++ h.method ++ 32 ∷ h.target ++ 32 ∷ print_version h.minor in
-    two_more (length h.fields) (line_count (front ++ print_end h.line_end)) (line_count (print_end h.line_end)) (line_count (print_section h.fields h.last)) (line_count (print_request h))
-    (count_append (front ++ print_end h.line_end) (print_section h.fields h.last)) (count_tail front (print_end h.line_end)) (count_end h.line_end) (count_section h.fields h.last)
+    let prefix = print_blank h.blank ++ h.method ++ 32 ∷ h.target ++ 32 ∷ print_version h.minor in
+    two_more (length h.fields) (line_count (prefix ++ print_end h.line_end)) (line_count (print_end h.line_end)) (line_count (print_section h.fields h.last)) (line_count (print_request h))
+    (count_append (prefix ++ print_end h.line_end) (print_section h.fields h.last)) (count_tail prefix (print_end h.line_end)) (count_end h.line_end) (count_section h.fields h.last)
 
 few_fields : (lines : List ℕ) (h : RequestHead) → ReadsRequest lines h [] → line_count lines ≤ 66 → length h.fields ≤ 64
 few_fields lines h reads few =

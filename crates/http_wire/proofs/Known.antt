@@ -14,9 +14,9 @@ consumes_more (Some xs) (Some ys) None x y p q = absurd q
 consumes_more (Some xs) (Some ys) (Some zs) x y p q = p ∙ ap (λ (l : List ℕ). x ++ l) q ∙ sym (append_assoc x y zs)
 
 -- bytes ahead that are gone over
-pub consumes_front : (ahead front rest : List ℕ) (left : Option (List ℕ)) → ahead ≡ front ++ rest → Consumes (remaining ahead left) (remaining rest left) front
-consumes_front ahead front rest None e = tt
-consumes_front ahead front rest (Some xs) e = ap (λ (l : List ℕ). l ++ xs) e ∙ append_assoc front rest xs
+pub consumes_prefix : (ahead prefix rest : List ℕ) (left : Option (List ℕ)) → ahead ≡ prefix ++ rest → Consumes (remaining ahead left) (remaining rest left) prefix
+consumes_prefix ahead prefix rest None e = tt
+consumes_prefix ahead prefix rest (Some xs) e = ap (λ (l : List ℕ). l ++ xs) e ∙ append_assoc prefix rest xs
 
 -- all of them
 pub consumes_all : (ahead : List ℕ) (left : Option (List ℕ)) → Consumes (remaining ahead left) left ahead
@@ -24,17 +24,17 @@ consumes_all ahead None = tt
 consumes_all ahead (Some xs) = refl
 
 -- the bytes ahead begin with these, after no byte was gone over
-pub begins_front : (P : List ℕ → Type 0) (old mid new front : List ℕ) (left left_now : Option (List ℕ)) → Kept old mid left left_now → mid ≡ front ++ new → P front → Begins old left (remaining new left_now) P
-begins_front P old mid new front left left_now kept e p = record {
-  front = front;
-  consumed = consumes_more (remaining old left) (remaining mid left_now) (remaining new left_now) [] front kept (consumes_front mid front new left_now e);
+pub begins_prefix : (P : List ℕ → Type 0) (old mid new prefix : List ℕ) (left left_now : Option (List ℕ)) → Kept old mid left left_now → mid ≡ prefix ++ new → P prefix → Begins old left (remaining new left_now) P
+begins_prefix P old mid new prefix left left_now kept e p = record {
+  prefix = prefix;
+  consumed = consumes_more (remaining old left) (remaining mid left_now) (remaining new left_now) [] prefix kept (consumes_prefix mid prefix new left_now e);
   fact = p;
 }
 
 -- they are these
 pub begins_all : (P : List ℕ → Type 0) (old mid : List ℕ) (left left_now : Option (List ℕ)) → Kept old mid left left_now → P mid → Begins old left left_now P
 begins_all P old mid left left_now kept p = record {
-  front = mid;
+  prefix = mid;
   consumed = consumes_more (remaining old left) (remaining mid left_now) left_now [] mid kept (consumes_all mid left_now);
   fact = p;
 }

@@ -93,55 +93,55 @@ goes_three b more e =
 
 -- one byte more, by what comes before it
 
-join : (front more : List ℕ) (b : ℕ) → (front ++ b ∷ []) ++ more ≡ front ++ b ∷ more
-join front more b = append_assoc front (b ∷ []) more
+join : (prefix more : List ℕ) (b : ℕ) → (prefix ++ b ∷ []) ++ more ≡ prefix ++ b ∷ more
+join prefix more b = append_assoc prefix (b ∷ []) more
 
 longer : (lines : List ℕ) (b : ℕ) → length (lines ++ b ∷ []) ≡ length lines + 1
 longer lines b = length-append lines (b ∷ [])
 
-before_lf : (front lines : List ℕ) → BehindEmpty front lines [] → BehindEmpty (front ++ 10 ∷ []) [] []
-before_lf front lines h = record {
+before_lf : (prefix lines : List ℕ) → BehindEmpty prefix lines [] → BehindEmpty (prefix ++ 10 ∷ []) [] []
+before_lf prefix lines h = record {
   lines_are = refl;
-  goes_on = λ more. ap behind_empty (join front more 10) ∙ h.goes_on (10 ∷ more) ∙ empty_lf more;
+  goes_on = λ more. ap behind_empty (join prefix more 10) ∙ h.goes_on (10 ∷ more) ∙ empty_lf more;
 }
 
-before_return : (front lines : List ℕ) → BehindEmpty front lines [] → BehindEmpty (front ++ 13 ∷ []) (lines ++ 13 ∷ []) (13 ∷ [])
-before_return front lines h = record {
+before_return : (prefix lines : List ℕ) → BehindEmpty prefix lines [] → BehindEmpty (prefix ++ 13 ∷ []) (lines ++ 13 ∷ []) (13 ∷ [])
+before_return prefix lines h = record {
   lines_are = ap (λ (l : List ℕ). l ++ 13 ∷ []) h.lines_are;
-  goes_on = λ more. ap behind_empty (join front more 13) ∙ h.goes_on (13 ∷ more);
+  goes_on = λ more. ap behind_empty (join prefix more 13) ∙ h.goes_on (13 ∷ more);
 }
 
-return_lf : (front lines : List ℕ) → BehindEmpty front lines (13 ∷ []) → BehindEmpty (front ++ 10 ∷ []) [] []
-return_lf front lines h = record {
+return_lf : (prefix lines : List ℕ) → BehindEmpty prefix lines (13 ∷ []) → BehindEmpty (prefix ++ 10 ∷ []) [] []
+return_lf prefix lines h = record {
   lines_are = refl;
-  goes_on = λ more. ap behind_empty (join front more 10) ∙ h.goes_on (10 ∷ more) ∙ empty_crlf more;
+  goes_on = λ more. ap behind_empty (join prefix more 10) ∙ h.goes_on (10 ∷ more) ∙ empty_crlf more;
 }
 
-before_other : (front lines : List ℕ) (b : ℕ) → eqb b 10 ≡ false → eqb b 13 ≡ false → BehindEmpty front lines [] → InLines (front ++ b ∷ []) (lines ++ b ∷ []) []
-before_other front lines b e f h =
-    subst (λ (l : List ℕ). InLines (front ++ b ∷ []) (l ++ b ∷ []) []) (sym h.lines_are) (record {
-      lines_are = λ more. ap behind_empty (join front more b) ∙ h.goes_on (b ∷ more) ∙ stays b more e f;
+before_other : (prefix lines : List ℕ) (b : ℕ) → eqb b 10 ≡ false → eqb b 13 ≡ false → BehindEmpty prefix lines [] → InLines (prefix ++ b ∷ []) (lines ++ b ∷ []) []
+before_other prefix lines b e f h =
+    subst (λ (l : List ℕ). InLines (prefix ++ b ∷ []) (l ++ b ∷ []) []) (sym h.lines_are) (record {
+      lines_are = λ more. ap behind_empty (join prefix more b) ∙ h.goes_on (b ∷ more) ∙ stays b more e f;
       earlier = b ∷ [];
       parts = refl;
       some = omega arith;
       goes_on = λ more. goes_other b more e;
     })
 
-return_other : (front lines : List ℕ) (b : ℕ) → eqb b 10 ≡ false → BehindEmpty front lines (13 ∷ []) → InLines (front ++ b ∷ []) (lines ++ b ∷ []) []
-return_other front lines b e h =
-    subst (λ (l : List ℕ). InLines (front ++ b ∷ []) (l ++ b ∷ []) []) (sym h.lines_are) (record {
-      lines_are = λ more. ap behind_empty (join front more b) ∙ h.goes_on (b ∷ more) ∙ stays_return b more e;
+return_other : (prefix lines : List ℕ) (b : ℕ) → eqb b 10 ≡ false → BehindEmpty prefix lines (13 ∷ []) → InLines (prefix ++ b ∷ []) (lines ++ b ∷ []) []
+return_other prefix lines b e h =
+    subst (λ (l : List ℕ). InLines (prefix ++ b ∷ []) (l ++ b ∷ []) []) (sym h.lines_are) (record {
+      lines_are = λ more. ap behind_empty (join prefix more b) ∙ h.goes_on (b ∷ more) ∙ stays_return b more e;
       earlier = 13 ∷ b ∷ [];
       parts = refl;
       some = omega arith;
       goes_on = λ more. goes_other 13 (b ∷ more) refl ∙ ap (shift 1) (goes_other b more e) ∙ shift_more 1 1 (through_empty more);
     })
 
-in_lines : (front lines pending : List ℕ) (b : ℕ) (extra ahead : List ℕ) → pending ++ b ∷ [] ≡ extra ++ ahead
+in_lines : (prefix lines pending : List ℕ) (b : ℕ) (extra ahead : List ℕ) → pending ++ b ∷ [] ≡ extra ++ ahead
     → ((more : List ℕ) → through_empty (pending ++ b ∷ more) ≡ shift (length extra) (through_empty (ahead ++ more)))
-    → InLines front lines pending → InLines (front ++ b ∷ []) (lines ++ b ∷ []) ahead
-in_lines front lines pending b extra ahead e goes h = record {
-  lines_are = λ more. ap behind_empty (join front more b) ∙ h.lines_are (b ∷ more) ∙ sym (join lines more b);
+    → InLines prefix lines pending → InLines (prefix ++ b ∷ []) (lines ++ b ∷ []) ahead
+in_lines prefix lines pending b extra ahead e goes h = record {
+  lines_are = λ more. ap behind_empty (join prefix more b) ∙ h.lines_are (b ∷ more) ∙ sym (join lines more b);
   earlier = h.earlier ++ extra;
   parts = ap (λ (l : List ℕ). l ++ b ∷ []) h.parts ∙ append_assoc h.earlier pending (b ∷ []) ∙ ap (λ (l : List ℕ). h.earlier ++ l) e ∙ sym (append_assoc h.earlier extra ahead);
   some = omega (arith, longer lines b);
@@ -153,12 +153,12 @@ in_lines front lines pending b extra ahead e goes h = record {
       ∙ ap (λ (n : ℕ). shift n (through_empty (ahead ++ more))) (sym (length-append h.earlier extra));
 }
 
-in_lines_end : (front lines pending : List ℕ) (b n : ℕ) → n ≡ length pending + 1 → ((more : List ℕ) → through_empty (pending ++ b ∷ more) ≡ Some n)
-    → InLines front lines pending → BehindLines (front ++ b ∷ []) (lines ++ b ∷ [])
-in_lines_end front lines pending b n e ends h =
+in_lines_end : (prefix lines pending : List ℕ) (b n : ℕ) → n ≡ length pending + 1 → ((more : List ℕ) → through_empty (pending ++ b ∷ more) ≡ Some n)
+    → InLines prefix lines pending → BehindLines (prefix ++ b ∷ []) (lines ++ b ∷ [])
+in_lines_end prefix lines pending b n e ends h =
     let long : length lines ≡ length h.earlier + length pending = ap length h.parts ∙ length-append h.earlier pending in
     record {
-      lines_are = λ more. ap behind_empty (join front more b) ∙ h.lines_are (b ∷ more) ∙ sym (join lines more b);
+      lines_are = λ more. ap behind_empty (join prefix more b) ∙ h.lines_are (b ∷ more) ∙ sym (join lines more b);
       ends = λ more.
           ap through_empty (join lines more b)
           ∙ h.goes_on (b ∷ more)
@@ -168,21 +168,21 @@ in_lines_end front lines pending b n e ends h =
 
 -- one byte more
 
-behind_is : (front : List ℕ) (b count blank : ℕ) (place : Place) → length front ≡ count → blank ≤ count → IsBehindAt place (front ++ b ∷ []) (drop blank front ++ b ∷ [])
-    → IsBehind (front ++ b ∷ []) (record { place = place; count = count + 1; blank = blank })
-behind_is front b count blank place e h at = record {
-  count_is = longer front b ∙ ap (λ (k : ℕ). k + 1) e;
+behind_is : (prefix : List ℕ) (b count blank : ℕ) (place : Place) → length prefix ≡ count → blank ≤ count → IsBehindAt place (prefix ++ b ∷ []) (drop blank prefix ++ b ∷ [])
+    → IsBehind (prefix ++ b ∷ []) (record { place = place; count = count + 1; blank = blank })
+behind_is prefix b count blank place e h at = record {
+  count_is = longer prefix b ∙ ap (λ (k : ℕ). k + 1) e;
   blank_within = omega (arith, h);
-  at = subst (λ (l : List ℕ). IsBehindAt place (front ++ b ∷ []) l) (sym (drop-append-le blank front (b ∷ []) (omega (arith, h, e)))) at;
+  at = subst (λ (l : List ℕ). IsBehindAt place (prefix ++ b ∷ []) l) (sym (drop-append-le blank prefix (b ∷ []) (omega (arith, h, e)))) at;
 }
 
-empties : (front : List ℕ) (b count : ℕ) → length front ≡ count → BehindEmpty (front ++ b ∷ []) [] [] → IsBehind (front ++ b ∷ []) (record { place = Before; count = count + 1; blank = count + 1 })
-empties front b count e h =
-    let long : length (front ++ b ∷ []) ≡ count + 1 = longer front b ∙ ap (λ (k : ℕ). k + 1) e in
+empties : (prefix : List ℕ) (b count : ℕ) → length prefix ≡ count → BehindEmpty (prefix ++ b ∷ []) [] [] → IsBehind (prefix ++ b ∷ []) (record { place = Before; count = count + 1; blank = count + 1 })
+empties prefix b count e h =
+    let long : length (prefix ++ b ∷ []) ≡ count + 1 = longer prefix b ∙ ap (λ (k : ℕ). k + 1) e in
     record {
       count_is = long;
       blank_within = omega arith;
-      at = subst (λ (l : List ℕ). BehindEmpty (front ++ b ∷ []) l []) (sym (ap (λ (k : ℕ). drop k (front ++ b ∷ [])) (sym long) ∙ drop-length (front ++ b ∷ []))) h;
+      at = subst (λ (l : List ℕ). BehindEmpty (prefix ++ b ∷ []) l []) (sym (ap (λ (k : ℕ). drop k (prefix ++ b ∷ [])) (sym long) ∙ drop-length (prefix ++ b ∷ []))) h;
     }
 
 is_lf : (b : ℕ) → eqb b 10 ≡ true → b ≡ 10
@@ -191,53 +191,53 @@ is_lf b e = eqb-true b 10 e
 is_cr : (b : ℕ) → eqb b 13 ≡ true → b ≡ 13
 is_cr b e = eqb-true b 13 e
 
-from_before : (front : List ℕ) (b count blank : ℕ) (t u : Bool) → eqb b 10 ≡ t → eqb b 13 ≡ u → length front ≡ count → blank ≤ count → BehindEmpty front (drop blank front) []
-    → IsBehind (front ++ b ∷ []) (record { place = cond t Before (cond u BeforeReturn Inside); count = count + 1; blank = blank_after (cond t Before (cond u BeforeReturn Inside)) (count + 1) blank })
-from_before front b count blank true u e f l w h = empties front b count l (subst (λ (k : ℕ). BehindEmpty (front ++ k ∷ []) [] []) (sym (is_lf b e)) (before_lf front (drop blank front) h))
-from_before front b count blank false true e f l w h =
-    behind_is front b count blank BeforeReturn l w (subst (λ (k : ℕ). BehindEmpty (front ++ k ∷ []) (drop blank front ++ k ∷ []) (13 ∷ [])) (sym (is_cr b f)) (before_return front (drop blank front) h))
-from_before front b count blank false false e f l w h = behind_is front b count blank Inside l w (before_other front (drop blank front) b e f h)
+from_before : (prefix : List ℕ) (b count blank : ℕ) (t u : Bool) → eqb b 10 ≡ t → eqb b 13 ≡ u → length prefix ≡ count → blank ≤ count → BehindEmpty prefix (drop blank prefix) []
+    → IsBehind (prefix ++ b ∷ []) (record { place = cond t Before (cond u BeforeReturn Inside); count = count + 1; blank = blank_after (cond t Before (cond u BeforeReturn Inside)) (count + 1) blank })
+from_before prefix b count blank true u e f l w h = empties prefix b count l (subst (λ (k : ℕ). BehindEmpty (prefix ++ k ∷ []) [] []) (sym (is_lf b e)) (before_lf prefix (drop blank prefix) h))
+from_before prefix b count blank false true e f l w h =
+    behind_is prefix b count blank BeforeReturn l w (subst (λ (k : ℕ). BehindEmpty (prefix ++ k ∷ []) (drop blank prefix ++ k ∷ []) (13 ∷ [])) (sym (is_cr b f)) (before_return prefix (drop blank prefix) h))
+from_before prefix b count blank false false e f l w h = behind_is prefix b count blank Inside l w (before_other prefix (drop blank prefix) b e f h)
 
-from_return : (front : List ℕ) (b count blank : ℕ) (t : Bool) → eqb b 10 ≡ t → length front ≡ count → blank ≤ count → BehindEmpty front (drop blank front) (13 ∷ [])
-    → IsBehind (front ++ b ∷ []) (record { place = cond t Before Inside; count = count + 1; blank = blank_after (cond t Before Inside) (count + 1) blank })
-from_return front b count blank true e l w h = empties front b count l (subst (λ (k : ℕ). BehindEmpty (front ++ k ∷ []) [] []) (sym (is_lf b e)) (return_lf front (drop blank front) h))
-from_return front b count blank false e l w h = behind_is front b count blank Inside l w (return_other front (drop blank front) b e h)
+from_return : (prefix : List ℕ) (b count blank : ℕ) (t : Bool) → eqb b 10 ≡ t → length prefix ≡ count → blank ≤ count → BehindEmpty prefix (drop blank prefix) (13 ∷ [])
+    → IsBehind (prefix ++ b ∷ []) (record { place = cond t Before Inside; count = count + 1; blank = blank_after (cond t Before Inside) (count + 1) blank })
+from_return prefix b count blank true e l w h = empties prefix b count l (subst (λ (k : ℕ). BehindEmpty (prefix ++ k ∷ []) [] []) (sym (is_lf b e)) (return_lf prefix (drop blank prefix) h))
+from_return prefix b count blank false e l w h = behind_is prefix b count blank Inside l w (return_other prefix (drop blank prefix) b e h)
 
-from_inside : (front : List ℕ) (b count blank : ℕ) (t : Bool) → eqb b 10 ≡ t → length front ≡ count → blank ≤ count → InLines front (drop blank front) []
-    → IsBehind (front ++ b ∷ []) (record { place = cond t Start Inside; count = count + 1; blank = blank_after (cond t Start Inside) (count + 1) blank })
-from_inside front b count blank true e l w h =
-    behind_is front b count blank Start l w (subst (λ (k : ℕ). InLines (front ++ k ∷ []) (drop blank front ++ k ∷ []) (10 ∷ [])) (sym (is_lf b e))
-    (in_lines front (drop blank front) [] 10 [] (10 ∷ []) refl (λ more. shift_none (through_empty (10 ∷ more))) h))
-from_inside front b count blank false e l w h =
-    behind_is front b count blank Inside l w (in_lines front (drop blank front) [] b (b ∷ []) [] refl (λ more. goes_other b more e) h)
+from_inside : (prefix : List ℕ) (b count blank : ℕ) (t : Bool) → eqb b 10 ≡ t → length prefix ≡ count → blank ≤ count → InLines prefix (drop blank prefix) []
+    → IsBehind (prefix ++ b ∷ []) (record { place = cond t Start Inside; count = count + 1; blank = blank_after (cond t Start Inside) (count + 1) blank })
+from_inside prefix b count blank true e l w h =
+    behind_is prefix b count blank Start l w (subst (λ (k : ℕ). InLines (prefix ++ k ∷ []) (drop blank prefix ++ k ∷ []) (10 ∷ [])) (sym (is_lf b e))
+    (in_lines prefix (drop blank prefix) [] 10 [] (10 ∷ []) refl (λ more. shift_none (through_empty (10 ∷ more))) h))
+from_inside prefix b count blank false e l w h =
+    behind_is prefix b count blank Inside l w (in_lines prefix (drop blank prefix) [] b (b ∷ []) [] refl (λ more. goes_other b more e) h)
 
-from_start : (front : List ℕ) (b count blank : ℕ) (t u : Bool) → eqb b 10 ≡ t → eqb b 13 ≡ u → length front ≡ count → blank ≤ count → InLines front (drop blank front) (10 ∷ [])
-    → IsBehind (front ++ b ∷ []) (record { place = cond t Done (cond u StartReturn Inside); count = count + 1; blank = blank_after (cond t Done (cond u StartReturn Inside)) (count + 1) blank })
-from_start front b count blank true u e f l w h =
-    behind_is front b count blank Done l w (subst (λ (k : ℕ). BehindLines (front ++ k ∷ []) (drop blank front ++ k ∷ [])) (sym (is_lf b e))
-    (in_lines_end front (drop blank front) (10 ∷ []) 10 2 refl ends_lf h))
-from_start front b count blank false true e f l w h =
-    behind_is front b count blank StartReturn l w (subst (λ (k : ℕ). InLines (front ++ k ∷ []) (drop blank front ++ k ∷ []) (10 ∷ 13 ∷ [])) (sym (is_cr b f))
-    (in_lines front (drop blank front) (10 ∷ []) 13 [] (10 ∷ 13 ∷ []) refl (λ more. shift_none (through_empty (10 ∷ 13 ∷ more))) h))
-from_start front b count blank false false e f l w h =
-    behind_is front b count blank Inside l w (in_lines front (drop blank front) (10 ∷ []) b (10 ∷ b ∷ []) [] refl (λ more. goes_two b more e f) h)
+from_start : (prefix : List ℕ) (b count blank : ℕ) (t u : Bool) → eqb b 10 ≡ t → eqb b 13 ≡ u → length prefix ≡ count → blank ≤ count → InLines prefix (drop blank prefix) (10 ∷ [])
+    → IsBehind (prefix ++ b ∷ []) (record { place = cond t Done (cond u StartReturn Inside); count = count + 1; blank = blank_after (cond t Done (cond u StartReturn Inside)) (count + 1) blank })
+from_start prefix b count blank true u e f l w h =
+    behind_is prefix b count blank Done l w (subst (λ (k : ℕ). BehindLines (prefix ++ k ∷ []) (drop blank prefix ++ k ∷ [])) (sym (is_lf b e))
+    (in_lines_end prefix (drop blank prefix) (10 ∷ []) 10 2 refl ends_lf h))
+from_start prefix b count blank false true e f l w h =
+    behind_is prefix b count blank StartReturn l w (subst (λ (k : ℕ). InLines (prefix ++ k ∷ []) (drop blank prefix ++ k ∷ []) (10 ∷ 13 ∷ [])) (sym (is_cr b f))
+    (in_lines prefix (drop blank prefix) (10 ∷ []) 13 [] (10 ∷ 13 ∷ []) refl (λ more. shift_none (through_empty (10 ∷ 13 ∷ more))) h))
+from_start prefix b count blank false false e f l w h =
+    behind_is prefix b count blank Inside l w (in_lines prefix (drop blank prefix) (10 ∷ []) b (10 ∷ b ∷ []) [] refl (λ more. goes_two b more e f) h)
 
-from_start_return : (front : List ℕ) (b count blank : ℕ) (t : Bool) → eqb b 10 ≡ t → length front ≡ count → blank ≤ count → InLines front (drop blank front) (10 ∷ 13 ∷ [])
-    → IsBehind (front ++ b ∷ []) (record { place = cond t Done Inside; count = count + 1; blank = blank_after (cond t Done Inside) (count + 1) blank })
-from_start_return front b count blank true e l w h =
-    behind_is front b count blank Done l w (subst (λ (k : ℕ). BehindLines (front ++ k ∷ []) (drop blank front ++ k ∷ [])) (sym (is_lf b e))
-    (in_lines_end front (drop blank front) (10 ∷ 13 ∷ []) 10 3 refl ends_crlf h))
-from_start_return front b count blank false e l w h =
-    behind_is front b count blank Inside l w (in_lines front (drop blank front) (10 ∷ 13 ∷ []) b (10 ∷ 13 ∷ b ∷ []) [] refl (λ more. goes_three b more e) h)
+from_start_return : (prefix : List ℕ) (b count blank : ℕ) (t : Bool) → eqb b 10 ≡ t → length prefix ≡ count → blank ≤ count → InLines prefix (drop blank prefix) (10 ∷ 13 ∷ [])
+    → IsBehind (prefix ++ b ∷ []) (record { place = cond t Done Inside; count = count + 1; blank = blank_after (cond t Done Inside) (count + 1) blank })
+from_start_return prefix b count blank true e l w h =
+    behind_is prefix b count blank Done l w (subst (λ (k : ℕ). BehindLines (prefix ++ k ∷ []) (drop blank prefix ++ k ∷ [])) (sym (is_lf b e))
+    (in_lines_end prefix (drop blank prefix) (10 ∷ 13 ∷ []) 10 3 refl ends_crlf h))
+from_start_return prefix b count blank false e l w h =
+    behind_is prefix b count blank Inside l w (in_lines prefix (drop blank prefix) (10 ∷ 13 ∷ []) b (10 ∷ 13 ∷ b ∷ []) [] refl (λ more. goes_three b more e) h)
 
-by_place : (front : List ℕ) (b count blank : ℕ) (place : Place) → length front ≡ count → blank ≤ count → IsBehindAt place front (drop blank front) → (place ≡ Done → ⊥)
-    → IsBehind (front ++ b ∷ []) (record { place = next_place place b; count = count + 1; blank = blank_after (next_place place b) (count + 1) blank })
-by_place front b count blank Before l w h not = from_before front b count blank (eqb b 10) (eqb b 13) refl refl l w h
-by_place front b count blank BeforeReturn l w h not = from_return front b count blank (eqb b 10) refl l w h
-by_place front b count blank Inside l w h not = from_inside front b count blank (eqb b 10) refl l w h
-by_place front b count blank Start l w h not = from_start front b count blank (eqb b 10) (eqb b 13) refl refl l w h
-by_place front b count blank StartReturn l w h not = from_start_return front b count blank (eqb b 10) refl l w h
-by_place front b count blank Done l w h not = absurd (not refl)
+by_place : (prefix : List ℕ) (b count blank : ℕ) (place : Place) → length prefix ≡ count → blank ≤ count → IsBehindAt place prefix (drop blank prefix) → (place ≡ Done → ⊥)
+    → IsBehind (prefix ++ b ∷ []) (record { place = next_place place b; count = count + 1; blank = blank_after (next_place place b) (count + 1) blank })
+by_place prefix b count blank Before l w h not = from_before prefix b count blank (eqb b 10) (eqb b 13) refl refl l w h
+by_place prefix b count blank BeforeReturn l w h not = from_return prefix b count blank (eqb b 10) refl l w h
+by_place prefix b count blank Inside l w h not = from_inside prefix b count blank (eqb b 10) refl l w h
+by_place prefix b count blank Start l w h not = from_start prefix b count blank (eqb b 10) (eqb b 13) refl refl l w h
+by_place prefix b count blank StartReturn l w h not = from_start_return prefix b count blank (eqb b 10) refl l w h
+by_place prefix b count blank Done l w h not = absurd (not refl)
 
 pub behind_more : (bytes : List ℕ) (scan new : Scan) → scan.count < length bytes → IsBehind (take scan.count bytes) scan → (scan.place ≡ Done → ⊥) → new ≡ scan_after scan (get_or bytes scan.count 0) → IsBehind (take new.count bytes) new
 behind_more bytes scan new small h not e =

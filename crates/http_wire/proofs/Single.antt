@@ -40,18 +40,18 @@ judged_same lines (Meant r) Crowded h k = absurd (too_many (line_count lines) h.
 judged_same lines (Meant r) (Meant q) h k = ap (λ (x : Result Head WireError). Meant x) (meant_same lines r q h.1 k.1)
 
 -- bytes with a head at their start
-record Headed (bytes front lines rest : List ℕ) (v : Verdict) : Type 0 where
-  at : Fronted bytes front lines rest
+record Headed (bytes prefix lines rest : List ℕ) (v : Verdict) : Type 0 where
+  at : Fronted bytes prefix lines rest
   judged : VerdictGiven lines v
 
-record SameHead (front rest : List ℕ) (v : Verdict) (front' rest' : List ℕ) (v' : Verdict) : Type 0 where
-  fronts : front ≡ front'
+record SameHead (prefix rest : List ℕ) (v : Verdict) (prefix' rest' : List ℕ) (v' : Verdict) : Type 0 where
+  fronts : prefix ≡ prefix'
   rests : rest ≡ rest'
   verdicts : v ≡ v'
 
-same_head : (bytes front lines rest front' lines' rest' : List ℕ) (v v' : Verdict) → Headed bytes front lines rest v → Headed bytes front' lines' rest' v' → SameHead front rest v front' rest' v'
-same_head bytes front lines rest front' lines' rest' v v' h k =
-    let s = one_head bytes front lines rest front' lines' rest' h.at k.at in
+same_head : (bytes prefix lines rest prefix' lines' rest' : List ℕ) (v v' : Verdict) → Headed bytes prefix lines rest v → Headed bytes prefix' lines' rest' v' → SameHead prefix rest v prefix' rest' v'
+same_head bytes prefix lines rest prefix' lines' rest' v v' h k =
+    let s = one_head bytes prefix lines rest prefix' lines' rest' h.at k.at in
     record { fronts = s.fronts; rests = s.rests; verdicts = judged_same lines' v v' (subst (λ (l : List ℕ). VerdictGiven l v) s.lines_are h.judged) k.judged }
 
 -- how the requests end if the bytes begin with no request
@@ -69,23 +69,23 @@ ending_of (Meant (Err error.WriteFault)) = None
 ending_of (Meant (Err error.Memory)) = None
 
 record Refused (bytes : List ℕ) (e : Ending) : Type 0 where
-  front : List ℕ
+  prefix : List ℕ
   lines : List ℕ
   rest : List ℕ
   verdict : Verdict
-  head : Headed bytes front lines rest verdict
+  head : Headed bytes prefix lines rest verdict
   ending : ending_of verdict ≡ Some e
 
 -- a head that says how long a body is
-record Begun (bytes front rest : List ℕ) (head : Head) : Type 0 where
+record Begun (bytes prefix rest : List ℕ) (head : Head) : Type 0 where
   lines : List ℕ
-  headed : Headed bytes front lines rest (Meant (Ok head))
+  headed : Headed bytes prefix lines rest (Meant (Ok head))
 
 record Cut (bytes : List ℕ) (e : Ending) : Type 0 where
-  front : List ℕ
+  prefix : List ℕ
   rest : List ℕ
   head : Head
-  begun : Begun bytes front rest head
+  begun : Begun bytes prefix rest head
   short : length rest < head.length
   early : e ≡ EndedEarly
 
@@ -99,9 +99,9 @@ Unheaded bytes EndedEarly = IsOpenHead bytes
 abbrev Shape : List ℕ → Ending → Type 0
 Shape bytes e = Unheaded bytes e ⊎ (Refused bytes e ⊎ Cut bytes e)
 
-short_refused : (bytes front lines rest : List ℕ) (e : Ending) (v : Verdict) → bytes ≡ front ++ rest → IsHead front lines → VerdictGiven lines v → ending_of v ≡ Some e → Refused bytes e
-short_refused bytes front lines rest e v is head judged ending = record {
-  front = front;
+short_refused : (bytes prefix lines rest : List ℕ) (e : Ending) (v : Verdict) → bytes ≡ prefix ++ rest → IsHead prefix lines → VerdictGiven lines v → ending_of v ≡ Some e → Refused bytes e
+short_refused bytes prefix lines rest e v is head judged ending = record {
+  prefix = prefix;
   lines = lines;
   rest = rest;
   verdict = v;
@@ -109,26 +109,26 @@ short_refused bytes front lines rest e v is head judged ending = record {
   ending = ending;
 }
 
-said_refused : (bytes front rest : List ℕ) (e : Ending) (r : Result Head WireError) → bytes ≡ front ++ rest → Says front r → ending_of (Meant r) ≡ Some e → Refused bytes e
-said_refused bytes front rest e r is says ending = short_refused bytes front says.lines rest e (Meant r) is says.short.head (says.short.few, says.means) ending
+said_refused : (bytes prefix rest : List ℕ) (e : Ending) (r : Result Head WireError) → bytes ≡ prefix ++ rest → Says prefix r → ending_of (Meant r) ≡ Some e → Refused bytes e
+said_refused bytes prefix rest e r is says ending = short_refused bytes prefix says.lines rest e (Meant r) is says.short.head (says.short.few, says.means) ending
 
-bad_shape : (bytes front rest : List ℕ) → bytes ≡ front ++ rest → IsBadHead front → Refused bytes BadHead
-bad_shape bytes front rest is (inl stray) = short_refused bytes front stray.lines rest BadHead Bare is stray.short.head (stray.short.few, stray.none) refl
-bad_shape bytes front rest is (inr says) = said_refused bytes front rest BadHead (Err error.BadHead) is says refl
+bad_shape : (bytes prefix rest : List ℕ) → bytes ≡ prefix ++ rest → IsBadHead prefix → Refused bytes BadHead
+bad_shape bytes prefix rest is (inl stray) = short_refused bytes prefix stray.lines rest BadHead Bare is stray.short.head (stray.short.few, stray.none) refl
+bad_shape bytes prefix rest is (inr says) = said_refused bytes prefix rest BadHead (Err error.BadHead) is says refl
 
-begun_of : (bytes front rest : List ℕ) (head : Head) → bytes ≡ front ++ rest → Says front (Ok head) → Begun bytes front rest head
-begun_of bytes front rest head is says = record { lines = says.lines; headed = record { at = record { is = is; head = says.short.head }; judged = (says.short.few, says.means) } }
+begun_of : (bytes prefix rest : List ℕ) (head : Head) → bytes ≡ prefix ++ rest → Says prefix (Ok head) → Begun bytes prefix rest head
+begun_of bytes prefix rest head is says = record { lines = says.lines; headed = record { at = record { is = is; head = says.short.head }; judged = (says.short.few, says.means) } }
 
-cut_same : (most : ℕ) (bytes front rest : List ℕ) → bytes ≡ front ++ rest → most < length front → take most bytes ≡ take most front
-cut_same most bytes front rest is long = ap (take most) is ∙ take-append-le most front rest (omega (arith, long))
+cut_same : (most : ℕ) (bytes prefix rest : List ℕ) → bytes ≡ prefix ++ rest → most < length prefix → take most bytes ≡ take most prefix
+cut_same most bytes prefix rest is long = ap (take most) is ∙ take-append-le most prefix rest (omega (arith, long))
 
-more_long : (most : ℕ) (bytes front rest : List ℕ) → bytes ≡ front ++ rest → most < length front → most < length bytes
-more_long most bytes front rest is long = omega (arith, long, ap length is, length-append front rest)
+more_long : (most : ℕ) (bytes prefix rest : List ℕ) → bytes ≡ prefix ++ rest → most < length prefix → most < length bytes
+more_long most bytes prefix rest is long = omega (arith, long, ap length is, length-append prefix rest)
 
-long_shape : (bytes front rest : List ℕ) → bytes ≡ front ++ rest → IsTooLong front → Shape bytes TooLong
-long_shape bytes front rest is (inl h) = inl (record { longer = more_long 16384 bytes front rest is h.longer; open_ = subst (λ (l : List ℕ). HasNoHead l) (sym (cut_same 16384 bytes front rest is h.longer)) h.open_ })
-long_shape bytes front rest is (inr (inl h)) = inr (inl (short_refused bytes front h.lines rest TooLong Crowded is h.head h.many refl))
-long_shape bytes front rest is (inr (inr says)) = inr (inl (said_refused bytes front rest TooLong (Err error.TooLong) is says refl))
+long_shape : (bytes prefix rest : List ℕ) → bytes ≡ prefix ++ rest → IsTooLong prefix → Shape bytes TooLong
+long_shape bytes prefix rest is (inl h) = inl (record { longer = more_long 16384 bytes prefix rest is h.longer; open_ = subst (λ (l : List ℕ). HasNoHead l) (sym (cut_same 16384 bytes prefix rest is h.longer)) h.open_ })
+long_shape bytes prefix rest is (inr (inl h)) = inr (inl (short_refused bytes prefix h.lines rest TooLong Crowded is h.head h.many refl))
+long_shape bytes prefix rest is (inr (inr says)) = inr (inl (said_refused bytes prefix rest TooLong (Err error.TooLong) is says refl))
 
 shape_of : (bytes : List ℕ) (e : Ending) → Stops bytes e → Shape bytes e
 shape_of bytes Closed h = inl h
@@ -136,7 +136,7 @@ shape_of bytes BadHead h = inr (inl (bad_shape bytes h.0 h.1 h.2 h.3))
 shape_of bytes NoLength h = inr (inl (said_refused bytes h.0 h.1 NoLength (Err error.NoLength) h.2 h.3 refl))
 shape_of bytes TooLong h = long_shape bytes h.0 h.1 h.2 h.3
 shape_of bytes EndedEarly (inl h) = inl h
-shape_of bytes EndedEarly (inr h) = inr (inr (record { front = h.front; rest = h.body; head = h.head; begun = begun_of bytes h.front h.body h.head h.is h.says; short = h.short; early = refl }))
+shape_of bytes EndedEarly (inr h) = inr (inr (record { prefix = h.prefix; rest = h.body; head = h.head; begun = begun_of bytes h.prefix h.body h.head h.is h.says; short = h.short; early = refl }))
 
 -- two endings
 
@@ -147,8 +147,8 @@ no_head_in bytes NoLength h = absurd h
 no_head_in bytes TooLong h = h.open_
 no_head_in bytes EndedEarly h = subst (λ (l : List ℕ). HasNoHead l) (sym (take_all 16384 bytes h.within)) h.open_
 
-not_both : (bytes front lines rest : List ℕ) (v : Verdict) (e : Ending) → Headed bytes front lines rest v → Unheaded bytes e → ⊥
-not_both bytes front lines rest v e h u = no_head_there bytes front lines rest 16384 h.at.head.within h.at (no_head_in bytes e u)
+not_both : (bytes prefix lines rest : List ℕ) (v : Verdict) (e : Ending) → Headed bytes prefix lines rest v → Unheaded bytes e → ⊥
+not_both bytes prefix lines rest v e h u = no_head_there bytes prefix lines rest 16384 h.at.head.within h.at (no_head_in bytes e u)
 
 begun_blank : (bytes : List ℕ) → behind_empty bytes ≡ [] → 0 < length (behind_empty bytes) → ⊥
 begun_blank bytes e h = omega (arith, ap length e, h)
@@ -180,23 +180,23 @@ none_ending e h = absurd (cc)
 
 refused_same : (bytes : List ℕ) (e f : Ending) → Refused bytes e → Refused bytes f → e ≡ f
 refused_same bytes e f h k =
-    let s = same_head bytes h.front h.lines h.rest k.front k.lines k.rest h.verdict k.verdict h.head k.head in
+    let s = same_head bytes h.prefix h.lines h.rest k.prefix k.lines k.rest h.verdict k.verdict h.head k.head in
     some_ending e f (sym h.ending ∙ ap ending_of s.verdicts ∙ k.ending)
 
-refused_begun : (bytes front rest : List ℕ) (head : Head) (e : Ending) → Refused bytes e → Begun bytes front rest head → ⊥
-refused_begun bytes front rest head e h k =
-    let s = same_head bytes h.front h.lines h.rest front k.lines rest h.verdict (Meant (Ok head)) h.head k.headed in
+refused_begun : (bytes prefix rest : List ℕ) (head : Head) (e : Ending) → Refused bytes e → Begun bytes prefix rest head → ⊥
+refused_begun bytes prefix rest head e h k =
+    let s = same_head bytes h.prefix h.lines h.rest prefix k.lines rest h.verdict (Meant (Ok head)) h.head k.headed in
     none_ending e (sym (ap ending_of s.verdicts) ∙ h.ending)
 
 shape_same : (bytes : List ℕ) (e f : Ending) → Shape bytes e → Shape bytes f → e ≡ f
 shape_same bytes e f (inl h) (inl k) = unheaded_same bytes e f h k
-shape_same bytes e f (inl h) (inr (inl k)) = absurd (not_both bytes k.front k.lines k.rest k.verdict e k.head h)
-shape_same bytes e f (inl h) (inr (inr k)) = absurd (not_both bytes k.front k.begun.lines k.rest (Meant (Ok k.head)) e k.begun.headed h)
-shape_same bytes e f (inr (inl h)) (inl k) = absurd (not_both bytes h.front h.lines h.rest h.verdict f h.head k)
+shape_same bytes e f (inl h) (inr (inl k)) = absurd (not_both bytes k.prefix k.lines k.rest k.verdict e k.head h)
+shape_same bytes e f (inl h) (inr (inr k)) = absurd (not_both bytes k.prefix k.begun.lines k.rest (Meant (Ok k.head)) e k.begun.headed h)
+shape_same bytes e f (inr (inl h)) (inl k) = absurd (not_both bytes h.prefix h.lines h.rest h.verdict f h.head k)
 shape_same bytes e f (inr (inl h)) (inr (inl k)) = refused_same bytes e f h k
-shape_same bytes e f (inr (inl h)) (inr (inr k)) = absurd (refused_begun bytes k.front k.rest k.head e h k.begun)
-shape_same bytes e f (inr (inr h)) (inl k) = absurd (not_both bytes h.front h.begun.lines h.rest (Meant (Ok h.head)) f h.begun.headed k)
-shape_same bytes e f (inr (inr h)) (inr (inl k)) = absurd (refused_begun bytes h.front h.rest h.head f k h.begun)
+shape_same bytes e f (inr (inl h)) (inr (inr k)) = absurd (refused_begun bytes k.prefix k.rest k.head e h k.begun)
+shape_same bytes e f (inr (inr h)) (inl k) = absurd (not_both bytes h.prefix h.begun.lines h.rest (Meant (Ok h.head)) f h.begun.headed k)
+shape_same bytes e f (inr (inr h)) (inr (inl k)) = absurd (refused_begun bytes h.prefix h.rest h.head f k h.begun)
 shape_same bytes e f (inr (inr h)) (inr (inr k)) = h.early ∙ sym k.early
 
 -- a request and another, or an ending
@@ -204,17 +204,17 @@ shape_same bytes e f (inr (inr h)) (inr (inr k)) = h.early ∙ sym k.early
 head_same : (h k : Head) → ◌≡◌ {A = Verdict} (Meant (Ok h)) (Meant (Ok k)) → h ≡ k
 head_same h k e = cc
 
-same_begun : (bytes front rest front' rest' : List ℕ) (head head' : Head) → Begun bytes front rest head → Begun bytes front' rest' head' → (rest ≡ rest') × (head ≡ head')
-same_begun bytes front rest front' rest' head head' h k =
-    let s = same_head bytes front h.lines rest front' k.lines rest' (Meant (Ok head)) (Meant (Ok head')) h.headed k.headed in
+same_begun : (bytes prefix rest prefix' rest' : List ℕ) (head head' : Head) → Begun bytes prefix rest head → Begun bytes prefix' rest' head' → (rest ≡ rest') × (head ≡ head')
+same_begun bytes prefix rest prefix' rest' head head' h k =
+    let s = same_head bytes prefix h.lines rest prefix' k.lines rest' (Meant (Ok head)) (Meant (Ok head')) h.headed k.headed in
     (s.rests, head_same head head' s.verdicts)
 
-request_begun : (bytes text rest : List ℕ) (m : Message) (r : IsRequest text m) → bytes ≡ text ++ rest → Begun bytes r.front (r.body ++ rest) r.head
-request_begun bytes text rest m r is = begun_of bytes r.front (r.body ++ rest) r.head (is ∙ ap (λ (l : List ℕ). l ++ rest) r.is ∙ append_assoc r.front r.body rest) r.says
+request_begun : (bytes text rest : List ℕ) (m : Message) (r : IsRequest text m) → bytes ≡ text ++ rest → Begun bytes r.prefix (r.body ++ rest) r.head
+request_begun bytes text rest m r is = begun_of bytes r.prefix (r.body ++ rest) r.head (is ∙ ap (λ (l : List ℕ). l ++ rest) r.is ∙ append_assoc r.prefix r.body rest) r.says
 
 request_same : (bytes text rest text' rest' : List ℕ) (m m' : Message) → bytes ≡ text ++ rest → IsRequest text m → bytes ≡ text' ++ rest' → IsRequest text' m' → (m ≡ m') × (rest ≡ rest')
 request_same bytes text rest text' rest' m m' is r is' r' =
-    let s = same_begun bytes r.front (r.body ++ rest) r'.front (r'.body ++ rest') r.head r'.head (request_begun bytes text rest m r is) (request_begun bytes text' rest' m' r' is') in
+    let s = same_begun bytes r.prefix (r.body ++ rest) r'.prefix (r'.body ++ rest') r.head r'.head (request_begun bytes text rest m r is) (request_begun bytes text' rest' m' r' is') in
     let b = split_same r.body r'.body rest rest' (r.long ∙ ap (λ (h : Head). h.length) s.1 ∙ sym r'.long) s.0 in
     (r.message_is ∙ ap (λ (h : Head). message_of h r.body) s.1 ∙ ap (λ (l : List ℕ). message_of r'.head l) b.0 ∙ sym r'.message_is, b.1)
 
@@ -223,10 +223,10 @@ too_short body rest whole n k e l s h = omega (arith, length-append body rest, a
 
 request_or_ending : (bytes text rest : List ℕ) (m : Message) (e : Ending) → bytes ≡ text ++ rest → IsRequest text m → Shape bytes e → ⊥
 request_or_ending bytes text rest m e is r (inl u) =
-    let b = request_begun bytes text rest m r is in not_both bytes r.front b.lines (r.body ++ rest) (Meant (Ok r.head)) e b.headed u
-request_or_ending bytes text rest m e is r (inr (inl k)) = refused_begun bytes r.front (r.body ++ rest) r.head e k (request_begun bytes text rest m r is)
+    let b = request_begun bytes text rest m r is in not_both bytes r.prefix b.lines (r.body ++ rest) (Meant (Ok r.head)) e b.headed u
+request_or_ending bytes text rest m e is r (inr (inl k)) = refused_begun bytes r.prefix (r.body ++ rest) r.head e k (request_begun bytes text rest m r is)
 request_or_ending bytes text rest m e is r (inr (inr k)) =
-    let s = same_begun bytes r.front (r.body ++ rest) k.front k.rest r.head k.head (request_begun bytes text rest m r is) k.begun in
+    let s = same_begun bytes r.prefix (r.body ++ rest) k.prefix k.rest r.head k.head (request_begun bytes text rest m r is) k.begun in
     too_short r.body rest k.rest r.head.length k.head.length s.0 r.long (ap (λ (h : Head). h.length) s.1) k.short
 
 -- all of them

@@ -34,27 +34,27 @@ abbrev pub lines_most : ℕ
 lines_most = 66
 
 -- the bytes are a head with the empty lines before it, and these are its lines
-pub record IsHead (front lines : List ℕ) : Type 0 where
-  pub lines_are : behind_empty front ≡ lines
+pub record IsHead (prefix lines : List ℕ) : Type 0 where
+  pub lines_are : behind_empty prefix ≡ lines
   pub ends : through_empty lines ≡ Some (length lines)
-  pub within : length front ≤ head_most
+  pub within : length prefix ≤ head_most
 
 -- no head ends in the bytes
 abbrev pub HasNoHead : List ℕ → Type 0
-HasNoHead front = through_empty (behind_empty front) ≡ None
+HasNoHead prefix = through_empty (behind_empty prefix) ≡ None
 
 -- the bytes are empty lines, not too many, and no request is begun
-pub record IsBlank (front : List ℕ) : Type 0 where
-  pub only : behind_empty front ≡ []
-  pub within : length front ≤ head_most
+pub record IsBlank (prefix : List ℕ) : Type 0 where
+  pub only : behind_empty prefix ≡ []
+  pub within : length prefix ≤ head_most
 
 -- a head is begun and doesn't end
-pub record IsOpenHead (front : List ℕ) : Type 0 where
-  pub begun : 0 < length (behind_empty front)
-  pub open_ : HasNoHead front
-  pub within : length front ≤ head_most
+pub record IsOpenHead (prefix : List ℕ) : Type 0 where
+  pub begun : 0 < length (behind_empty prefix)
+  pub open_ : HasNoHead prefix
+  pub within : length prefix ≤ head_most
 
 -- no head ends in as many bytes as it may have, and there are more
-pub record IsLongHead (front : List ℕ) : Type 0 where
-  pub longer : head_most < length front
-  pub open_ : HasNoHead (take head_most front)
+pub record IsLongHead (prefix : List ℕ) : Type 0 where
+  pub longer : head_most < length prefix
+  pub open_ : HasNoHead (take head_most prefix)

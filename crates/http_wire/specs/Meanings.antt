@@ -47,11 +47,11 @@ is_whole (Err e) len = false
 
 -- what a head that was found says
 abbrev pub SaysOf : List ℕ → Result Head WireError → Type 0
-SaysOf front (Ok head) = Says front (Ok head)
-SaysOf front (Err error.BadHead) = IsBadHead front
-SaysOf front (Err error.NoLength) = Says front (Err error.NoLength)
-SaysOf front (Err error.TooLong) = HasManyLines front ⊎ Says front (Err error.TooLong)
-SaysOf front (Err error.EndedEarly) = ⊥
-SaysOf front (Err error.ReadFault) = ⊥
-SaysOf front (Err error.WriteFault) = ⊥
-SaysOf front (Err error.Memory) = Unit {0}
+SaysOf prefix (Ok head) = Says prefix (Ok head)
+SaysOf prefix (Err error.BadHead) = IsBadHead prefix
+SaysOf prefix (Err error.NoLength) = Says prefix (Err error.NoLength)
+SaysOf prefix (Err error.TooLong) = HasManyLines prefix ⊎ Says prefix (Err error.TooLong)
+SaysOf prefix (Err error.EndedEarly) = ⊥
+SaysOf prefix (Err error.ReadFault) = ⊥
+SaysOf prefix (Err error.WriteFault) = ⊥
+SaysOf prefix (Err error.Memory) = Unit {0}

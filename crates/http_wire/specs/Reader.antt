@@ -22,24 +22,24 @@ remaining ahead left = prepend_known ahead left
 
 -- what remained begins with bytes of which this holds, and the rest follows them
 pub record Begins (ahead : List ℕ) (left rest : Option (List ℕ)) (P : List ℕ → Type 0) : Type 0 where
-  pub front : List ℕ
-  pub consumed : Consumes (remaining ahead left) rest front
-  pub fact : P front
+  pub prefix : List ℕ
+  pub consumed : Consumes (remaining ahead left) rest prefix
+  pub fact : P prefix
 
 abbrev pub message : Request → Message
 message r = record { method = r.method; target = r.target; body = r.body.items; last = r.last }
 
 -- no request is begun, or one is and doesn't end
 abbrev pub IsUndone : List ℕ → Type 0
-IsUndone front = IsBlank front ⊎ IsOpen front
+IsUndone prefix = IsBlank prefix ⊎ IsOpen prefix
 
 -- what each result means for the bytes that remained before the call and remain after it. A request that is
 -- refused is followed by what else was taken from the source, and what it has left
 abbrev pub Answers : List ℕ → List ℕ → Option (List ℕ) → Option (List ℕ) → Result (Option Request) WireError → Type 0
-Answers ahead ahead_now left left_now (Ok (Some r)) = Begins ahead left (remaining ahead_now left_now) (λ front. IsRequest front (message r))
+Answers ahead ahead_now left left_now (Ok (Some r)) = Begins ahead left (remaining ahead_now left_now) (λ prefix. IsRequest prefix (message r))
 Answers ahead ahead_now left left_now (Ok None) = Begins ahead left (remaining ahead_now left_now) IsBlank × IsAtEnd (remaining ahead_now left_now)
 Answers ahead ahead_now left left_now (Err error.BadHead) = (rest : List ℕ) × Begins ahead left (remaining rest left_now) IsBadHead
-Answers ahead ahead_now left left_now (Err error.NoLength) = (rest : List ℕ) × Begins ahead left (remaining rest left_now) (λ front. Says front (Err error.NoLength))
+Answers ahead ahead_now left left_now (Err error.NoLength) = (rest : List ℕ) × Begins ahead left (remaining rest left_now) (λ prefix. Says prefix (Err error.NoLength))
 Answers ahead ahead_now left left_now (Err error.TooLong) = (rest : List ℕ) × Begins ahead left (remaining rest left_now) IsTooLong
 Answers ahead ahead_now left left_now (Err error.EndedEarly) = Begins ahead left left_now IsOpen × IsAtEnd left_now
 Answers ahead ahead_now left left_now (Err error.ReadFault) = Begins ahead left left_now IsUndone

@@ -18,14 +18,14 @@ abbrev pub IsNoHead : List ℕ → Type 0
 IsNoHead lines = (h : RequestHead) → ReadsRequest lines h [] → ⊥
 
 -- the bytes are a head that isn't too long
-pub record IsShortHead (front lines : List ℕ) : Type 0 where
-  pub head : IsHead front lines
+pub record IsShortHead (prefix lines : List ℕ) : Type 0 where
+  pub head : IsHead prefix lines
   pub few : line_count lines ≤ lines_most
 
 -- the bytes are a head that isn't too long, with this meaning
-pub record Says (front : List ℕ) (meaning : Result Head WireError) : Type 0 where
+pub record Says (prefix : List ℕ) (meaning : Result Head WireError) : Type 0 where
   pub lines : List ℕ
-  pub short : IsShortHead front lines
+  pub short : IsShortHead prefix lines
   pub means : HasMeaning lines meaning
 
 -- a request
@@ -40,40 +40,40 @@ message_of head body = record { method = head.method; target = head.target; body
 
 -- the bytes are this request, with the empty lines before it: its head and as many bytes as that says
 pub record IsRequest (text : List ℕ) (message : Message) : Type 0 where
-  pub front : List ℕ
+  pub prefix : List ℕ
   pub body : List ℕ
-  pub is : text ≡ front ++ body
+  pub is : text ≡ prefix ++ body
   pub head : Head
-  pub says : Says front (Ok head)
+  pub says : Says prefix (Ok head)
   pub long : length body ≡ head.length
   pub message_is : message ≡ message_of head body
 
 -- a head that isn't one by `httparse`'s grammar, or whose lengths are no number or different
-pub record IsStray (front : List ℕ) : Type 0 where
+pub record IsStray (prefix : List ℕ) : Type 0 where
   pub lines : List ℕ
-  pub short : IsShortHead front lines
+  pub short : IsShortHead prefix lines
   pub none : IsNoHead lines
 
 abbrev pub IsBadHead : List ℕ → Type 0
-IsBadHead front = IsStray front ⊎ Says front (Err error.BadHead)
+IsBadHead prefix = IsStray prefix ⊎ Says prefix (Err error.BadHead)
 
 -- more lines than a head may have
-pub record HasManyLines (front : List ℕ) : Type 0 where
+pub record HasManyLines (prefix : List ℕ) : Type 0 where
   pub lines : List ℕ
-  pub head : IsHead front lines
+  pub head : IsHead prefix lines
   pub many : lines_most < line_count lines
 
 -- a head of too many bytes or lines, or a body of too many bytes
 abbrev pub IsTooLong : List ℕ → Type 0
-IsTooLong front = IsLongHead front ⊎ (HasManyLines front ⊎ Says front (Err error.TooLong))
+IsTooLong prefix = IsLongHead prefix ⊎ (HasManyLines prefix ⊎ Says prefix (Err error.TooLong))
 
 -- a body that has fewer bytes than its head says
 pub record IsOpenBody (text : List ℕ) : Type 0 where
-  pub front : List ℕ
+  pub prefix : List ℕ
   pub body : List ℕ
-  pub is : text ≡ front ++ body
+  pub is : text ≡ prefix ++ body
   pub head : Head
-  pub says : Says front (Ok head)
+  pub says : Says prefix (Ok head)
   pub short : length body < head.length
 
 -- a request is begun, is not refused so far, and doesn't end
@@ -92,9 +92,9 @@ pub data Ending : Type 0 where
 -- why the bytes begin with no request
 abbrev pub Stops : List ℕ → Ending → Type 0
 Stops bytes Closed = IsBlank bytes
-Stops bytes BadHead = (front rest : List ℕ) × (bytes ≡ front ++ rest) × IsBadHead front
-Stops bytes NoLength = (front rest : List ℕ) × (bytes ≡ front ++ rest) × Says front (Err error.NoLength)
-Stops bytes TooLong = (front rest : List ℕ) × (bytes ≡ front ++ rest) × IsTooLong front
+Stops bytes BadHead = (prefix rest : List ℕ) × (bytes ≡ prefix ++ rest) × IsBadHead prefix
+Stops bytes NoLength = (prefix rest : List ℕ) × (bytes ≡ prefix ++ rest) × Says prefix (Err error.NoLength)
+Stops bytes TooLong = (prefix rest : List ℕ) × (bytes ≡ prefix ++ rest) × IsTooLong prefix
 Stops bytes EndedEarly = IsOpen bytes
 
 -- the requests of bytes: these are the requests in them in order, one after another, and then this ending;

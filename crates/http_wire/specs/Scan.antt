@@ -41,34 +41,34 @@ shift n end = option_map (λ m. n + m) end
 
 -- Only empty lines were gone over, and then these bytes, which may begin another: whatever follows, it is
 -- what follows these bytes.
-pub record BehindEmpty (front lines pending : List ℕ) : Type 0 where
+pub record BehindEmpty (prefix lines pending : List ℕ) : Type 0 where
   pub lines_are : lines ≡ pending
-  pub goes_on : (more : List ℕ) → behind_empty (front ++ more) ≡ behind_empty (pending ++ more)
+  pub goes_on : (more : List ℕ) → behind_empty (prefix ++ more) ≡ behind_empty (pending ++ more)
 
 -- These lines were gone over after the empty ones, none of them empty, and the last bytes of them may
 -- belong to an empty line: whatever follows, it ends where what follows those bytes does.
-pub record InLines (front lines pending : List ℕ) : Type 0 where
-  pub lines_are : (more : List ℕ) → behind_empty (front ++ more) ≡ lines ++ more
+pub record InLines (prefix lines pending : List ℕ) : Type 0 where
+  pub lines_are : (more : List ℕ) → behind_empty (prefix ++ more) ≡ lines ++ more
   pub earlier : List ℕ
   pub parts : lines ≡ earlier ++ pending
   pub some : 0 < length lines
   pub goes_on : (more : List ℕ) → through_empty (lines ++ more) ≡ shift (length earlier) (through_empty (pending ++ more))
 
 -- the lines are whole, whatever follows
-pub record BehindLines (front lines : List ℕ) : Type 0 where
-  pub lines_are : (more : List ℕ) → behind_empty (front ++ more) ≡ lines ++ more
+pub record BehindLines (prefix lines : List ℕ) : Type 0 where
+  pub lines_are : (more : List ℕ) → behind_empty (prefix ++ more) ≡ lines ++ more
   pub ends : (more : List ℕ) → through_empty (lines ++ more) ≡ Some (length lines)
 
 abbrev pub IsBehindAt : Place → List ℕ → List ℕ → Type 0
-IsBehindAt Before front lines = BehindEmpty front lines []
-IsBehindAt BeforeReturn front lines = BehindEmpty front lines (13 ∷ [])
-IsBehindAt Inside front lines = InLines front lines []
-IsBehindAt Start front lines = InLines front lines (10 ∷ [])
-IsBehindAt StartReturn front lines = InLines front lines (10 ∷ 13 ∷ [])
-IsBehindAt Done front lines = BehindLines front lines
+IsBehindAt Before prefix lines = BehindEmpty prefix lines []
+IsBehindAt BeforeReturn prefix lines = BehindEmpty prefix lines (13 ∷ [])
+IsBehindAt Inside prefix lines = InLines prefix lines []
+IsBehindAt Start prefix lines = InLines prefix lines (10 ∷ [])
+IsBehindAt StartReturn prefix lines = InLines prefix lines (10 ∷ 13 ∷ [])
+IsBehindAt Done prefix lines = BehindLines prefix lines
 
 -- these bytes were gone over
-pub record IsBehind (front : List ℕ) (scan : Scan) : Type 0 where
-  pub count_is : length front ≡ scan.count
+pub record IsBehind (prefix : List ℕ) (scan : Scan) : Type 0 where
+  pub count_is : length prefix ≡ scan.count
   pub blank_within : scan.blank ≤ scan.count
-  pub at : IsBehindAt scan.place front (drop scan.blank front)
+  pub at : IsBehindAt scan.place prefix (drop scan.blank prefix)

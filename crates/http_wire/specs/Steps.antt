@@ -37,10 +37,10 @@ Finds ahead ahead_now left left_now (Err error.Memory) = ConsumesFront (remainin
 
 -- taking a head
 abbrev pub TakesHead : List ℕ → List ℕ → Option (List ℕ) → Option (List ℕ) → Result (Option Head) WireError → Type 0
-TakesHead ahead ahead_now left left_now (Ok (Some head)) = Begins ahead left (remaining ahead_now left_now) (λ front. Says front (Ok head))
+TakesHead ahead ahead_now left left_now (Ok (Some head)) = Begins ahead left (remaining ahead_now left_now) (λ prefix. Says prefix (Ok head))
 TakesHead ahead ahead_now left left_now (Ok None) = Begins ahead left (remaining ahead_now left_now) IsBlank × IsAtEnd (remaining ahead_now left_now)
 TakesHead ahead ahead_now left left_now (Err error.BadHead) = (rest : List ℕ) × Begins ahead left (remaining rest left_now) IsBadHead
-TakesHead ahead ahead_now left left_now (Err error.NoLength) = (rest : List ℕ) × Begins ahead left (remaining rest left_now) (λ front. Says front (Err error.NoLength))
+TakesHead ahead ahead_now left left_now (Err error.NoLength) = (rest : List ℕ) × Begins ahead left (remaining rest left_now) (λ prefix. Says prefix (Err error.NoLength))
 TakesHead ahead ahead_now left left_now (Err error.TooLong) = (rest : List ℕ) × Begins ahead left (remaining rest left_now) IsTooLong
 TakesHead ahead ahead_now left left_now (Err error.EndedEarly) = Begins ahead left left_now IsOpen × IsAtEnd left_now
 TakesHead ahead ahead_now left left_now (Err error.ReadFault) = Begins ahead left left_now IsUndone

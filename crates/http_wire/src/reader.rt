@@ -58,7 +58,7 @@ impl RequestReader {
         ensures fills { Fills self.old self.new (S.left from.old) (S.left from.new) result }
         ensures cause { HasCause (S.faults from.old) (S.faults from.new) result }
     {
-        self.move_to_front(alloc)?;
+        self.move_to_prefix(alloc)?;
         let count = self.read_piece(from)?;
         Ok(count > 0)
     }
@@ -79,7 +79,7 @@ impl RequestReader {
     }
 
     /// Drops the bytes before those ahead.
-    fn move_to_front(&mut self, alloc: Global) -> Result<(), AllocError>
+    fn move_to_prefix(&mut self, alloc: Global) -> Result<(), AllocError>
         ensures same { self.new ≡ self.old }
     {
         if self.next == 0 {

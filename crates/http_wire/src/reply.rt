@@ -27,7 +27,7 @@ pub struct Reply {
 /// reply may be written.
 pub fn write_reply<K: Sink>(alloc: Global, to: &mut K, reply: &Reply) -> Result<(), WireError>
     ensures bytes { OnOk result (Appends (K.written to.old) (K.written to.new) (reply_bytes reply.now)) }
-    ensures front { OnErr result (AppendsFront (K.written to.old) (K.written to.new) (reply_bytes reply.now)) }
+    ensures prefix { OnErr result (AppendsFront (K.written to.old) (K.written to.new) (reply_bytes reply.now)) }
     ensures cause { HasWriteCause (K.faults to.old) (K.faults to.new) result }
 {
     let bytes = reply_text(alloc, reply)?;

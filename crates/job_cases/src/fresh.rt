@@ -1,7 +1,7 @@
 ghost use Rattle.std.specs.Prelude.{◌≡◌, ◌<◌, ℕ, length, slice_index, true, nat_eq};
 ghost use Rattle.std.specs.List.{list_any};
 ghost use Rattle.cluster.specs.declared.entry.JobState.TheVariants.{Fresh};
-ghost use Rattle.cluster.specs.History.{stand_of};
+ghost use Rattle.cluster.specs.History.{job_state_of};
 ghost use Rattle.sched_job.specs.Runs.{attempts_of};
 ghost use Rattle.sched_job.specs.Steps.{AllNew, Differ, jobs_of};
 ghost use Rattle.sched_job.specs.declared.work.Stage.TheVariants.{Ready};
@@ -27,10 +27,10 @@ fn has_attempt(command: &Command) -> bool
 
 /// Whether a job has no entry yet, and its command an attempt.
 pub fn is_new(ledger: &Ledger, job: u64, command: &Command) -> bool
-    ensures fresh { result ≡ true → stand_of ledger.now.entries job ≡ Fresh }
+    ensures fresh { result ≡ true → job_state_of ledger.now.entries job ≡ Fresh }
     ensures attempts { result ≡ true → 0 < attempts_of command.now }
 {
-    match ledger.stand(job) {
+    match ledger.job_state(job) {
         JobState::Fresh => has_attempt(command),
         JobState::Reserved(_)
         | JobState::Conflicted(_)
@@ -49,7 +49,7 @@ fn is_ready(stage: &Stage) -> bool
 }
 
 fn is_new_work(ledger: &Ledger, work: &Work) -> bool
-    ensures { result ≡ true → (stand_of ledger.now.entries work.now.job ≡ Fresh) × (work.now.stage ≡ Ready) × (0 < attempts_of work.now.command) }
+    ensures { result ≡ true → (job_state_of ledger.now.entries work.now.job ≡ Fresh) × (work.now.stage ≡ Ready) × (0 < attempts_of work.now.command) }
 {
     is_new(ledger, work.job, &work.command) && is_ready(&work.stage)
 }

@@ -19,8 +19,12 @@ fn print_turns(
 }
 
 /// Prints the index of the last entry of a job that has ended, and `-` for one that hasn't.
-fn print_stand(alloc: Global, stand: JobState, out: &mut Vec<u8>) -> Result<(), AllocError> {
-    let text = match stand {
+fn print_job_state(
+    alloc: Global,
+    job_state: JobState,
+    out: &mut Vec<u8>,
+) -> Result<(), AllocError> {
+    let text = match job_state {
         JobState::Ended(place) => format!(in alloc; " {place}")?,
         JobState::Fresh | JobState::Reserved(_) | JobState::Conflicted(_) | JobState::Failed(_) => {
             format!(in alloc; " -")?
@@ -37,7 +41,7 @@ fn print_ends(
     out: &mut Vec<u8>,
 ) -> Result<(), AllocError> {
     for work in works {
-        print_stand(alloc, ledger.stand(work.job), out)?;
+        print_job_state(alloc, ledger.job_state(work.job), out)?;
     }
     out.push(b'\n')?;
     Ok(())

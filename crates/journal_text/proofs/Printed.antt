@@ -22,11 +22,11 @@ pub one_line : (place : ℕ) (e : Entry) → IsOneLine (line_of place e)
 unfolding line_of
 one_line place e =
     let text : List ℕ = decimal place ++ codes " " ++ decimal e.job ++ codes " " ++ event_text e.event in
-    record { front = map clean text; ends = refl; printed = all_printed text }
+    record { prefix = map clean text; ends = refl; printed = all_printed text }
 
-pub line_is : (place : ℕ) (e : Entry) (out front bytes text event : List ℕ) → out ≡ front ++ codes "\n" → front ≡ map clean bytes → bytes ≡ text
+pub line_is : (place : ℕ) (e : Entry) (out prefix bytes text event : List ℕ) → out ≡ prefix ++ codes "\n" → prefix ≡ map clean bytes → bytes ≡ text
     → text ≡ decimal place ++ (codes " " ++ (decimal e.job ++ (codes " " ++ event))) → event ≡ event_text e.event → out ≡ line_of place e
 unfolding line_of
-line_is place e out front bytes text event ended cleaned same written told =
+line_is place e out prefix bytes text event ended cleaned same written told =
     let whole : decimal place ++ (codes " " ++ (decimal e.job ++ (codes " " ++ event_text e.event))) ≡ decimal place ++ codes " " ++ decimal e.job ++ codes " " ++ event_text e.event = simp append_assoc in
     ended ∙ ap (λ (l : List ℕ). l ++ codes "\n") (cleaned ∙ ap (λ (l : List ℕ). map clean l) (same ∙ written ∙ ap (λ (l : List ℕ). decimal place ++ (codes " " ++ (decimal e.job ++ (codes " " ++ l)))) told ∙ whole))

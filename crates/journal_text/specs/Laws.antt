@@ -8,6 +8,6 @@ is_printed b = not (nat_lt b 32) && not (b == 127)
 
 -- a text that ends with LF, with no control character before it
 pub record IsOneLine (text : List ℕ) : Type 0 where
-  pub front : List ℕ
-  pub ends : text ≡ front ++ codes "\n"
-  pub printed : list_all is_printed front ≡ true
+  pub prefix : List ℕ
+  pub ends : text ≡ prefix ++ codes "\n"
+  pub printed : list_all is_printed prefix ≡ true

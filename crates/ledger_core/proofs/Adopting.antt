@@ -51,6 +51,6 @@ adoption_of law h claim status may =
     let a = law s claim status free.0 free.1 sound in
     record { state = free.0; there = free.1; free = free.2; choice = a.0; allocation = a.1 }
 
-pub adoption_at : StatusLaw → (front back : List Entry) (job : ℕ) (claim : Key) (status : ClaimStatus) → Legal (front ++ record { job = job; event = Adopted claim status } ∷ back) → IsAdoptionOf front claim status
-adoption_at law front back job claim status legal =
-    adoption_of law front claim status (step_at front (record { job = job; event = Adopted claim status }) back legal).stands
+pub adoption_at : StatusLaw → (prefix back : List Entry) (job : ℕ) (claim : Key) (status : ClaimStatus) → Legal (prefix ++ record { job = job; event = Adopted claim status } ∷ back) → IsAdoptionOf prefix claim status
+adoption_at law prefix back job claim status legal =
+    adoption_of law prefix claim status (step_at prefix (record { job = job; event = Adopted claim status }) back legal).stands

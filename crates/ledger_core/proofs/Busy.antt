@@ -16,7 +16,7 @@ use Rattle.cluster.specs.declared.entry.Event.TheVariants.{Applied, Deleted, Res
 use Rattle.cluster.specs.declared.entry.Refusal.{Refusal}
 use Rattle.cluster.specs.declared.entry.Refusal.TheVariants as refusal
 use Rattle.cluster.specs.declared.entry.JobState.{JobState}
-use Rattle.cluster.specs.declared.entry.JobState.TheVariants as stand
+use Rattle.cluster.specs.declared.entry.JobState.TheVariants as job_state
 use Rattle.cluster.specs.declared.object.Object.{Object}
 use Rattle.cluster.specs.declared.object.Object.TheVariants as object
 use Rattle.cluster.specs.declared.object.Target.{Target}
@@ -28,15 +28,15 @@ use Rattle.cluster.specs.declared.state.State.{State}
 use Rattle.cluster.specs.Applied.{with_object}
 use Rattle.cluster.specs.Deleted.{without_object}
 use Rattle.cluster.specs.Denied.{or_else, phase_refusal, release_refusal, schedule_refusal, unbound_refusal}
-use Rattle.cluster.specs.Events.{after, allows, stand_after}
-use Rattle.cluster.specs.History.{stand_of, state_of}
+use Rattle.cluster.specs.Events.{after, allows, job_state_after}
+use Rattle.cluster.specs.History.{job_state_of, state_of}
 use Rattle.cluster.specs.JobState.{has_failed, is_fresh, may_try}
 use Rattle.cluster.specs.Tables.{put_at, with_phase}
-use Rattle.ledger_core.specs.Legal.{Step, Legal, MayStand}
+use Rattle.ledger_core.specs.Legal.{Step, Legal, MayFollow}
 use Rattle.ledger_core.specs.Owners.{has_pod}
-use Rattle.ledger_core.proofs.Headlines.{front_legal, step_at}
+use Rattle.ledger_core.proofs.Headlines.{prefix_legal, step_at}
 use Rattle.ledger_core.proofs.Always.{always}
-use Rattle.ledger_core.proofs.Histories.{stand_of-more, state_of-empty, state_of-more}
+use Rattle.ledger_core.proofs.Histories.{job_state_of-more, state_of-empty, state_of-more}
 
 -- ---- how many pods a job has taken
 
@@ -126,32 +126,32 @@ abbrev most : JobState → ℕ
 most st = cond (has_pod st) 1 0
 
 most_fresh : (st : JobState) → is_fresh st ≡ true → most st ≡ 0
-most_fresh stand.Fresh e = refl
-most_fresh (stand.Reserved k) e = absurd (cc)
-most_fresh (stand.Conflicted k) e = absurd (cc)
-most_fresh (stand.Failed k) e = refl
-most_fresh (stand.Ended place) e = refl
+most_fresh job_state.Fresh e = refl
+most_fresh (job_state.Reserved k) e = absurd (cc)
+most_fresh (job_state.Conflicted k) e = absurd (cc)
+most_fresh (job_state.Failed k) e = refl
+most_fresh (job_state.Ended place) e = refl
 
 most_trying : (st : JobState) → may_try st ≡ true → most st ≡ 0
-most_trying stand.Fresh e = refl
-most_trying (stand.Reserved k) e = absurd (cc)
-most_trying (stand.Conflicted k) e = absurd (cc)
-most_trying (stand.Failed k) e = refl
-most_trying (stand.Ended place) e = refl
+most_trying job_state.Fresh e = refl
+most_trying (job_state.Reserved k) e = absurd (cc)
+most_trying (job_state.Conflicted k) e = absurd (cc)
+most_trying (job_state.Failed k) e = refl
+most_trying (job_state.Ended place) e = refl
 
 most_failed : (st : JobState) (b : Bool) → (has_failed st && b) ≡ true → most st ≡ 0
-most_failed stand.Fresh b e = absurd (cc)
-most_failed (stand.Reserved k) b e = absurd (cc)
-most_failed (stand.Conflicted k) b e = absurd (cc)
-most_failed (stand.Failed k) b e = refl
-most_failed (stand.Ended place) b e = absurd (cc)
+most_failed job_state.Fresh b e = absurd (cc)
+most_failed (job_state.Reserved k) b e = absurd (cc)
+most_failed (job_state.Conflicted k) b e = absurd (cc)
+most_failed (job_state.Failed k) b e = refl
+most_failed (job_state.Ended place) b e = absurd (cc)
 
 most_one : (st : JobState) → most st ≤ 1
-most_one stand.Fresh = omega arith
-most_one (stand.Reserved k) = omega arith
-most_one (stand.Conflicted k) = omega arith
-most_one (stand.Failed k) = omega arith
-most_one (stand.Ended place) = omega arith
+most_one job_state.Fresh = omega arith
+most_one (job_state.Reserved k) = omega arith
+most_one (job_state.Conflicted k) = omega arith
+most_one (job_state.Failed k) = omega arith
+most_one (job_state.Ended place) = omega arith
 
 -- a pod that the job has taken, in a phase in which it isn't
 given_up : (job : ℕ) (pod : Key) (ph : Phase) (node : List ℕ) (es : Pods) (p : PodState) → at_key es pod ≡ Some p → p.phase ≡ phase.Taken job node → taken_by job ph ≡ 0 → pods_taken job (with_phase pod ph es) + 1 ≡ pods_taken job es
@@ -165,53 +165,53 @@ given_up job pod ph node es p there taken off =
     omega (arith, count, exact, was, off)
 
 -- an entry's own job
-own : (before : List Entry) (place job : ℕ) (event : Event) → allows (stand_of before job) event ≡ true → MayStand before job event → pods_taken job (state_of before).pods ≤ most (stand_of before job)
-    → pods_taken job (after place job event (state_of before)).pods ≤ most (stand_after (stand_of before job) place event)
+own : (before : List Entry) (place job : ℕ) (event : Event) → allows (job_state_of before job) event ≡ true → MayFollow before job event → pods_taken job (state_of before).pods ≤ most (job_state_of before job)
+    → pods_taken job (after place job event (state_of before)).pods ≤ most (job_state_after (job_state_of before job) place event)
 own before place job (Applied x m) allowed may h =
-    let none = most_fresh (stand_of before job) allowed in
+    let none = most_fresh (job_state_of before job) allowed in
     let few = applied job place x (state_of before) in
     omega (arith, none, few, h)
 own before place job (Deleted t) allowed may h =
-    let none = most_fresh (stand_of before job) allowed in
+    let none = most_fresh (job_state_of before job) allowed in
     let few = deleted job t (state_of before) in
     omega (arith, none, few, h)
 own before place job (Reserved pod plan) allowed may h =
-    let none = most_trying (stand_of before job) allowed in
+    let none = most_trying (job_state_of before job) allowed in
     let few = phase_set job pod (phase.Taken job plan.node) (state_of before).pods in
     let one : taken_by job (phase.Taken job plan.node) ≡ 1 = ap (λ b. cond b 1 0) (eq-eqb job job refl) in
     omega (arith, none, few, one, h)
 own before place job (Refused pod plan why) allowed may h =
-    let none = most_trying (stand_of before job) allowed in
+    let none = most_trying (job_state_of before job) allowed in
     omega (arith, none, h)
 own before place job (Wrote pod claim seen) allowed may h =
-    let one = most_one (stand_of before job) in
+    let one = most_one (job_state_of before job) in
     omega (arith, one, h)
 own before place job (Conflict pod claim had now) allowed may h =
-    let one = most_one (stand_of before job) in
+    let one = most_one (job_state_of before job) in
     omega (arith, one, h)
 own before place job (Unreserved pod) allowed may h =
     let less = given_up job pod phase.Idle may.node (state_of before).pods may.state may.taken.there may.taken.taken refl in
-    let one = most_one (stand_of before job) in
+    let one = most_one (job_state_of before job) in
     omega (arith, less, one, h)
 own before place job (Bound pod node) allowed may h =
     let less = given_up job pod (phase.Bound node) node (state_of before).pods may.state may.taken.there may.taken.taken refl in
-    let one = most_one (stand_of before job) in
+    let one = most_one (job_state_of before job) in
     omega (arith, less, one, h)
 own before place job (VerdictGiven pod verdict) allowed may h =
-    let none = most_trying (stand_of before job) allowed in
+    let none = most_trying (job_state_of before job) allowed in
     omega (arith, none, h)
 own before place job (Contended pod attempts) allowed may h =
-    let none = most_failed (stand_of before job) _ allowed in
+    let none = most_failed (job_state_of before job) _ allowed in
     omega (arith, none, h)
 own before place job (Released pod) allowed may h =
-    let none = most_fresh (stand_of before job) allowed in
+    let none = most_fresh (job_state_of before job) allowed in
     let few = phase_set job pod phase.Idle (state_of before).pods in
     omega (arith, none, few, h)
 own before place job (Adopted claim status) allowed may h =
-    let none = most_fresh (stand_of before job) allowed in
+    let none = most_fresh (job_state_of before job) allowed in
     omega (arith, none, h)
 own before place job (Denied command refused) allowed may h =
-    let none = most_trying (stand_of before job) allowed in
+    let none = most_trying (job_state_of before job) allowed in
     omega (arith, none, h)
 
 -- another job
@@ -243,11 +243,11 @@ other place job j (Denied command refused) s differs = omega arith
 
 -- each job that has no pod has taken none, and each other one at most one
 abbrev Few : List Entry → Type 0
-Few h = (j : ℕ) → pods_taken j (state_of h).pods ≤ most (stand_of h j)
+Few h = (j : ℕ) → pods_taken j (state_of h).pods ≤ most (job_state_of h j)
 
 few_by : (b : Bool) (j job place : ℕ) (event : Event) (before : List Entry) (pods : Pods) → eqb job j ≡ b
-    → (eqb job j ≡ true → pods_taken j pods ≤ most (stand_after (stand_of before j) place event)) → (eqb job j ≡ false → pods_taken j pods ≤ most (stand_of before j))
-    → pods_taken j pods ≤ most (cond b (stand_after (stand_of before j) place event) (stand_of before j))
+    → (eqb job j ≡ true → pods_taken j pods ≤ most (job_state_after (job_state_of before j) place event)) → (eqb job j ≡ false → pods_taken j pods ≤ most (job_state_of before j))
+    → pods_taken j pods ≤ most (cond b (job_state_after (job_state_of before j) place event) (job_state_of before j))
 few_by true j job place event before pods is same differs = same is
 few_by false j job place event before pods is same differs = differs is
 
@@ -255,15 +255,15 @@ few_after : (before : List Entry) (e : Entry) → Step before e → Few before �
 few_after before e step few j =
     let place = length before + 1 in
     let pods = (after place e.job e.event (state_of before)).pods in
-    let same : eqb e.job j ≡ true → pods_taken j pods ≤ most (stand_after (stand_of before j) place e.event) =
-    λ t. subst (λ (i : ℕ). pods_taken i pods ≤ most (stand_after (stand_of before i) place e.event)) (eqb-true e.job j t) (own before place e.job e.event step.allowed step.stands (few e.job)) in
-    let differs : eqb e.job j ≡ false → pods_taken j pods ≤ most (stand_of before j) =
+    let same : eqb e.job j ≡ true → pods_taken j pods ≤ most (job_state_after (job_state_of before j) place e.event) =
+    λ t. subst (λ (i : ℕ). pods_taken i pods ≤ most (job_state_after (job_state_of before i) place e.event)) (eqb-true e.job j t) (own before place e.job e.event step.allowed step.stands (few e.job)) in
+    let differs : eqb e.job j ≡ false → pods_taken j pods ≤ most (job_state_of before j) =
     λ t. let less = other place e.job j e.event (state_of before) t in let h = few j in omega (arith, less, h) in
-    subst (λ (s : State). pods_taken j s.pods ≤ most (stand_of (before ++ e ∷ []) j)) (sym (state_of-more before e))
-    (subst (λ (st : JobState). pods_taken j pods ≤ most st) (sym (stand_of-more before e j)) (few_by (eqb e.job j) j e.job place e.event before pods refl same differs))
+    subst (λ (s : State). pods_taken j s.pods ≤ most (job_state_of (before ++ e ∷ []) j)) (sym (state_of-more before e))
+    (subst (λ (st : JobState). pods_taken j pods ≤ most st) (sym (job_state_of-more before e j)) (few_by (eqb e.job j) j e.job place e.event before pods refl same differs))
 
 few_at_first : Few []
-few_at_first j = subst (λ (s : State). pods_taken j s.pods ≤ most (stand_of [] j)) (sym state_of-empty) (omega arith)
+few_at_first j = subst (λ (s : State). pods_taken j s.pods ≤ most (job_state_of [] j)) (sym state_of-empty) (omega arith)
 
 few_now : (h : List Entry) → Legal h → Few h
 few_now h legal = always Few few_at_first (λ g e l few step. few_after g e step few) h legal
@@ -321,31 +321,31 @@ has_by false h = absurd (omega (arith, h))
 
 -- a job that may be denied has no pod
 trying : (st : JobState) → may_try st ≡ true → has_pod st ≡ true → ⊥
-trying stand.Fresh e f = absurd (cc)
-trying (stand.Reserved k) e f = absurd (cc)
-trying (stand.Conflicted k) e f = absurd (cc)
-trying (stand.Failed k) e f = absurd (cc)
-trying (stand.Ended place) e f = absurd (cc)
+trying job_state.Fresh e f = absurd (cc)
+trying (job_state.Reserved k) e f = absurd (cc)
+trying (job_state.Conflicted k) e f = absurd (cc)
+trying (job_state.Failed k) e f = absurd (cc)
+trying (job_state.Ended place) e f = absurd (cc)
 
 -- a job that has taken a pod has it, and isn't one that may be denied
-holder_of : (h : List Entry) (job holder : ℕ) → Legal h → may_try (stand_of h job) ≡ true → 1 ≤ pods_taken holder (state_of h).pods → (has_pod (stand_of h holder) ≡ true) × (holder ≢ job)
+holder_of : (h : List Entry) (job holder : ℕ) → Legal h → may_try (job_state_of h job) ≡ true → 1 ≤ pods_taken holder (state_of h).pods → (has_pod (job_state_of h holder) ≡ true) × (holder ≢ job)
 holder_of h job holder legal may one =
     let few = few_now h legal holder in
-    let least : 1 ≤ most (stand_of h holder) = omega (arith, few, one) in
-    let has = has_by (has_pod (stand_of h holder)) least in
-    (has, λ e. trying (stand_of h job) may (subst (λ (i : ℕ). has_pod (stand_of h i) ≡ true) e has))
+    let least : 1 ≤ most (job_state_of h holder) = omega (arith, few, one) in
+    let has = has_by (has_pod (job_state_of h holder)) least in
+    (has, λ e. trying (job_state_of h job) may (subst (λ (i : ℕ). has_pod (job_state_of h i) ≡ true) e has))
 
 -- the job that a denial names has the pod, and is another
-pub busy_schedule : (front back : List Entry) (job holder : ℕ) (pod : Key) → Legal (front ++ record { job = job; event = Denied (Schedule pod) (refusal.Busy holder) } ∷ back)
-    → (has_pod (stand_of front holder) ≡ true) × (holder ≢ job)
-busy_schedule front back job holder pod legal =
-    let step = step_at front (record { job = job; event = Denied (Schedule pod) (refusal.Busy holder) }) back legal in
-    let due = alone (schedule_refusal (at_key (state_of front).pods pod)) (refusal.Busy holder) step.stands.due in
-    holder_of front job holder (front_legal front _ legal) step.allowed (busy_pod holder (state_of front).pods pod (at_key (state_of front).pods pod) refl due)
+pub busy_schedule : (prefix back : List Entry) (job holder : ℕ) (pod : Key) → Legal (prefix ++ record { job = job; event = Denied (Schedule pod) (refusal.Busy holder) } ∷ back)
+    → (has_pod (job_state_of prefix holder) ≡ true) × (holder ≢ job)
+busy_schedule prefix back job holder pod legal =
+    let step = step_at prefix (record { job = job; event = Denied (Schedule pod) (refusal.Busy holder) }) back legal in
+    let due = alone (schedule_refusal (at_key (state_of prefix).pods pod)) (refusal.Busy holder) step.stands.due in
+    holder_of prefix job holder (prefix_legal prefix _ legal) step.allowed (busy_pod holder (state_of prefix).pods pod (at_key (state_of prefix).pods pod) refl due)
 
-pub busy_release : (front back : List Entry) (job holder : ℕ) (pod : Key) → Legal (front ++ record { job = job; event = Denied (Release pod) (refusal.Busy holder) } ∷ back)
-    → (has_pod (stand_of front holder) ≡ true) × (holder ≢ job)
-busy_release front back job holder pod legal =
-    let step = step_at front (record { job = job; event = Denied (Release pod) (refusal.Busy holder) }) back legal in
-    let due = alone (release_refusal (at_key (state_of front).pods pod)) (refusal.Busy holder) step.stands.due in
-    holder_of front job holder (front_legal front _ legal) step.allowed (unbound_pod holder (state_of front).pods pod (at_key (state_of front).pods pod) refl due)
+pub busy_release : (prefix back : List Entry) (job holder : ℕ) (pod : Key) → Legal (prefix ++ record { job = job; event = Denied (Release pod) (refusal.Busy holder) } ∷ back)
+    → (has_pod (job_state_of prefix holder) ≡ true) × (holder ≢ job)
+busy_release prefix back job holder pod legal =
+    let step = step_at prefix (record { job = job; event = Denied (Release pod) (refusal.Busy holder) }) back legal in
+    let due = alone (release_refusal (at_key (state_of prefix).pods pod)) (refusal.Busy holder) step.stands.due in
+    holder_of prefix job holder (prefix_legal prefix _ legal) step.allowed (unbound_pod holder (state_of prefix).pods pod (at_key (state_of prefix).pods pod) refl due)

@@ -47,7 +47,7 @@ use Rattle.cluster.specs.Wrote.{with_written, written_by}
 use Rattle.allocations.specs.Claims.{joined, missing_claim, wanted}
 use Rattle.alloc_rules.specs.Plans.{Holds}
 use Rattle.ledger_core.specs.Bound.{MayBind}
-use Rattle.ledger_core.specs.Legal.{Legal, MayStand}
+use Rattle.ledger_core.specs.Legal.{Legal, MayFollow}
 use Rattle.ledger_core.specs.Users.{PodsUseClaims}
 use Rattle.ledger_core.proofs.Applying.{pod_unchanged}
 use Rattle.ledger_core.proofs.GoingOn.{Assumes, Claims, In, all_kept, assumed_by, changed_other, changed_there, granted, keys_granted, none_passes, same_or_not, there_by}
@@ -298,7 +298,7 @@ adopted : (place : ℕ) (claim : Key) (status : ClaimStatus) (s : State) → All
 adopted place claim status s h = all_still s.claims _ s.pods (λ key. stay_changed key claim (adopted_by place status) s.claims (λ c. (λ e. e, λ e. e))) h
 
 -- an entry that may be appended keeps it
-fit_after : SameClaims → (before : List Entry) (place job : ℕ) (event : Event) → MayStand before job event → AllFit (state_of before).claims (state_of before).pods
+fit_after : SameClaims → (before : List Entry) (place job : ℕ) (event : Event) → MayFollow before job event → AllFit (state_of before).claims (state_of before).pods
     → AllFit (after place job event (state_of before)).claims (after place job event (state_of before)).pods
 fit_after law before place job (Applied x m) may h = applied law place x m (state_of before) may.unrefused h
 fit_after law before place job (Deleted t) may h = deleted t (state_of before) may.unrefused h

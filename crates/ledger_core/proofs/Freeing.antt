@@ -53,12 +53,12 @@ out_by claims left v (Some g) is once looks = record {
 }
 
 -- the pairs of a claim are left out
-leaves_out : (claims left : Claims) (k : Key) (v : ClaimState) (s : Split claims k v) → pairs_in left ≡ s.front ++ s.back → Once (pairs_in claims) → Leaves claims left v.grant
+leaves_out : (claims left : Claims) (k : Key) (v : ClaimState) (s : Split claims k v) → pairs_in left ≡ s.prefix ++ s.back → Once (pairs_in claims) → Leaves claims left v.grant
 leaves_out claims left k v s same once =
     let ds = held_by v.grant in
-    let o : Once (among_others s.front k ds s.back) = subst (λ (ps : Pairs). Once ps) s.whole once in
-    out_by claims left v v.grant refl (subst (λ (ps : Pairs). Once ps) (sym same) (once_without s.front (with_key k ds) s.back o))
-    (λ id. ap (λ ps. looked id ps) same ∙ looked_out id s.front k ds s.back o ∙ ap (λ ps. cond (is_among id ds) None (looked id ps)) (sym s.whole))
+    let o : Once (among_others s.prefix k ds s.back) = subst (λ (ps : Pairs). Once ps) s.whole once in
+    out_by claims left v v.grant refl (subst (λ (ps : Pairs). Once ps) (sym same) (once_without s.prefix (with_key k ds) s.back o))
+    (λ id. ap (λ ps. looked id ps) same ∙ looked_out id s.prefix k ds s.back o ∙ ap (λ ps. cond (is_among id ds) None (looked id ps)) (sym s.whole))
 
 -- ---- the uses of a pod
 
@@ -88,7 +88,7 @@ free_by : (place : ℕ) (pod : Key) (claims : Claims) (k : Key) (c : ClaimState)
     → Leaves claims (set_value (is_at (key_cmp k)) claims (freed place pod c)) (cond b c.grant None)
 free_by place pod claims k c true is grant once =
     let s = split claims k c is in
-    leaves_out claims (set_value (is_at (key_cmp k)) claims (freed place pod c)) k c s (s.set (freed place pod c) ∙ ap (λ g. s.front ++ (with_key k (held_by g) ++ s.back)) grant) once
+    leaves_out claims (set_value (is_at (key_cmp k)) claims (freed place pod c)) k c s (s.set (freed place pod c) ∙ ap (λ g. s.prefix ++ (with_key k (held_by g) ++ s.back)) grant) once
 free_by place pod claims k c false is grant once =
     leaves_same claims (set_value (is_at (key_cmp k)) claims (freed place pod c)) once (set_same claims k c (freed place pod c) is (ap (λ g. held_by g) grant))
 

@@ -199,13 +199,13 @@ pub gives : (claims : Claims) (k : Key) (v w : ClaimState) → at_key claims k �
 gives claims k v w is none once =
     let s = split claims k v is in
     let ds = held_by w.grant in
-    let before : pairs_in claims ≡ s.front ++ s.back = s.whole ∙ ap (λ g. s.front ++ (with_key k (held_by g) ++ s.back)) none in
-    let o : Once (among_others s.front k ds s.back) = subst (λ (ps : Pairs). Once ps) (s.set w) once in
+    let before : pairs_in claims ≡ s.prefix ++ s.back = s.whole ∙ ap (λ g. s.prefix ++ (with_key k (held_by g) ++ s.back)) none in
+    let o : Once (among_others s.prefix k ds s.back) = subst (λ (ps : Pairs). Once ps) (s.set w) once in
     record {
-      once = subst (λ (ps : Pairs). Once ps) (sym before) (once_without s.front (with_key k ds) s.back o);
-      looks = λ id. ap (λ ps. looked id ps) (s.set w) ∙ looked_in id s.front k ds s.back o ∙ ap (λ ps. cond (is_among id ds) (Some k) (looked id ps)) (sym before);
+      once = subst (λ (ps : Pairs). Once ps) (sym before) (once_without s.prefix (with_key k ds) s.back o);
+      looks = λ id. ap (λ ps. looked id ps) (s.set w) ∙ looked_in id s.prefix k ds s.back o ∙ ap (λ ps. cond (is_among id ds) (Some k) (looked id ps)) (sym before);
       free = λ id among.
-          ap (λ ps. looked id ps) before ∙ looked_out id s.front k ds s.back o ∙ ap (λ b. cond b None (looked id (among_others s.front k ds s.back))) among;
+          ap (λ ps. looked id ps) before ∙ looked_out id s.prefix k ds s.back o ∙ ap (λ b. cond b None (looked id (among_others s.prefix k ds s.back))) among;
     }
 
 -- ---- the grants of a plan

@@ -53,50 +53,50 @@ use Rattle.ledger_core.proofs.Histories.{state_of-more}
 some_same : {X : Type 0} (v w : X) → Some v ≡ Some w → v ≡ w
 some_same v w e = cc
 
-step_after : (before front : List Entry) (e : Entry) (back : List Entry) → LegalAfter before (front ++ e ∷ back) → Step (before ++ front) e
+step_after : (before prefix : List Entry) (e : Entry) (back : List Entry) → LegalAfter before (prefix ++ e ∷ back) → Step (before ++ prefix) e
 unfolding LegalAfter
 step_after before [] e back legal = subst (λ (xs : List Entry). Step xs e) (sym (append-nil before)) legal.0
-step_after before (d ∷ front) e back legal =
-    subst (λ (xs : List Entry). Step xs e) (append_assoc before (d ∷ []) front) (step_after (before ++ d ∷ []) front e back legal.1)
+step_after before (d ∷ prefix) e back legal =
+    subst (λ (xs : List Entry). Step xs e) (append_assoc before (d ∷ []) prefix) (step_after (before ++ d ∷ []) prefix e back legal.1)
 
 -- each entry of a legal history may follow those before it
-pub step_at : (front : List Entry) (e : Entry) (back : List Entry) → Legal (front ++ e ∷ back) → Step front e
+pub step_at : (prefix : List Entry) (e : Entry) (back : List Entry) → Legal (prefix ++ e ∷ back) → Step prefix e
 unfolding Legal
-step_at front e back legal = step_after [] front e back legal
+step_at prefix e back legal = step_after [] prefix e back legal
 
-front_after : (before front back : List Entry) → LegalAfter before (front ++ back) → LegalAfter before front
+prefix_after : (before prefix back : List Entry) → LegalAfter before (prefix ++ back) → LegalAfter before prefix
 unfolding LegalAfter
-front_after before [] back legal = tt
-front_after before (d ∷ front) back legal = (legal.0, front_after (before ++ d ∷ []) front back legal.1)
+prefix_after before [] back legal = tt
+prefix_after before (d ∷ prefix) back legal = (legal.0, prefix_after (before ++ d ∷ []) prefix back legal.1)
 
 -- a prefix of a legal history is legal
-pub front_legal : (front back : List Entry) → Legal (front ++ back) → Legal front
+pub prefix_legal : (prefix back : List Entry) → Legal (prefix ++ back) → Legal prefix
 unfolding Legal
-front_legal front back legal = front_after [] front back legal
+prefix_legal prefix back legal = prefix_after [] prefix back legal
 
-after_front : (before front es : List Entry) → LegalAfter before (front ++ es) → LegalAfter (before ++ front) es
+after_prefix : (before prefix es : List Entry) → LegalAfter before (prefix ++ es) → LegalAfter (before ++ prefix) es
 unfolding LegalAfter
-after_front before [] es legal = subst (λ (xs : List Entry). LegalAfter xs es) (sym (append-nil before)) legal
-after_front before (d ∷ front) es legal =
-    subst (λ (xs : List Entry). LegalAfter xs es) (append_assoc before (d ∷ []) front) (after_front (before ++ d ∷ []) front es legal.1)
+after_prefix before [] es legal = subst (λ (xs : List Entry). LegalAfter xs es) (sym (append-nil before)) legal
+after_prefix before (d ∷ prefix) es legal =
+    subst (λ (xs : List Entry). LegalAfter xs es) (append_assoc before (d ∷ []) prefix) (after_prefix (before ++ d ∷ []) prefix es legal.1)
 
 -- what holds for a prefix, and is kept by each entry that may follow, holds for the whole
-pub always_from : (P : List Entry → Type 0) → ((h : List Entry) (e : Entry) → Legal h → P h → Step h e → P (h ++ e ∷ [])) → (front back : List Entry) → Legal (front ++ back) → P front → P (front ++ back)
+pub always_from : (P : List Entry → Type 0) → ((h : List Entry) (e : Entry) → Legal h → P h → Step h e → P (h ++ e ∷ [])) → (prefix back : List Entry) → Legal (prefix ++ back) → P prefix → P (prefix ++ back)
 unfolding Legal
-always_from P step front back legal first = always_along P step front back (after_front [] front back legal) (front_legal front back legal) first
+always_from P step prefix back legal first = always_along P step prefix back (after_prefix [] prefix back legal) (prefix_legal prefix back legal) first
 
 -- what holds of the state after each legal history holds at each of its indexes
 pub at_places : (P : State → Type 0) → ((h : List Entry) → Legal h → P (state_of h)) → (h : List Entry) (place : ℕ) → Legal h → P (state_at h place)
 at_places P all h place legal =
-    all (take place h) (front_legal (take place h) (drop place h) (subst (λ (xs : List Entry). Legal xs) (sym (take-append-drop place h)) legal))
+    all (take place h) (prefix_legal (take place h) (drop place h) (subst (λ (xs : List Entry). Legal xs) (sym (take-append-drop place h)) legal))
 
 grant_of : (before : List Entry) (pod : Key) (plan : Plan) → MayReserve before pod plan → IsGrantOf before pod plan
 grant_of before pod plan may =
     record { state = may.holds_now.state; there = may.holds_now.idle.there; here = may.holds_now.here; joins = may.holds_now.joins; choice = may.holds_now.choice; allocation = may.holds_now.allocation }
 
 -- each reservation of a legal history grants an allocation
-pub grant_at : (front back : List Entry) (job : ℕ) (pod : Key) (plan : Plan) → Legal (front ++ record { job = job; event = Reserved pod plan } ∷ back) → IsGrantOf front pod plan
-grant_at front back job pod plan legal = grant_of front pod plan (step_at front (record { job = job; event = Reserved pod plan }) back legal).stands
+pub grant_at : (prefix back : List Entry) (job : ℕ) (pod : Key) (plan : Plan) → Legal (prefix ++ record { job = job; event = Reserved pod plan } ∷ back) → IsGrantOf prefix pod plan
+grant_at prefix back job pod plan legal = grant_of prefix pod plan (step_at prefix (record { job = job; event = Reserved pod plan }) back legal).stands
 
 -- ---- the first of a list that passes a test
 
@@ -288,15 +288,15 @@ verdict_of over parts before pod verdict may =
     record { at = may.at; state = t.state; there = t.idle.there; idle = t.idle.idle; reason = reason_of over parts (state_at before verdict.at) pod t.state verdict.reason t.reason }
 
 -- each verdict of a legal history is true
-pub verdict_at : OverLaw → PartsLaw → (front back : List Entry) (job : ℕ) (pod : Key) (verdict : Verdict) → Legal (front ++ record { job = job; event = VerdictGiven pod verdict } ∷ back)
-    → IsVerdictOf front pod verdict
-verdict_at over parts front back job pod verdict legal =
-    verdict_of over parts front pod verdict (step_at front (record { job = job; event = VerdictGiven pod verdict }) back legal).stands
+pub verdict_at : OverLaw → PartsLaw → (prefix back : List Entry) (job : ℕ) (pod : Key) (verdict : Verdict) → Legal (prefix ++ record { job = job; event = VerdictGiven pod verdict } ∷ back)
+    → IsVerdictOf prefix pod verdict
+verdict_at over parts prefix back job pod verdict legal =
+    verdict_of over parts prefix pod verdict (step_at prefix (record { job = job; event = VerdictGiven pod verdict }) back legal).stands
 
 -- each denial of a legal history may be made
-pub denial_at : (front back : List Entry) (job : ℕ) (command : Command) (refusal : Refusal) → Legal (front ++ record { job = job; event = Denied command refusal } ∷ back) → MayDeny (state_of front) command refusal
-denial_at front back job command refusal legal = (step_at front (record { job = job; event = Denied command refusal }) back legal).stands
+pub denial_at : (prefix back : List Entry) (job : ℕ) (command : Command) (refusal : Refusal) → Legal (prefix ++ record { job = job; event = Denied command refusal } ∷ back) → MayDeny (state_of prefix) command refusal
+denial_at prefix back job command refusal legal = (step_at prefix (record { job = job; event = Denied command refusal }) back legal).stands
 
 -- and leaves the state as it was
-pub denial_kept : (front : List Entry) (job : ℕ) (command : Command) (refusal : Refusal) → state_of (front ++ record { job = job; event = Denied command refusal } ∷ []) ≡ state_of front
-denial_kept front job command refusal = state_of-more front (record { job = job; event = Denied command refusal })
+pub denial_kept : (prefix : List Entry) (job : ℕ) (command : Command) (refusal : Refusal) → state_of (prefix ++ record { job = job; event = Denied command refusal } ∷ []) ≡ state_of prefix
+denial_kept prefix job command refusal = state_of-more prefix (record { job = job; event = Denied command refusal })

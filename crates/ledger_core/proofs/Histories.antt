@@ -6,8 +6,8 @@ use Rattle.cluster.specs.declared.entry.Event.{Event}
 use Rattle.cluster.specs.declared.entry.Event.TheVariants.{Applied, Deleted, Reserved, Refused, Wrote, Conflict, Unreserved, Bound, VerdictGiven, Contended, Released, Adopted, Denied}
 use Rattle.cluster.specs.declared.entry.JobState.{JobState}
 use Rattle.cluster.specs.declared.entry.JobState.TheVariants.{Fresh}
-use Rattle.cluster.specs.Events.{after, stand_after}
-use Rattle.cluster.specs.History.{next_stand, next_state, stand_of, state_of, told}
+use Rattle.cluster.specs.Events.{after, job_state_after}
+use Rattle.cluster.specs.History.{next_job_state, next_state, job_state_of, state_of, told}
 use Rattle.cluster.specs.JobState.{failures}
 use Rattle.ledger_core.specs.Legal.{Step, LegalAfter, Legal}
 
@@ -27,9 +27,9 @@ pub state_of-empty : state_of [] ≡ empty_state
 unfolding state_of told
 state_of-empty = refl
 
-pub stand_of-empty : (job : ℕ) → stand_of [] job ≡ Fresh
-unfolding stand_of told
-stand_of-empty job = refl
+pub job_state_of-empty : (job : ℕ) → job_state_of [] job ≡ Fresh
+unfolding job_state_of told
+job_state_of-empty job = refl
 
 -- the state after one entry more
 pub state_of-more : (es : List Entry) (e : Entry) → state_of (es ++ e ∷ []) ≡ after (length es + 1) e.job e.event (state_of es)
@@ -37,9 +37,9 @@ unfolding state_of
 state_of-more es e = told_whole next_state empty_state es e
 
 -- the state of a job after one entry more
-pub stand_of-more : (es : List Entry) (e : Entry) (job : ℕ) → stand_of (es ++ e ∷ []) job ≡ cond (eqb e.job job) (stand_after (stand_of es job) (length es + 1) e.event) (stand_of es job)
-unfolding stand_of
-stand_of-more es e job = told_whole (next_stand job) Fresh es e
+pub job_state_of-more : (es : List Entry) (e : Entry) (job : ℕ) → job_state_of (es ++ e ∷ []) job ≡ cond (eqb e.job job) (job_state_after (job_state_of es job) (length es + 1) e.event) (job_state_of es job)
+unfolding job_state_of
+job_state_of-more es e job = told_whole (next_job_state job) Fresh es e
 
 pub LegalAfter-more : (before es : List Entry) (e : Entry) → LegalAfter before es → Step (before ++ es) e → LegalAfter before (es ++ e ∷ [])
 unfolding LegalAfter
@@ -57,7 +57,7 @@ unfolding Legal
 Legal-more es e legal step = LegalAfter-more [] es e legal step
 
 -- one entry counts at most one failed attempt more
-one_more : (st : JobState) (place : ℕ) (e : Event) → failures (stand_after st place e) ≤ failures st + 1
+one_more : (st : JobState) (place : ℕ) (e : Event) → failures (job_state_after st place e) ≤ failures st + 1
 one_more st place (Applied object mode) = omega arith
 one_more st place (Deleted target) = omega arith
 one_more st place (Reserved pod plan) = omega arith
@@ -72,19 +72,19 @@ one_more st place (Released pod) = omega arith
 one_more st place (Adopted claim status) = omega arith
 one_more st place (Denied command refusal) = omega arith
 
-more_by : (st : JobState) (place : ℕ) (e : Event) (b : Bool) → failures (cond b (stand_after st place e) st) ≤ failures st + 1
+more_by : (st : JobState) (place : ℕ) (e : Event) (b : Bool) → failures (cond b (job_state_after st place e) st) ≤ failures st + 1
 more_by st place e true = one_more st place e
 more_by st place e false = omega arith
 
-failures_along : (job : ℕ) (st : JobState) (n : ℕ) (es : List Entry) → failures (told (next_stand job) st n es) ≤ failures st + length es
+failures_along : (job : ℕ) (st : JobState) (n : ℕ) (es : List Entry) → failures (told (next_job_state job) st n es) ≤ failures st + length es
 unfolding told
 failures_along job st n [] = omega arith
 failures_along job st n (e ∷ es) =
     let first = more_by st (n + 1) e.event (eqb e.job job) in
-    let rest = failures_along job (next_stand job st (n + 1) e) (n + 1) es in
+    let rest = failures_along job (next_job_state job st (n + 1) e) (n + 1) es in
     omega (arith, first, rest)
 
 -- a job has failed at most as often as there are entries
-pub failures_within : (h : List Entry) (job : ℕ) → failures (stand_of h job) ≤ length h
-unfolding stand_of
+pub failures_within : (h : List Entry) (job : ℕ) → failures (job_state_of h job) ≤ length h
+unfolding job_state_of
 failures_within h job = let along = failures_along job Fresh 0 h in omega (arith, along)

@@ -37,7 +37,7 @@ use Rattle.allocations.specs.Claims.{add_ungranted, add_wanted, wanted}
 use Rattle.alloc_rules.specs.Plans.{Holds}
 use Rattle.plan_check.specs.Failing.{granted_by}
 use Rattle.ledger_core.specs.Headline.{IsAdoptionOf}
-use Rattle.ledger_core.specs.Legal.{Legal, MayStand}
+use Rattle.ledger_core.specs.Legal.{Legal, MayFollow}
 use Rattle.ledger_core.proofs.Adopting.{StatusLaw, adoption_of}
 use Rattle.ledger_core.proofs.GoingOn.{Claims}
 use Rattle.ledger_core.proofs.Headlines.{at_places}
@@ -161,7 +161,7 @@ module _ (empty : HeldOnce empty_state)
     (bound : (pod : Key) (node : List ℕ) (s : State) → HeldOnce s → HeldOnce (with_bound pod node s))
     (grants : GrantsLaw) (status_law : StatusLaw) where
   -- an entry that may be appended keeps it
-  once_after : (before : List Entry) (place job : ℕ) (event : Event) → MayStand before job event → HeldOnce (state_of before) → HeldOnce (after place job event (state_of before))
+  once_after : (before : List Entry) (place job : ℕ) (event : Event) → MayFollow before job event → HeldOnce (state_of before) → HeldOnce (after place job event (state_of before))
   once_after before place job (Applied object mode) may h = created place object (state_of before) h
   once_after before place job (Deleted target) may h = deleted target (state_of before) h
   once_after before place job (Reserved pod plan) may h = reserved (state_of before) job pod plan may.holds_now h

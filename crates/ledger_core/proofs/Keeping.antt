@@ -7,24 +7,24 @@ use Rattle.cluster.specs.declared.entry.Entry.{Entry}
 use Rattle.cluster.specs.declared.entry.Event.TheVariants.{Contended}
 use Rattle.cluster.specs.declared.entry.JobState.{JobState}
 use Rattle.cluster.specs.declared.state.State.{State}
-use Rattle.cluster.specs.Events.{after, allows, stand_after}
+use Rattle.cluster.specs.Events.{after, allows, job_state_after}
 use Rattle.cluster.specs.Held.{HeldOnce, held}
 use Rattle.cluster.specs.History.{state_of}
 use Rattle.cluster.specs.JobState.{failures, has_failed}
 use Rattle.cluster.specs.State.{empty_state}
 use Rattle.ledger_core.specs.Legal.{Legal, Step}
-use Rattle.ledger_core.specs.Ledger.{IsKept, stand_in}
-use Rattle.ledger_core.proofs.Histories.{Legal-empty, Legal-more, failures_within, stand_of-empty, state_of-empty, state_of-more}
+use Rattle.ledger_core.specs.Ledger.{IsKept, job_state_in}
+use Rattle.ledger_core.proofs.Histories.{Legal-empty, Legal-more, failures_within, job_state_of-empty, state_of-empty, state_of-more}
 use Rattle.ledger_core.proofs.Standing.{stands_more}
 
 pub kept_empty : (limit : ℕ) (holders : Holders) → limit < 2 ^ 48 → AreHeld holders (held empty_state) → IsKept [] empty_state holders [] limit
 kept_empty limit holders small none =
-    record { legal = Legal-empty; state_is = sym state_of-empty; holders_are = none; stands_are = λ j. sym (stand_of-empty j); within = omega arith; small = small }
+    record { legal = Legal-empty; state_is = sym state_of-empty; holders_are = none; stands_are = λ j. sym (job_state_of-empty j); within = omega arith; small = small }
 
 -- it keeps it with one entry more
 pub kept_more : (es : List Entry) (e : Entry) (s s' : State) (hs hs' : Holders) (stands ready stands' : List (ℕ × JobState)) (limit : ℕ) → IsKept es s hs stands limit → Step es e → length es < limit
-    → s' ≡ after (length es + 1) e.job e.event s → AreHeld hs' (held s') → ((j : ℕ) → stand_in ready j ≡ stand_in stands j)
-    → ((j : ℕ) → stand_in stands' j ≡ cond (eqb e.job j) (stand_after (stand_in ready e.job) (length es + 1) e.event) (stand_in ready j)) → IsKept (es ++ e ∷ []) s' hs' stands' limit
+    → s' ≡ after (length es + 1) e.job e.event s → AreHeld hs' (held s') → ((j : ℕ) → job_state_in ready j ≡ job_state_in stands j)
+    → ((j : ℕ) → job_state_in stands' j ≡ cond (eqb e.job j) (job_state_after (job_state_in ready e.job) (length es + 1) e.event) (job_state_in ready j)) → IsKept (es ++ e ∷ []) s' hs' stands' limit
 kept_more es e s s' hs hs' stands ready stands' limit kept step room is holders same set = record {
   legal = Legal-more es e kept.legal step;
   state_is = is ∙ ap (λ (t : State). after (length es + 1) e.job e.event t) kept.state_is ∙ sym (state_of-more es e);
@@ -35,10 +35,10 @@ kept_more es e s s' hs hs' stands ready stands' limit kept step room is holders 
 }
 
 -- no job has failed as often as a number of 64 bits can't say
-pub few_tries : (es : List Entry) (s : State) (hs : Holders) (stands ready : List (ℕ × JobState)) (limit job : ℕ) → IsKept es s hs stands limit → ((j : ℕ) → stand_in ready j ≡ stand_in stands j)
-    → failures (stand_in ready job) < 2 ^ 48
+pub few_tries : (es : List Entry) (s : State) (hs : Holders) (stands ready : List (ℕ × JobState)) (limit job : ℕ) → IsKept es s hs stands limit → ((j : ℕ) → job_state_in ready j ≡ job_state_in stands j)
+    → failures (job_state_in ready job) < 2 ^ 48
 few_tries es s hs stands ready limit job kept same =
-    let is : failures (stand_in ready job) ≤ length es = subst (λ (st : JobState). failures st ≤ length es) (sym (same job ∙ kept.stands_are job)) (failures_within es job) in
+    let is : failures (job_state_in ready job) ≤ length es = subst (λ (st : JobState). failures st ≤ length es) (sym (same job ∙ kept.stands_are job)) (failures_within es job) in
     let within = kept.within in
     let small = kept.small in
     omega (arith, is, within, small)

@@ -34,7 +34,7 @@ use Rattle.cluster.specs.declared.entry.Event.{Event}
 use Rattle.cluster.specs.declared.entry.Event.TheVariants.{Applied, Deleted, Reserved, Refused, Wrote, Conflict, Unreserved, Bound, VerdictGiven, Contended, Released, Adopted, Denied}
 use Rattle.cluster.specs.Events.{after}
 use Rattle.cluster.specs.History.{state_of, state_at}
-use Rattle.ledger_core.specs.Legal.{Legal, MayStand}
+use Rattle.ledger_core.specs.Legal.{Legal, MayFollow}
 use Rattle.ledger_core.specs.Limits.{ObjectsKept}
 use Rattle.ledger_core.proofs.Always.{always_state}
 use Rattle.ledger_core.proofs.Headlines.{at_places}
@@ -149,7 +149,7 @@ unused_again place pod s h =
     record { nodes = h.nodes; slices = h.slices; classes = h.classes; claims = freed_kept place pod (claims_by (at_key s.pods pod)) s.claims h.claims; pods = changed PodFits pod _ s.pods h.pods (λ p k. k) }
 
 -- an entry that may be appended keeps them
-kept_after : (before : List Entry) (place job : ℕ) (event : Event) → MayStand before job event → ObjectsKept (state_of before) → ObjectsKept (after place job event (state_of before))
+kept_after : (before : List Entry) (place job : ℕ) (event : Event) → MayFollow before job event → ObjectsKept (state_of before) → ObjectsKept (after place job event (state_of before))
 kept_after before place job (Applied x mode) may h = created place x (state_of before) may.valid.limits h
 kept_after before place job (Deleted t) may h = deleted t (state_of before) h
 kept_after before place job (Reserved pod plan) may h =

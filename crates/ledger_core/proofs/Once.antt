@@ -50,9 +50,9 @@ looked_with id k (d ∷ ds) = ap (λ o. cond (device_eq d id) (Some k) o) (looke
 
 -- ---- where one device is
 
-none_front : (a b : Option Key) → first a b ≡ None → a ≡ None
-none_front None b e = refl
-none_front (Some k) b e = absurd (cc)
+none_prefix : (a b : Option Key) → first a b ≡ None → a ≡ None
+none_prefix None b e = refl
+none_prefix (Some k) b e = absurd (cc)
 
 none_back : (a b : Option Key) → first a b ≡ None → b ≡ None
 none_back None b e = e
@@ -62,8 +62,8 @@ none_join : (a b : Option Key) → a ≡ None → b ≡ None → first a b ≡ N
 none_join a b e f = ap (λ o. first o b) e ∙ f
 
 -- what isn't among xs and ys isn't among xs, nor among ys
-pub absent_front : (id : DeviceId) (xs ys : Pairs) → looked id (xs ++ ys) ≡ None → looked id xs ≡ None
-absent_front id xs ys e = none_front (looked id xs) (looked id ys) (sym (looked_append id xs ys) ∙ e)
+pub absent_prefix : (id : DeviceId) (xs ys : Pairs) → looked id (xs ++ ys) ≡ None → looked id xs ≡ None
+absent_prefix id xs ys e = none_prefix (looked id xs) (looked id ys) (sym (looked_append id xs ys) ∙ e)
 
 pub absent_back : (id : DeviceId) (xs ys : Pairs) → looked id (xs ++ ys) ≡ None → looked id ys ≡ None
 absent_back id xs ys e = none_back (looked id xs) (looked id ys) (sym (looked_append id xs ys) ∙ e)
@@ -75,17 +75,17 @@ pub once_rest : (xs ys : Pairs) → Once (xs ++ ys) → Once ys
 once_rest [] ys o = o
 once_rest (p ∷ xs) ys o = once_rest xs ys o.1
 
-front_by : (id : DeviceId) (p : DeviceId × Key) (xs ys : Pairs) (k : Key) (b : Bool) → device_eq p.0 id ≡ b → looked p.0 (xs ++ ys) ≡ None → looked id ys ≡ Some k → looked id xs ≡ None
+prefix_by : (id : DeviceId) (p : DeviceId × Key) (xs ys : Pairs) (k : Key) (b : Bool) → device_eq p.0 id ≡ b → looked p.0 (xs ++ ys) ≡ None → looked id ys ≡ Some k → looked id xs ≡ None
     → looked id (p ∷ xs) ≡ None
-front_by id p xs ys k true same none is later =
+prefix_by id p xs ys k true same none is later =
     let e : looked id ys ≡ None = absent_back id xs ys (ap (λ (d : DeviceId). looked d (xs ++ ys)) (sym (device_same p.0 id same)) ∙ none) in
     absurd (cc)
-front_by id p xs ys k false same none is later = ap (λ b. cond b (Some p.1) (looked id xs)) same ∙ later
+prefix_by id p xs ys k false same none is later = ap (λ b. cond b (Some p.1) (looked id xs)) same ∙ later
 
 -- a device that is in the second list isn't in the first
-pub once_front : (id : DeviceId) (xs ys : Pairs) (k : Key) → Once (xs ++ ys) → looked id ys ≡ Some k → looked id xs ≡ None
-once_front id [] ys k o is = refl
-once_front id (p ∷ xs) ys k o is = front_by id p xs ys k (device_eq p.0 id) refl o.0 is (once_front id xs ys k o.1 is)
+pub once_prefix : (id : DeviceId) (xs ys : Pairs) (k : Key) → Once (xs ++ ys) → looked id ys ≡ Some k → looked id xs ≡ None
+once_prefix id [] ys k o is = refl
+once_prefix id (p ∷ xs) ys k o is = prefix_by id p xs ys k (device_eq p.0 id) refl o.0 is (once_prefix id xs ys k o.1 is)
 
 back_by : (id : DeviceId) (p : DeviceId × Key) (xs ys : Pairs) (k : Key) (b : Bool) → device_eq p.0 id ≡ b → looked p.0 (xs ++ ys) ≡ None → cond b (Some p.1) (looked id xs) ≡ Some k
     → (looked id xs ≡ Some k → looked id ys ≡ None) → looked id ys ≡ None
@@ -101,7 +101,7 @@ once_back id (p ∷ xs) ys k o is = back_by id p xs ys k (device_eq p.0 id) refl
 pub once_without : (xs ms ys : Pairs) → Once (xs ++ (ms ++ ys)) → Once (xs ++ ys)
 once_without [] ms ys o = once_rest ms ys o
 once_without (p ∷ xs) ms ys o = (
-  absent_join p.0 xs ys (absent_front p.0 xs (ms ++ ys) o.0) (absent_back p.0 ms ys (absent_back p.0 xs (ms ++ ys) o.0)),
+  absent_join p.0 xs ys (absent_prefix p.0 xs (ms ++ ys) o.0) (absent_back p.0 ms ys (absent_back p.0 xs (ms ++ ys) o.0)),
   once_without xs ms ys o.1,
 )
 
@@ -114,7 +114,7 @@ in_by : (id : DeviceId) (xs : Pairs) (k : Key) (ds : List DeviceId) (ys : Pairs)
     → looked id (among_others xs k ds ys) ≡ cond b (Some k) (looked id (xs ++ ys))
 in_by id xs k ds ys true is o =
     let mid : looked id (with_key k ds ++ ys) ≡ Some k = looked_append id (with_key k ds) ys ∙ ap (λ a. first a (looked id ys)) (looked_with id k ds ∙ ap (λ b. cond b (Some k) None) is) in
-    looked_append id xs (with_key k ds ++ ys) ∙ ap (λ a. first a (looked id (with_key k ds ++ ys))) (once_front id xs (with_key k ds ++ ys) k o mid) ∙ mid
+    looked_append id xs (with_key k ds ++ ys) ∙ ap (λ a. first a (looked id (with_key k ds ++ ys))) (once_prefix id xs (with_key k ds ++ ys) k o mid) ∙ mid
 in_by id xs k ds ys false is o =
     let mid : looked id (with_key k ds ++ ys) ≡ looked id ys = looked_append id (with_key k ds) ys ∙ ap (λ a. first a (looked id ys)) (looked_with id k ds ∙ ap (λ b. cond b (Some k) None) is) in
     looked_append id xs (with_key k ds ++ ys) ∙ ap (λ o. first (looked id xs) o) mid ∙ sym (looked_append id xs ys)
@@ -129,7 +129,7 @@ out_by : (id : DeviceId) (xs : Pairs) (k : Key) (ds : List DeviceId) (ys : Pairs
 out_by id xs k ds ys true is o =
     let mine : looked id (with_key k ds) ≡ Some k = looked_with id k ds ∙ ap (λ b. cond b (Some k) None) is in
     let mid : looked id (with_key k ds ++ ys) ≡ Some k = looked_append id (with_key k ds) ys ∙ ap (λ a. first a (looked id ys)) mine in
-    absent_join id xs ys (once_front id xs (with_key k ds ++ ys) k o mid) (once_back id (with_key k ds) ys k (once_rest xs (with_key k ds ++ ys) o) mine)
+    absent_join id xs ys (once_prefix id xs (with_key k ds ++ ys) k o mid) (once_back id (with_key k ds) ys k (once_rest xs (with_key k ds ++ ys) o) mine)
 out_by id xs k ds ys false is o = sym (looked_in id xs k ds ys o ∙ ap (λ b. cond b (Some k) (looked id (xs ++ ys))) is)
 
 -- without them nobody has them

@@ -31,11 +31,11 @@ some_claim c d h = cc
 
 -- the devices of the claim at a key, between those of the claims before it and behind it
 pub record Split (es : Claims) (k : Key) (v : ClaimState) : Type 0 where
-  pub front : Pairs
+  pub prefix : Pairs
   pub back : Pairs
-  pub whole : pairs_in es ≡ front ++ (with_key k (held_by v.grant) ++ back)
-  pub set : (w : ClaimState) → pairs_in (set_value (is_at (key_cmp k)) es w) ≡ front ++ (with_key k (held_by w.grant) ++ back)
-  pub gone : pairs_in (remove_entry (is_at (key_cmp k)) es) ≡ front ++ back
+  pub whole : pairs_in es ≡ prefix ++ (with_key k (held_by v.grant) ++ back)
+  pub set : (w : ClaimState) → pairs_in (set_value (is_at (key_cmp k)) es w) ≡ prefix ++ (with_key k (held_by w.grant) ++ back)
+  pub gone : pairs_in (remove_entry (is_at (key_cmp k)) es) ≡ prefix ++ back
 
 split_by : (e : Key × ClaimState) (es : Claims) (k : Key) (v : ClaimState) (b : Bool) → is_eq (key_cmp k e.0) ≡ b → cond b (Some e.1) (at_key es k) ≡ Some v → (at_key es k ≡ Some v → Split es k v)
     → Split (e ∷ es) k v
@@ -43,7 +43,7 @@ split_by e es k v true same is later =
     let key : k ≡ e.0 = key_found k e.0 same in
     let value : e.1 ≡ v = some_claim e.1 v is in
     record {
-      front = [];
+      prefix = [];
       back = pairs_in es;
       whole = ap (λ (x : Key). with_key x (held_by e.1.grant) ++ pairs_in es) (sym key) ∙ ap (λ (x : ClaimState). with_key k (held_by x.grant) ++ pairs_in es) value;
       set = λ w. ap (λ b. pairs_in (cond b ((e.0, w) ∷ es) (e ∷ set_value (is_at (key_cmp k)) es w))) same ∙ ap (λ (x : Key). with_key x (held_by w.grant) ++ pairs_in es) (sym key);
@@ -53,14 +53,14 @@ split_by e es k v false same is later =
     let s = later is in
     let mine = with_key e.0 (held_by e.1.grant) in
     record {
-      front = mine ++ s.front;
+      prefix = mine ++ s.prefix;
       back = s.back;
-      whole = ap (λ ps. mine ++ ps) s.whole ∙ sym (append_assoc mine s.front (with_key k (held_by v.grant) ++ s.back));
+      whole = ap (λ ps. mine ++ ps) s.whole ∙ sym (append_assoc mine s.prefix (with_key k (held_by v.grant) ++ s.back));
       set = λ w.
           ap (λ b. pairs_in (cond b ((e.0, w) ∷ es) (e ∷ set_value (is_at (key_cmp k)) es w))) same
           ∙ ap (λ ps. mine ++ ps) (s.set w)
-          ∙ sym (append_assoc mine s.front (with_key k (held_by w.grant) ++ s.back));
-      gone = ap (λ b. pairs_in (cond b es (e ∷ remove_entry (is_at (key_cmp k)) es))) same ∙ ap (λ ps. mine ++ ps) s.gone ∙ sym (append_assoc mine s.front s.back);
+          ∙ sym (append_assoc mine s.prefix (with_key k (held_by w.grant) ++ s.back));
+      gone = ap (λ b. pairs_in (cond b es (e ∷ remove_entry (is_at (key_cmp k)) es))) same ∙ ap (λ ps. mine ++ ps) s.gone ∙ sym (append_assoc mine s.prefix s.back);
     }
 
 pub split : (es : Claims) (k : Key) (v : ClaimState) → at_key es k ≡ Some v → Split es k v
@@ -73,7 +73,7 @@ split (e ∷ es) k v is = split_by e es k v (is_eq (key_cmp k e.0)) refl is (λ 
 pub set_same : (es : Claims) (k : Key) (v w : ClaimState) → at_key es k ≡ Some v → held_by w.grant ≡ held_by v.grant → pairs_in (set_value (is_at (key_cmp k)) es w) ≡ pairs_in es
 set_same es k v w is same =
     let s = split es k v is in
-    s.set w ∙ ap (λ ds. s.front ++ (with_key k ds ++ s.back)) same ∙ sym s.whole
+    s.set w ∙ ap (λ ds. s.prefix ++ (with_key k ds ++ s.back)) same ∙ sym s.whole
 
 changed_by : (es : Claims) (k : Key) (f : ClaimState → ClaimState) (o : Option ClaimState) → at_key es k ≡ o → ((c : ClaimState) → held_by (f c).grant ≡ held_by c.grant)
     → pairs_in (changed_at k f es) ≡ pairs_in es

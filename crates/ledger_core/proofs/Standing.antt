@@ -9,23 +9,23 @@ use Rattle.std.proofs.lemmas.Bool.{eqb-true}
 use Rattle.cluster.specs.declared.entry.Entry.{Entry}
 use Rattle.cluster.specs.declared.entry.JobState.{JobState}
 use Rattle.cluster.specs.declared.entry.JobState.TheVariants.{Fresh}
-use Rattle.cluster.specs.Events.{stand_after}
-use Rattle.cluster.specs.History.{stand_of}
-use Rattle.ledger_core.specs.Ledger.{at, stand_in}
+use Rattle.cluster.specs.Events.{job_state_after}
+use Rattle.cluster.specs.History.{job_state_of}
+use Rattle.ledger_core.specs.Ledger.{at, job_state_in}
 use Rattle.ledger_core.proofs.Rows.{at_insert, at_set}
-use Rattle.ledger_core.proofs.Histories.{stand_of-more}
+use Rattle.ledger_core.proofs.Histories.{job_state_of-more}
 
 fresh_by : (b : Bool) (o : Option JobState) → (b ≡ true → is_some o ≡ false) → unwrap_or (cond b (Some Fresh) o) Fresh ≡ unwrap_or o Fresh
 fresh_by true None never = refl
 fresh_by true (Some s) never = absurd (let e = never refl in cc)
 fresh_by false o never = refl
 
-made_same : (t : List (ℕ × JobState)) (job j : ℕ) → is_some (at t job) ≡ false → stand_in (insert_entry nat_cmp t job Fresh) j ≡ stand_in t j
+made_same : (t : List (ℕ × JobState)) (job j : ℕ) → is_some (at t job) ≡ false → job_state_in (insert_entry nat_cmp t job Fresh) j ≡ job_state_in t j
 made_same t job j none = ap (λ o. unwrap_or o Fresh) (at_insert t job Fresh j) ∙ fresh_by (eqb job j) (at t j) (λ e. ap (λ (n : ℕ). is_some (at t n)) (sym (eqb-true job j e)) ∙ none)
 
-pub row_same : {E : Type 0} (t t' : List (ℕ × JobState)) (job : ℕ) (r : Result (Unit {0}) E) → is_some (at t job) ≡ false → OnOk r (t' ≡ insert_entry nat_cmp t job Fresh) → OnErr r (t' ≡ t) → (j : ℕ) → stand_in t' j ≡ stand_in t j
-row_same t t' job (Ok x) none ok err j = ap (λ u. stand_in u j) ok ∙ made_same t job j none
-row_same t t' job (Err e) none ok err j = ap (λ u. stand_in u j) err
+pub row_same : {E : Type 0} (t t' : List (ℕ × JobState)) (job : ℕ) (r : Result (Unit {0}) E) → is_some (at t job) ≡ false → OnOk r (t' ≡ insert_entry nat_cmp t job Fresh) → OnErr r (t' ≡ t) → (j : ℕ) → job_state_in t' j ≡ job_state_in t j
+row_same t t' job (Ok x) none ok err j = ap (λ u. job_state_in u j) ok ∙ made_same t job j none
+row_same t t' job (Err e) none ok err j = ap (λ u. job_state_in u j) err
 
 row_made : (t : List (ℕ × JobState)) (job : ℕ) (w : JobState) → is_some (at (insert_entry nat_cmp t job w) job) ≡ true
 row_made t job w = ap is_some (at_insert t job w job ∙ ap (λ (b : Bool). cond b (Some w) (at t job)) (eq-eqb job job refl))
@@ -38,7 +38,7 @@ set_pick : (b : Bool) (w : JobState) (o : Option JobState) → unwrap_or (cond b
 set_pick true w o = refl
 set_pick false w o = refl
 
-pub row_set : (t : List (ℕ × JobState)) (job : ℕ) (v w : JobState) (j : ℕ) → at t job ≡ Some v → stand_in (set_value (is_at (nat_cmp job)) t w) j ≡ cond (eqb job j) w (stand_in t j)
+pub row_set : (t : List (ℕ × JobState)) (job : ℕ) (v w : JobState) (j : ℕ) → at t job ≡ Some v → job_state_in (set_value (is_at (nat_cmp job)) t w) j ≡ cond (eqb job j) w (job_state_in t j)
 row_set t job v w j is = ap (λ o. unwrap_or o Fresh) (at_set t job v w j is) ∙ set_pick (eqb job j) w (at t j)
 
 pick_same : (b : Bool) (w w' x x' : JobState) → (b ≡ true → w ≡ w') → x ≡ x' → cond b w x ≡ cond b w' x'
@@ -46,12 +46,12 @@ pick_same true w w' x x' e f = e refl
 pick_same false w w' x x' e f = f
 
 -- the jobs' states after a history, with one entry more
-pub stands_more : (es : List Entry) (stands stands' : List (ℕ × JobState)) (e : Entry) → ((j : ℕ) → stand_in stands j ≡ stand_of es j)
-    → ((j : ℕ) → stand_in stands' j ≡ cond (eqb e.job j) (stand_after (stand_in stands e.job) (length es + 1) e.event) (stand_in stands j))
-    → (j : ℕ) → stand_in stands' j ≡ stand_of (es ++ e ∷ []) j
+pub stands_more : (es : List Entry) (stands stands' : List (ℕ × JobState)) (e : Entry) → ((j : ℕ) → job_state_in stands j ≡ job_state_of es j)
+    → ((j : ℕ) → job_state_in stands' j ≡ cond (eqb e.job j) (job_state_after (job_state_in stands e.job) (length es + 1) e.event) (job_state_in stands j))
+    → (j : ℕ) → job_state_in stands' j ≡ job_state_of (es ++ e ∷ []) j
 stands_more es stands stands' e are set j =
     set j
-    ∙ pick_same (eqb e.job j) (stand_after (stand_in stands e.job) (length es + 1) e.event) (stand_after (stand_of es j) (length es + 1) e.event) (stand_in stands j) (stand_of es j)
-    (λ t. ap (λ (s : JobState). stand_after s (length es + 1) e.event) (are e.job) ∙ ap (λ (i : ℕ). stand_after (stand_of es i) (length es + 1) e.event) (eqb-true e.job j t))
+    ∙ pick_same (eqb e.job j) (job_state_after (job_state_in stands e.job) (length es + 1) e.event) (job_state_after (job_state_of es j) (length es + 1) e.event) (job_state_in stands j) (job_state_of es j)
+    (λ t. ap (λ (s : JobState). job_state_after s (length es + 1) e.event) (are e.job) ∙ ap (λ (i : ℕ). job_state_after (job_state_of es i) (length es + 1) e.event) (eqb-true e.job j t))
     (are j)
-    ∙ sym (stand_of-more es e j)
+    ∙ sym (job_state_of-more es e j)

@@ -26,17 +26,17 @@ use Rattle.cluster.specs.declared.state.State.{State}
 use Rattle.cluster.specs.Applied.{new_pod, updated_pod, with_object}
 use Rattle.cluster.specs.Deleted.{without_object}
 use Rattle.cluster.specs.Denied.{first_refusal, is_busy, release_refusal, unbound_refusal}
-use Rattle.cluster.specs.Events.{after, stand_after}
-use Rattle.cluster.specs.History.{stand_of, state_of}
+use Rattle.cluster.specs.Events.{after, job_state_after}
+use Rattle.cluster.specs.History.{job_state_of, state_of}
 use Rattle.cluster.specs.State.{is_idle}
 use Rattle.cluster.specs.Tables.{changed_at, put_at, with_phase}
-use Rattle.ledger_core.specs.Legal.{Step, Legal, MayStand}
+use Rattle.ledger_core.specs.Legal.{Step, Legal, MayFollow}
 use Rattle.ledger_core.specs.Owners.{has_pod, pod_in}
 use Rattle.ledger_core.specs.Wrote.{IsTaken}
 use Rattle.ledger_core.proofs.Claiming.{Pods}
 use Rattle.ledger_core.proofs.GoingOn.{changed_other, changed_there, same_or_not}
 use Rattle.ledger_core.proofs.Always.{always}
-use Rattle.ledger_core.proofs.Histories.{stand_of-empty, stand_of-more, state_of-more}
+use Rattle.ledger_core.proofs.Histories.{job_state_of-empty, job_state_of-more, state_of-more}
 use Rattle.ledger_core.proofs.Keyed.{insert_other, remove_other, some_same}
 use Rattle.ledger_core.proofs.Using.{idle_of}
 
@@ -112,7 +112,7 @@ bound_never : (s : State) (pod : Key) (job : ℕ) → release_refusal (at_key s.
 bound_never s pod job free p node at taken = bound_by p.phase job node (sym (ap release_refusal at) ∙ free) taken
 
 -- it leaves a pod that this job has taken
-stays : (before : List Entry) (place j : ℕ) (event : Event) → MayStand before j event → (pod : Key) (job : ℕ) → eqb j job ≡ false → TakenBy (state_of before).pods pod job
+stays : (before : List Entry) (place j : ℕ) (event : Event) → MayFollow before j event → (pod : Key) (job : ℕ) → eqb j job ≡ false → TakenBy (state_of before).pods pod job
     → TakenBy (after place j event (state_of before)).pods pod job
 stays before place j (Applied x m) may pod job differs t = applied_stays place x (state_of before) pod job t
 stays before place j (Deleted x) may pod job differs t = deleted_stays x (state_of before) pod job may.unrefused t
@@ -135,7 +135,7 @@ stays before place j (Denied command refused) may pod job differs t = t
 -- ---- what the job itself does
 
 -- its entry, after which it has a pod, says that the pod is taken
-own : (before : List Entry) (place j : ℕ) (event : Event) (st : JobState) → MayStand before j event → (pod : Key) → ((other : Key) → pod_in event ≡ Some other → other ≡ pod) → has_pod (stand_after st place event) ≡ true
+own : (before : List Entry) (place j : ℕ) (event : Event) (st : JobState) → MayFollow before j event → (pod : Key) → ((other : Key) → pod_in event ≡ Some other → other ≡ pod) → has_pod (job_state_after st place event) ≡ true
     → TakenBy (after place j event (state_of before)).pods pod j
 own before place j (Applied x m) st may pod about has = absurd (cc)
 own before place j (Deleted x) st may pod about has = absurd (cc)
@@ -163,27 +163,27 @@ abbrev AllOf : ℕ → Key → List Entry → Type 0
 AllOf job pod h = (e : Entry) (other : Key) → Contains h e → e.job ≡ job → pod_in e.event ≡ Some other → other ≡ pod
 
 abbrev Keeps : ℕ → Key → List Entry → Type 0
-Keeps job pod h = AllOf job pod h → has_pod (stand_of h job) ≡ true → TakenBy (state_of h).pods pod job
+Keeps job pod h = AllOf job pod h → has_pod (job_state_of h job) ≡ true → TakenBy (state_of h).pods pod job
 
 keeps_by : (b : Bool) (job : ℕ) (pod : Key) (h : List Entry) (e : Entry) → eqb e.job job ≡ b → Keeps job pod h → Step h e → AllOf job pod (h ++ e ∷ [])
-    → has_pod (cond b (stand_after (stand_of h job) (length h + 1) e.event) (stand_of h job)) ≡ true → TakenBy (after (length h + 1) e.job e.event (state_of h)).pods pod job
+    → has_pod (cond b (job_state_after (job_state_of h job) (length h + 1) e.event) (job_state_of h job)) ≡ true → TakenBy (after (length h + 1) e.job e.event (state_of h)).pods pod job
 keeps_by true job pod h e is before step about has =
     let mine : e.job ≡ job = eqb-true e.job job is in
     let last : Contains (h ++ e ∷ []) e = Contains-append_right h (e ∷ []) e (0, omega arith, refl) in
     subst (λ (n : ℕ). TakenBy (after (length h + 1) e.job e.event (state_of h)).pods pod n) mine
-    (own h (length h + 1) e.job e.event (stand_of h job) step.stands pod (λ other of. about e other last mine of) has)
+    (own h (length h + 1) e.job e.event (job_state_of h job) step.stands pod (λ other of. about e other last mine of) has)
 keeps_by false job pod h e is before step about has =
     stays h (length h + 1) e.job e.event step.stands pod job is (before (λ d other among mine of. about d other (Contains-append_left h (e ∷ []) d among) mine of) has)
 
 keeps_more : (job : ℕ) (pod : Key) (h : List Entry) (e : Entry) → Keeps job pod h → Step h e → Keeps job pod (h ++ e ∷ [])
 keeps_more job pod h e before step = λ about has.
     subst (λ (s : State). TakenBy s.pods pod job) (sym (state_of-more h e))
-    (keeps_by (eqb e.job job) job pod h e refl before step about (ap has_pod (sym (stand_of-more h e job)) ∙ has))
+    (keeps_by (eqb e.job job) job pod h e refl before step about (ap has_pod (sym (job_state_of-more h e job)) ∙ has))
 
 keeps_first : (job : ℕ) (pod : Key) → Keeps job pod []
-keeps_first job pod = λ about has. absurd (let no : false ≡ true = sym (ap has_pod (stand_of-empty job)) ∙ has in cc)
+keeps_first job pod = λ about has. absurd (let no : false ≡ true = sym (ap has_pod (job_state_of-empty job)) ∙ has in cc)
 
-pub stay_taken : (h : List Entry) (job : ℕ) (pod : Key) → Legal h → AllOf job pod h → has_pod (stand_of h job) ≡ true → (state : PodState) × ((node : List ℕ) × IsTaken (state_of h) pod job node state)
+pub stay_taken : (h : List Entry) (job : ℕ) (pod : Key) → Legal h → AllOf job pod h → has_pod (job_state_of h job) ≡ true → (state : PodState) × ((node : List ℕ) × IsTaken (state_of h) pod job node state)
 stay_taken h job pod legal about has =
     let t = always (Keeps job pod) (keeps_first job pod) (λ g e l before step. keeps_more job pod g e before step) h legal about has in
     (t.0, (t.1, record { there = t.2; taken = t.3 }))

@@ -24,10 +24,10 @@ use Rattle.cluster.specs.Events.{after}
 use Rattle.cluster.specs.History.{state_at, state_of}
 use Rattle.cluster.specs.State.{claims_of}
 use Rattle.cluster.specs.Tables.{with_phase}
-use Rattle.ledger_core.specs.Legal.{Step, Legal, MayStand}
+use Rattle.ledger_core.specs.Legal.{Step, Legal, MayFollow}
 use Rattle.ledger_core.proofs.Applying.{pod_unchanged}
 use Rattle.ledger_core.proofs.Claiming.{Fit, Pods, SameClaims, fit_now, keys_same}
-use Rattle.ledger_core.proofs.Headlines.{always_from, front_legal}
+use Rattle.ledger_core.proofs.Headlines.{always_from, prefix_legal}
 use Rattle.ledger_core.proofs.Always.{always}
 use Rattle.ledger_core.proofs.Histories.{state_of-empty, state_of-more}
 use Rattle.ledger_core.proofs.Keyed.{AllAt, all_changed, all_put, removed_case}
@@ -70,7 +70,7 @@ deleted_follows place (target.Class name) s fit = same_follows place s.pods
 deleted_follows place (target.Claim key) s fit = same_follows place s.pods
 deleted_follows place (target.Pod key) s fit = λ k q at. inr (q, (removed_case key k s.pods q fit.0 at).1, refl, refl)
 
-follows : SameClaims → (before : List Entry) (place job : ℕ) (event : Event) → MayStand before job event → Fit (state_of before) → Follows place (state_of before).pods (after place job event (state_of before)).pods
+follows : SameClaims → (before : List Entry) (place job : ℕ) (event : Event) → MayFollow before job event → Fit (state_of before) → Follows place (state_of before).pods (after place job event (state_of before)).pods
 follows law before place job (Applied x m) may fit = applied_follows law place x m (state_of before) may.unrefused fit
 follows law before place job (Deleted t) may fit = deleted_follows place t (state_of before) fit
 follows law before place job (Reserved pod plan) may fit = phase_follows place pod (phase.Taken job plan.node) (state_of before).pods
@@ -139,12 +139,12 @@ since_first key p h there = (
 )
 
 -- a pod at an earlier index, and one of its uid later
-later_claims : SameClaims → (front back : List Entry) (key : Key) (p q : PodState) → Legal (front ++ back) → at_key (state_of front).pods key ≡ Some p → at_key (state_of (front ++ back)).pods key ≡ Some q → p.pod.uid ≡ q.pod.uid
+later_claims : SameClaims → (prefix back : List Entry) (key : Key) (p q : PodState) → Legal (prefix ++ back) → at_key (state_of prefix).pods key ≡ Some p → at_key (state_of (prefix ++ back)).pods key ≡ Some q → p.pod.uid ≡ q.pod.uid
     → claims_of p ≡ claims_of q
-later_claims law front back key p q legal there at uid =
-    let n : ℕ = length front in
-    let since = always_from (Since n key p) (λ g e l s step. since_more law n key p g e l s step) front back legal (since_first key p front there) in
-    let small : p.pod.uid ≤ n = within_now law front (front_legal front back legal) key p there in
+later_claims law prefix back key p q legal there at uid =
+    let n : ℕ = length prefix in
+    let since = always_from (Since n key p) (λ g e l s step. since_more law n key p g e l s step) prefix back legal (since_first key p prefix there) in
+    let small : p.pod.uid ≤ n = within_now law prefix (prefix_legal prefix back legal) key p there in
     ⊎_elim (λ (newer : n < q.pod.uid). absurd (omega (arith, newer, small, uid))) (λ (same : (q.pod.uid ≡ p.pod.uid) × (claims_of q ≡ claims_of p)). sym same.1) (since.1 q at)
 
 ordered : SameClaims → (h : List Entry) (first second : ℕ) (key : Key) (p q : PodState) → first ≤ second → Legal h → at_key (state_at h first).pods key ≡ Some p → at_key (state_at h second).pods key ≡ Some q → p.pod.uid ≡ q.pod.uid
@@ -152,9 +152,9 @@ ordered : SameClaims → (h : List Entry) (first second : ℕ) (key : Key) (p q 
 ordered law h first second key p q le legal there at uid =
     let longer : List Entry = take second h in
     let back : List Entry = drop first longer in
-    let front_is : take first longer ≡ take first h = take-take first second h le in
-    let whole : take first h ++ back ≡ longer = ap (λ xs. xs ++ back) (sym front_is) ∙ take-append-drop first longer in
-    let longer_legal : Legal longer = front_legal longer (drop second h) (subst (λ (xs : List Entry). Legal xs) (sym (take-append-drop second h)) legal) in
+    let prefix_is : take first longer ≡ take first h = take-take first second h le in
+    let whole : take first h ++ back ≡ longer = ap (λ xs. xs ++ back) (sym prefix_is) ∙ take-append-drop first longer in
+    let longer_legal : Legal longer = prefix_legal longer (drop second h) (subst (λ (xs : List Entry). Legal xs) (sym (take-append-drop second h)) legal) in
     later_claims law (take first h) back key p q (subst (λ (xs : List Entry). Legal xs) (sym whole) longer_legal) there (subst (λ (xs : List Entry). at_key (state_of xs).pods key ≡ Some q) (sym whole) at) uid
 
 total : (a b : ℕ) → (a ≤ b) ⊎ (b ≤ a)

@@ -44,7 +44,7 @@ use Rattle.cluster.specs.Tables.{changed_at, put_at, with_phase}
 use Rattle.cluster.specs.Wrote.{with_written, written_by}
 use Rattle.allocations.specs.Claims.{add_ungranted, add_wanted, has_grant, joined, wanted, wanted_of}
 use Rattle.alloc_rules.specs.Plans.{Holds}
-use Rattle.ledger_core.specs.Legal.{Legal, MayStand}
+use Rattle.ledger_core.specs.Legal.{Legal, MayFollow}
 use Rattle.ledger_core.specs.Users.{HasBusyUsers, UsersAreBusy}
 use Rattle.ledger_core.proofs.Applying.{pod_unchanged}
 use Rattle.ledger_core.proofs.Claiming.{Fit, Pods, SameClaims, fit_now, keys_same, later_none}
@@ -301,7 +301,7 @@ unused_again place pod s h =
 
 -- ---- histories
 
-fits_after : SameClaims → (before : List Entry) (place job : ℕ) (event : Event) → MayStand before job event → Fit (state_of before) → UsersFit (state_of before).pods (state_of before).claims
+fits_after : SameClaims → (before : List Entry) (place job : ℕ) (event : Event) → MayFollow before job event → Fit (state_of before) → UsersFit (state_of before).pods (state_of before).claims
     → UsersFit (after place job event (state_of before)).pods (after place job event (state_of before)).claims
 fits_after law before place job (Applied x m) may fit h = applied law place x m (state_of before) may.unrefused fit h
 fits_after law before place job (Deleted t) may fit h = deleted t (state_of before) may.unrefused h

@@ -12,7 +12,7 @@ use Rattle.cluster.specs.declared.state.State.{State}
 use Rattle.cluster.specs.declared.entry.Entry.{Entry}
 use Rattle.cluster.specs.declared.entry.Event.{Event}
 use Rattle.ledger_core.specs.Legal.{Legal}
-use Rattle.cluster.specs.History.{stand_of, state_of}
+use Rattle.cluster.specs.History.{job_state_of, state_of}
 
 -- its entries, and how many it may have
 pub record History : Type 0 where
@@ -28,14 +28,14 @@ abbrev pub at : {V : Type 0} → List (ℕ × V) → ℕ → Option V
 at table n = lookup (is_at (nat_cmp n)) table
 
 -- the row of a job in the table of the jobs' states; a job without one is Fresh
-abbrev pub stand_in : List (ℕ × JobState) → ℕ → JobState
-stand_in stands job = unwrap_or (at stands job) Fresh
+abbrev pub job_state_in : List (ℕ × JobState) → ℕ → JobState
+job_state_in stands job = unwrap_or (at stands job) Fresh
 
 -- the entries are a legal history, and the state, its holders and each job's state are those after them
 pub record IsKept (entries : List Entry) (state : State) (holders : Holders) (stands : List (ℕ × JobState)) (limit : ℕ) : Type 0 where
   pub legal : Legal entries
   pub state_is : state ≡ state_of entries
   pub holders_are : AreHeld holders (held state)
-  pub stands_are : (job : ℕ) → stand_in stands job ≡ stand_of entries job
+  pub stands_are : (job : ℕ) → job_state_in stands job ≡ job_state_of entries job
   pub within : length entries ≤ limit
   pub small : limit < 2 ^ 48

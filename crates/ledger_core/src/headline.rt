@@ -14,7 +14,7 @@ ghost use Rattle.ledger_core.specs.Owners.{has_pod, pod_in};
 ghost use Rattle.ledger_core.specs.Wrote.{IsTaken};
 ghost use Rattle.cluster.specs.declared.entry.Entry.{Entry};
 ghost use Rattle.cluster.specs.declared.entry.Event.{Event};
-ghost use Rattle.cluster.specs.History.{stand_of, state_at, state_of};
+ghost use Rattle.cluster.specs.History.{job_state_of, state_at, state_of};
 ghost use Rattle.ledger_core.specs.Legal.{Legal, Step};
 ghost use Rattle.ledger_core.specs.Denied.{MayDeny};
 ghost use Rattle.ledger_core.specs.Headline.{IsAdoptionOf, IsGrantOf, IsVerdictOf};
@@ -31,16 +31,16 @@ use plan_check::checked_is_allocation;
 /// Each entry of a legal history may follow the entries before it, and each prefix of a legal history
 /// is legal.
 pub fn legal_steps()
-    ensures step { (front : List Entry) (e : Entry) (back : List Entry) → Legal (front ++ e ∷ back) → Step front e }
-    ensures front { (front back : List Entry) → Legal (front ++ back) → Legal front }
+    ensures step { (prefix : List Entry) (e : Entry) (back : List Entry) → Legal (prefix ++ e ∷ back) → Step prefix e }
+    ensures prefix { (prefix back : List Entry) → Legal (prefix ++ back) → Legal prefix }
 {}
 
 /// Each reservation of a legal history grants an allocation for the pod: in the state before it, the
 /// plan's grants are an allocation of the pod's claims without a grant on the plan's node, and each
 /// claim of the pod with a grant has it on this node and is joined.
 pub fn grants_are_allocations()
-    ensures { (front back : List Entry) (job : ℕ) (pod : Key) (plan : Plan) →
-        Legal (front ++ record { job = job; event = Event.Reserved pod plan } ∷ back) → IsGrantOf front pod plan }
+    ensures { (prefix back : List Entry) (job : ℕ) (pod : Key) (plan : Plan) →
+        Legal (prefix ++ record { job = job; event = Event.Reserved pod plan } ∷ back) → IsGrantOf prefix pod plan }
 {}
 
 /// Each verdict of a legal history is true at its index. A claim that it names isn't there, or has 256
@@ -49,8 +49,8 @@ pub fn grants_are_allocations()
 /// the pod; the walk of a node whose search ended with its budget is longer, and the items that were
 /// looked at are neither `Full` nor `Fault`; a claim whose grant is elsewhere has it on another node.
 pub fn verdicts_are_true()
-    ensures { (front back : List Entry) (job : ℕ) (pod : Key) (verdict : Verdict) →
-        Legal (front ++ record { job = job; event = Event.VerdictGiven pod verdict } ∷ back) → IsVerdictOf front pod verdict }
+    ensures { (prefix back : List Entry) (job : ℕ) (pod : Key) (verdict : Verdict) →
+        Legal (prefix ++ record { job = job; event = Event.VerdictGiven pod verdict } ∷ back) → IsVerdictOf prefix pod verdict }
 {
     budget_is_true();
 }
@@ -61,21 +61,21 @@ pub fn verdicts_are_true()
 /// out of memory; that the document has this error isn't said here, since a history holds no documents.
 /// The state after a denial is the one before it.
 pub fn denials_change_nothing()
-    ensures due { (front back : List Entry) (job : ℕ) (command : Command) (refusal : Refusal) →
-        Legal (front ++ record { job = job; event = Event.Denied command refusal } ∷ back) → MayDeny (state_of front) command refusal }
-    ensures kept { (front : List Entry) (job : ℕ) (command : Command) (refusal : Refusal) →
-        state_of (front ++ record { job = job; event = Event.Denied command refusal } ∷ []) ≡ state_of front }
+    ensures due { (prefix back : List Entry) (job : ℕ) (command : Command) (refusal : Refusal) →
+        Legal (prefix ++ record { job = job; event = Event.Denied command refusal } ∷ back) → MayDeny (state_of prefix) command refusal }
+    ensures kept { (prefix : List Entry) (job : ℕ) (command : Command) (refusal : Refusal) →
+        state_of (prefix ++ record { job = job; event = Event.Denied command refusal } ∷ []) ≡ state_of prefix }
 {}
 
 /// If a legal history denies a Schedule or a Release because a job has taken its pod, that job has it,
 /// and it isn't the one that is denied.
 pub fn busy_is_another()
-    ensures schedule { (front back : List Entry) (job holder : ℕ) (pod : Key) →
-        Legal (front ++ record { job = job; event = Event.Denied (Schedule pod) (Busy holder) } ∷ back) →
-        (has_pod (stand_of front holder) ≡ true) × (holder ≢ job) }
-    ensures release { (front back : List Entry) (job holder : ℕ) (pod : Key) →
-        Legal (front ++ record { job = job; event = Event.Denied (Release pod) (Busy holder) } ∷ back) →
-        (has_pod (stand_of front holder) ≡ true) × (holder ≢ job) }
+    ensures schedule { (prefix back : List Entry) (job holder : ℕ) (pod : Key) →
+        Legal (prefix ++ record { job = job; event = Event.Denied (Schedule pod) (Busy holder) } ∷ back) →
+        (has_pod (job_state_of prefix holder) ≡ true) × (holder ≢ job) }
+    ensures release { (prefix back : List Entry) (job holder : ℕ) (pod : Key) →
+        Legal (prefix ++ record { job = job; event = Event.Denied (Release pod) (Busy holder) } ∷ back) →
+        (has_pod (job_state_of prefix holder) ≡ true) × (holder ≢ job) }
 {}
 
 /// A pod that a job reserved, and neither bound nor gave up, is taken by that job after a legal history,
@@ -84,7 +84,7 @@ pub fn busy_is_another()
 pub fn pods_stay_taken()
     ensures { (h : List Entry) (job : ℕ) (pod : Key) → Legal h →
         ((e : Entry) (other : Key) → Contains h e → e.job ≡ job → pod_in e.event ≡ Some other → other ≡ pod) →
-        has_pod (stand_of h job) ≡ true →
+        has_pod (job_state_of h job) ≡ true →
         (state : PodState) × ((node : List ℕ) × IsTaken (state_of h) pod job node state) }
 {}
 
@@ -99,8 +99,8 @@ pub fn uids_keep_claims()
 
 /// Each adoption of a legal history grants an allocation of its claim, which was there and had no grant.
 pub fn adoptions_are_allocations()
-    ensures { (front back : List Entry) (job : ℕ) (claim : Key) (status : ClaimStatus) →
-        Legal (front ++ record { job = job; event = Event.Adopted claim status } ∷ back) → IsAdoptionOf front claim status }
+    ensures { (prefix back : List Entry) (job : ℕ) (claim : Key) (status : ClaimStatus) →
+        Legal (prefix ++ record { job = job; event = Event.Adopted claim status } ∷ back) → IsAdoptionOf prefix claim status }
 {
     checked_is_allocation();
 }

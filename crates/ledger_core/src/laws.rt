@@ -7,16 +7,16 @@ ghost use Rattle.cluster.specs.State.{empty_state};
 ghost use Rattle.cluster.specs.Reserved.{with_reserved};
 ghost use Rattle.cluster.specs.declared.entry.Entry.{Entry};
 ghost use Rattle.cluster.specs.declared.entry.JobState.{JobState};
-ghost use Rattle.cluster.specs.Events.{after, stand_after};
+ghost use Rattle.cluster.specs.Events.{after, job_state_after};
 ghost use Rattle.cluster.specs.State.{claims_of};
 ghost use Rattle.ledger_core.specs.GoesOn.{GoesOn};
-ghost use Rattle.cluster.specs.History.{state_of, stand_of};
+ghost use Rattle.cluster.specs.History.{state_of, job_state_of};
 
 /// What one entry more does to the state after a history, and to the state of each job.
 pub fn histories_grow()
     ensures state { (h : List Entry) (e : Entry) → state_of (h ++ e ∷ []) ≡ after (length h + 1) e.job e.event (state_of h) }
-    ensures stand { (h : List Entry) (e : Entry) (job : ℕ) → stand_of (h ++ e ∷ []) job ≡ (if e.job == job then stand_after (stand_of h job) (length h + 1) e.event else stand_of h job) }
-    ensures start { (job : ℕ) → stand_of [] job ≡ JobState.Fresh }
+    ensures job_state { (h : List Entry) (e : Entry) (job : ℕ) → job_state_of (h ++ e ∷ []) job ≡ (if e.job == job then job_state_after (job_state_of h job) (length h + 1) e.event else job_state_of h job) }
+    ensures start { (job : ℕ) → job_state_of [] job ≡ JobState.Fresh }
 {}
 
 /// A job that has reserved by a true plan may write each of the pod's uses, and then bind the pod to

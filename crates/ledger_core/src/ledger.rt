@@ -11,7 +11,7 @@ ghost use Rattle.cluster.specs.Bound.{with_bound};
 ghost use Rattle.cluster.specs.Denied.{first_refusal};
 ghost use Rattle.cluster.specs.Events.{allows, outcome_of};
 ghost use Rattle.cluster.specs.Held.{held};
-ghost use Rattle.cluster.specs.History.{entry_at, stand_of, state_of};
+ghost use Rattle.cluster.specs.History.{entry_at, job_state_of, state_of};
 ghost use Rattle.cluster.specs.Ready.{object_of};
 ghost use Rattle.cluster.specs.JobState.{failures, has_failed, has_reserved, is_conflicted, is_fresh, may_try};
 ghost use Rattle.cluster.specs.State.{has_room, taken_node, use_in, version_of};
@@ -23,7 +23,7 @@ ghost use Rattle.ledger_core.specs.Conflict.{IsNextUse, MayConflict, assumed_by,
 ghost use Rattle.ledger_core.specs.Deleted.{MayDelete, deletion};
 ghost use Rattle.ledger_core.specs.Denied.{MayDeny};
 ghost use Rattle.ledger_core.specs.VerdictGiven.{MayJudge};
-ghost use Rattle.ledger_core.specs.Ledger.{appended, at, stand_in};
+ghost use Rattle.ledger_core.specs.Ledger.{appended, at, job_state_in};
 ghost use Rattle.ledger_core.specs.Legal.{Legal};
 ghost use Rattle.ledger_core.specs.Refused.{MayRefuse};
 ghost use Rattle.ledger_core.specs.Released.{MayRelease, release_of};
@@ -34,7 +34,7 @@ ghost use Rattle.ledger_core.specs.Wrote.{MayWrite};
 use crate::LedgerError;
 use crate::headline::{one_holder, uids_keep_claims};
 use crate::holding::{adopt, free, remove, reserve};
-use crate::room::{Stands, append, failures, make_room, stand_in};
+use crate::room::{JobStates, append, failures, job_state_in, make_room};
 use crate::snapshot::Snapshot;
 use api_claim::ClaimStatus;
 use cluster::{
@@ -72,7 +72,7 @@ pub struct Ledger {
     entries: Vec<Entry>,
     state: State,
     holders: Shared<Held>,
-    stands: Stands,
+    stands: JobStates,
     limit: u64,
 }
 
@@ -151,10 +151,10 @@ impl Ledger {
     }
 
     /// The state of a job after its entries.
-    pub fn stand(&self, job: u64) -> JobState
-        ensures { result ≡ stand_of self.now.entries job }
+    pub fn job_state(&self, job: u64) -> JobState
+        ensures { result ≡ job_state_of self.now.entries job }
     {
-        stand_in(&self.stands, job)
+        job_state_in(&self.stands, job)
     }
 
     /// Applies an object whose selectors are compiled, by the mode: it is created, with the entry's index
@@ -170,7 +170,7 @@ impl Ledger {
         ready: Ready,
         mode: Mode,
     ) -> Result<Done, LedgerError>
-        requires stand { allows (stand_of self.old.entries job) (Applied ready mode) ≡ true }
+        requires job_state { allows (job_state_of self.old.entries job) (Applied ready mode) ≡ true }
         ensures ok { OnOk result (self.new ≡ appended self.old job (application (state_of self.old.entries) ready mode)) }
         ensures place { IfOk result (λ done. done.place ≡ length self.new.entries) }
         ensures outcome { IfOk result (λ done. done.outcome ≡ outcome_of (application (state_of self.old.entries) ready mode)) }
@@ -192,7 +192,7 @@ impl Ledger {
     /// the state stays as it was. `Full` is returned if the history has its limit of entries, and `Memory`
     /// only if memory runs out; then nothing changed.
     pub fn delete(&mut self, alloc: Global, job: u64, target: &Target) -> Result<Done, LedgerError>
-        requires stand { allows (stand_of self.old.entries job) (Deleted target.now) ≡ true }
+        requires job_state { allows (job_state_of self.old.entries job) (Deleted target.now) ≡ true }
         ensures ok { OnOk result (self.new ≡ appended self.old job (deletion (state_of self.old.entries) target.now)) }
         ensures place { IfOk result (λ done. done.place ≡ length self.new.entries) }
         ensures outcome { IfOk result (λ done. done.outcome ≡ outcome_of (deletion (state_of self.old.entries) target.now)) }
@@ -213,7 +213,7 @@ impl Ledger {
     /// the history. `Full` is returned if the history has its limit of entries, and `Memory` only if
     /// memory runs out or if the error itself is out of memory; then nothing changed.
     pub fn deny(&mut self, job: u64, error: FieldError) -> Result<Done, LedgerError>
-        requires { allows (stand_of self.old.entries job) (Denied (Invalid error) refusal.Invalid) ≡ true }
+        requires { allows (job_state_of self.old.entries job) (Denied (Invalid error) refusal.Invalid) ≡ true }
         ensures ok { OnOk result (self.new ≡ appended self.old job (Denied (Invalid error) refusal.Invalid)) }
         ensures place { IfOk result (λ done. done.place ≡ length self.new.entries) }
         ensures outcome { IfOk result (λ done. done.outcome ≡ Outcome.Denied) }
@@ -234,7 +234,7 @@ impl Ledger {
     /// is returned only if such a refusal holds and the history has its limit of entries, which `Full`
     /// carries, and `Memory` only if memory runs out; then nothing changed.
     pub fn begin(&mut self, alloc: Global, job: u64, pod: &Key) -> Result<Start, LedgerError>
-        requires { may_try (stand_of self.old.entries job) ≡ true }
+        requires { may_try (job_state_of self.old.entries job) ≡ true }
         ensures begins { IfOk result (λ start. Begins self.old self.new job pod.now start) }
         ensures legal { Legal self.new.entries }
         ensures full { (n : ℕ) → IsErrOf result (LedgerError.Full n) → (length self.old.entries ≡ n) × (self.old.limit ≡ n) × IsSome (first_refusal (state_of self.old.entries) (Schedule pod.now)) }
@@ -266,7 +266,7 @@ impl Ledger {
         pod: &Key,
         plan: &Plan,
     ) -> Result<Done, LedgerError>
-        requires stand { may_try (stand_of self.old.entries job) ≡ true }
+        requires job_state { may_try (job_state_of self.old.entries job) ≡ true }
         requires plan { IsPlanned self.old.entries pod.now plan.now }
         ensures ok { OnOk result (self.new ≡ appended self.old job (reservation (state_of self.old.entries) pod.now plan.now)) }
         ensures place { IfOk result (λ done. done.place ≡ length self.new.entries) }
@@ -293,7 +293,7 @@ impl Ledger {
         pod: &Key,
         claim: &Key,
     ) -> Result<Done, LedgerError>
-        requires stand { has_reserved (stand_of self.old.entries job) ≡ true }
+        requires job_state { has_reserved (job_state_of self.old.entries job) ≡ true }
         requires step { (had : ℕ) × IsNextUse (state_of self.old.entries) pod.now job claim.now had }
         ensures ok { OnOk result (self.new ≡ appended self.old job (status_event (state_of self.old.entries) pod.now claim.now)) }
         ensures place { IfOk result (λ done. done.place ≡ length self.new.entries) }
@@ -314,7 +314,7 @@ impl Ledger {
     /// Gives up what the job reserved, after a conflict: the pod's uses are taken away, claims without users
     /// lose their grants, and the pod is Idle again.
     pub fn unreserve(&mut self, alloc: Global, job: u64, pod: &Key) -> Result<Done, LedgerError>
-        requires stand { is_conflicted (stand_of self.old.entries job) ≡ true }
+        requires job_state { is_conflicted (job_state_of self.old.entries job) ≡ true }
         requires step { MayUnreserve (state_of self.old.entries) pod.now job }
         ensures ok { OnOk result (self.new ≡ appended self.old job (Unreserved pod.now)) }
         ensures place { IfOk result (λ done. done.place ≡ length self.new.entries) }
@@ -336,7 +336,7 @@ impl Ledger {
 
     /// Binds the pod to the node that the job took it for, once each of its uses is written.
     pub fn bind(&mut self, alloc: Global, job: u64, pod: &Key) -> Result<Done, LedgerError>
-        requires stand { has_reserved (stand_of self.old.entries job) ≡ true }
+        requires job_state { has_reserved (job_state_of self.old.entries job) ≡ true }
         requires step { MayBind (state_of self.old.entries) pod.now job (taken_node (state_of self.old.entries) pod.now) }
         ensures ok { OnOk result (self.new ≡ appended self.old job (Bound pod.now (taken_node (state_of self.old.entries) pod.now))) }
         ensures place { IfOk result (λ done. done.place ≡ length self.new.entries) }
@@ -363,7 +363,7 @@ impl Ledger {
         pod: &Key,
         verdict: Verdict,
     ) -> Result<Done, LedgerError>
-        requires stand { may_try (stand_of self.old.entries job) ≡ true }
+        requires job_state { may_try (job_state_of self.old.entries job) ≡ true }
         requires verdict { MayJudge self.old.entries pod.now verdict }
         ensures ok { OnOk result (self.new ≡ appended self.old job (VerdictGiven pod.now verdict)) }
         ensures place { IfOk result (λ done. done.place ≡ length self.new.entries) }
@@ -389,15 +389,15 @@ impl Ledger {
         job: u64,
         pod: &Key,
     ) -> Result<Done, LedgerError>
-        requires stand { has_failed (stand_of self.old.entries job) ≡ true }
-        ensures ok { OnOk result (self.new ≡ appended self.old job (Contended pod.now (failures (stand_of self.old.entries job)))) }
+        requires job_state { has_failed (job_state_of self.old.entries job) ≡ true }
+        ensures ok { OnOk result (self.new ≡ appended self.old job (Contended pod.now (failures (job_state_of self.old.entries job)))) }
         ensures place { IfOk result (λ done. done.place ≡ length self.new.entries) }
-        ensures outcome { IfOk result (λ done. done.outcome ≡ outcome_of (Contended pod.now (failures (stand_of self.old.entries job)))) }
+        ensures outcome { IfOk result (λ done. done.outcome ≡ outcome_of (Contended pod.now (failures (job_state_of self.old.entries job)))) }
         ensures legal { Legal self.new.entries }
         ensures full { (n : ℕ) → IsErrOf result (LedgerError.Full n) → (length self.old.entries ≡ n) × (self.old.limit ≤ n) }
         ensures err { OnErr result (self.new ≡ self.old) }
     {
-        let attempts = failures(self.stand(job));
+        let attempts = failures(self.job_state(job));
         let place = make_room(&mut self.entries, &mut self.stands, self.limit, job)?;
         let pod = pod.copy(alloc)?;
         let event = Event::Contended { pod, attempts };
@@ -413,7 +413,7 @@ impl Ledger {
     /// pod and the first such, and the state stays as it was. `Full` is returned if the history has its limit of
     /// entries, and `Memory` only if memory runs out; then nothing changed.
     pub fn release(&mut self, alloc: Global, job: u64, pod: &Key) -> Result<Done, LedgerError>
-        requires { is_fresh (stand_of self.old.entries job) ≡ true }
+        requires { is_fresh (job_state_of self.old.entries job) ≡ true }
         ensures ok { OnOk result (self.new ≡ appended self.old job (release_of (state_of self.old.entries) pod.now)) }
         ensures place { IfOk result (λ done. done.place ≡ length self.new.entries) }
         ensures outcome { IfOk result (λ done. done.outcome ≡ outcome_of (release_of (state_of self.old.entries) pod.now)) }
@@ -442,7 +442,7 @@ impl Ledger {
         claim: &Key,
         status: ClaimStatus,
     ) -> Result<Done, LedgerError>
-        requires { is_fresh (stand_of self.old.entries job) ≡ true }
+        requires { is_fresh (job_state_of self.old.entries job) ≡ true }
         ensures ok { OnOk result (self.new ≡ appended self.old job (adoption (state_of self.old.entries) claim.now status)) }
         ensures place { IfOk result (λ done. done.place ≡ length self.new.entries) }
         ensures outcome { IfOk result (λ done. done.outcome ≡ outcome_of (adoption (state_of self.old.entries) claim.now status)) }
@@ -469,7 +469,7 @@ impl Ledger {
         ready: Ready,
         mode: Mode,
     ) -> Result<Done, LedgerError>
-        requires stand { allows (stand_of self.old.entries job) (Applied ready mode) ≡ true }
+        requires job_state { allows (job_state_of self.old.entries job) (Applied ready mode) ≡ true }
         requires applied { MayApply (state_of self.old.entries) ready mode }
         ensures ok { OnOk result (self.new ≡ appended self.old job (Applied ready mode)) }
         ensures place { IfOk result (λ done. done.place ≡ length self.new.entries) }
@@ -498,7 +498,7 @@ impl Ledger {
 
     /// Takes an object away of which nothing refuses it.
     fn take_away(&mut self, alloc: Global, job: u64, target: &Target) -> Result<Done, LedgerError>
-        requires stand { allows (stand_of self.old.entries job) (Deleted target.now) ≡ true }
+        requires job_state { allows (job_state_of self.old.entries job) (Deleted target.now) ≡ true }
         requires deleted { MayDelete (state_of self.old.entries) target.now }
         ensures ok { OnOk result (self.new ≡ appended self.old job (Deleted target.now)) }
         ensures place { IfOk result (λ done. done.place ≡ length self.new.entries) }
@@ -520,7 +520,7 @@ impl Ledger {
 
     /// Refuses a command.
     fn refuse(&mut self, job: u64, command: Command, refusal: Refusal) -> Result<Done, LedgerError>
-        requires stand { allows (stand_of self.old.entries job) (Denied command refusal) ≡ true }
+        requires job_state { allows (job_state_of self.old.entries job) (Denied command refusal) ≡ true }
         requires due { MayDeny (state_of self.old.entries) command refusal }
         ensures ok { OnOk result (self.new ≡ appended self.old job (Denied command refusal)) }
         ensures place { IfOk result (λ done. done.place ≡ length self.new.entries) }
@@ -546,7 +546,7 @@ impl Ledger {
         pod: &Key,
         plan: &Plan,
     ) -> Result<Done, LedgerError>
-        requires stand { may_try (stand_of self.old.entries job) ≡ true }
+        requires job_state { may_try (job_state_of self.old.entries job) ≡ true }
         requires plan { IsPlanned self.old.entries pod.now plan.now }
         requires unrefused { first_refusal (state_of self.old.entries) (Schedule pod.now) ≡ None }
         ensures ok { OnOk result (self.new ≡ appended self.old job (reservation (state_of self.old.entries) pod.now plan.now)) }
@@ -574,7 +574,7 @@ impl Ledger {
         plan: &Plan,
         why: Failure,
     ) -> Result<Done, LedgerError>
-        requires stand { may_try (stand_of self.old.entries job) ≡ true }
+        requires job_state { may_try (job_state_of self.old.entries job) ≡ true }
         requires refused { MayRefuse self.old.entries pod.now plan.now why }
         ensures ok { OnOk result (self.new ≡ appended self.old job (Refused pod.now plan.now why)) }
         ensures place { IfOk result (λ done. done.place ≡ length self.new.entries) }
@@ -595,7 +595,7 @@ impl Ledger {
 
     /// Reserves by a plan that doesn't fail.
     fn take(&mut self, alloc: Global, job: u64, pod: &Key, plan: &Plan) -> Result<Done, LedgerError>
-        requires stand { may_try (stand_of self.old.entries job) ≡ true }
+        requires job_state { may_try (job_state_of self.old.entries job) ≡ true }
         requires reserved { MayReserve self.old.entries pod.now plan.now }
         ensures ok { OnOk result (self.new ≡ appended self.old job (Reserved pod.now plan.now)) }
         ensures place { IfOk result (λ done. done.place ≡ length self.new.entries) }
@@ -623,7 +623,7 @@ impl Ledger {
         pod: &Key,
         claim: &Key,
     ) -> Result<Done, LedgerError>
-        requires stand { has_reserved (stand_of self.old.entries job) ≡ true }
+        requires job_state { has_reserved (job_state_of self.old.entries job) ≡ true }
         requires step { MayWrite (state_of self.old.entries) pod.now job claim.now (version_of (state_of self.old.entries) claim.now) }
         ensures ok { OnOk result (self.new ≡ appended self.old job (Wrote pod.now claim.now (version_of (state_of self.old.entries) claim.now))) }
         ensures place { IfOk result (λ done. done.place ≡ length self.new.entries) }
@@ -659,7 +659,7 @@ impl Ledger {
         had: u64,
         now: u64,
     ) -> Result<Done, LedgerError>
-        requires stand { has_reserved (stand_of self.old.entries job) ≡ true }
+        requires job_state { has_reserved (job_state_of self.old.entries job) ≡ true }
         requires differ { MayConflict (state_of self.old.entries) pod.now job claim.now had now }
         ensures ok { OnOk result (self.new ≡ appended self.old job (Conflict pod.now claim.now had now)) }
         ensures place { IfOk result (λ done. done.place ≡ length self.new.entries) }
@@ -686,7 +686,7 @@ impl Ledger {
 
     /// Takes the uses of a bound pod away.
     fn release_bound(&mut self, alloc: Global, job: u64, pod: &Key) -> Result<Done, LedgerError>
-        requires stand { is_fresh (stand_of self.old.entries job) ≡ true }
+        requires job_state { is_fresh (job_state_of self.old.entries job) ≡ true }
         requires released { MayRelease (state_of self.old.entries) pod.now }
         ensures ok { OnOk result (self.new ≡ appended self.old job (Released pod.now)) }
         ensures place { IfOk result (λ done. done.place ≡ length self.new.entries) }
@@ -714,7 +714,7 @@ impl Ledger {
         claim: &Key,
         status: ClaimStatus,
     ) -> Result<Done, LedgerError>
-        requires stand { is_fresh (stand_of self.old.entries job) ≡ true }
+        requires job_state { is_fresh (job_state_of self.old.entries job) ≡ true }
         requires unrefused { first_refusal (state_of self.old.entries) (Adopt claim.now status) ≡ None }
         ensures ok { OnOk result (self.new ≡ appended self.old job (adoption (state_of self.old.entries) claim.now status)) }
         ensures place { IfOk result (λ done. done.place ≡ length self.new.entries) }
@@ -741,7 +741,7 @@ impl Ledger {
         claim: &Key,
         status: ClaimStatus,
     ) -> Result<Done, LedgerError>
-        requires stand { is_fresh (stand_of self.old.entries job) ≡ true }
+        requires job_state { is_fresh (job_state_of self.old.entries job) ≡ true }
         requires adopted { MayAdopt (state_of self.old.entries) claim.now status }
         ensures ok { OnOk result (self.new ≡ appended self.old job (Adopted claim.now status)) }
         ensures place { IfOk result (λ done. done.place ≡ length self.new.entries) }
@@ -780,7 +780,7 @@ fn no_holders(alloc: Global) -> Result<Shared<Held>, AllocError>
 fn put_object(
     alloc: Global,
     entries: &mut Vec<Entry>,
-    stands: &mut Stands,
+    stands: &mut JobStates,
     state: &mut State,
     limit: u64,
     job: u64,
@@ -789,7 +789,7 @@ fn put_object(
     requires limit { limit < 2 ^ 48 }
     requires free { has_room state.old (object_of kept) ≡ true }
     ensures entries { entries.new.items ≡ entries.old.items }
-    ensures stands { (j : ℕ) → stand_in stands.new j ≡ stand_in stands.old j }
+    ensures stands { (j : ℕ) → job_state_in stands.new j ≡ job_state_in stands.old j }
     ensures row { OnOk result (is_some (at stands.new job) ≡ true) }
     ensures room { OnOk result (vec_len entries.new < vec_capacity entries.new) }
     ensures within { OnOk result (length entries.old.items < limit) }

@@ -1,8 +1,8 @@
 ghost use Rattle.std.specs.Prelude.{◌≡◌, ◌≤◌, ◌<◌, ◌^◌, ◌+◌, ◌++◌, ◌∷◌, ◌==◌, [], true, length, ℕ, IfOk, OnOk, IsErrOf, is_some, vec_len, if◌then◌else◌};
 ghost use Rattle.std.specs.Vec.{vec_capacity};
-ghost use Rattle.cluster.specs.Events.{stand_after};
+ghost use Rattle.cluster.specs.Events.{job_state_after};
 ghost use Rattle.cluster.specs.JobState.{failures};
-ghost use Rattle.ledger_core.specs.Ledger.{at, stand_in};
+ghost use Rattle.ledger_core.specs.Ledger.{at, job_state_in};
 
 use crate::LedgerError;
 use cluster::{Entry, Event, JobState};
@@ -10,18 +10,18 @@ use dra_values::Table;
 use std::alloc::AllocError;
 
 /// Each job's state; a job without a row is Fresh.
-pub type Stands = Table<u64, JobState>;
+pub type JobStates = Table<u64, JobState>;
 
 /// Makes room for an entry of a job and for its state, and returns the entry's index.
 pub fn make_room(
     entries: &mut Vec<Entry>,
-    stands: &mut Stands,
+    stands: &mut JobStates,
     limit: u64,
     job: u64,
 ) -> Result<u64, LedgerError>
     requires { limit < 2 ^ 48 }
     ensures entries { entries.new.items ≡ entries.old.items }
-    ensures stands { (j : ℕ) → stand_in stands.new j ≡ stand_in stands.old j }
+    ensures stands { (j : ℕ) → job_state_in stands.new j ≡ job_state_in stands.old j }
     ensures row { OnOk result (is_some (at stands.new job) ≡ true) }
     ensures room { OnOk result (vec_len entries.new < vec_capacity entries.new) }
     ensures within { OnOk result (length entries.old.items < limit) }
@@ -38,33 +38,33 @@ pub fn make_room(
 }
 
 /// Appends an entry that there is room for, and sets its job to the state that it leaves.
-pub fn append(entries: &mut Vec<Entry>, stands: &mut Stands, job: u64, event: Event)
+pub fn append(entries: &mut Vec<Entry>, stands: &mut JobStates, job: u64, event: Event)
     requires room { vec_len entries.old < vec_capacity entries.old }
     requires row { is_some (at stands.old job) ≡ true }
     requires few { length entries.old.items < 2 ^ 48 }
-    requires tries { failures (stand_in stands.old job) < 2 ^ 48 }
+    requires tries { failures (job_state_in stands.old job) < 2 ^ 48 }
     ensures entries { entries.new.items ≡ entries.old.items ++ record { job = job; event = event } ∷ [] }
-    ensures stands { (j : ℕ) → stand_in stands.new j ≡ (if job == j then stand_after (stand_in stands.old job) (length entries.old.items + 1) event else stand_in stands.old j) }
+    ensures stands { (j : ℕ) → job_state_in stands.new j ≡ (if job == j then job_state_after (job_state_in stands.old job) (length entries.old.items + 1) event else job_state_in stands.old j) }
 {
     let place = entries.len() as u64 + 1;
-    let stand = stand_after(stand_in(stands, job), place, &event);
-    set_stand(stands, job, stand);
+    let job_state = job_state_after(job_state_in(stands, job), place, &event);
+    set_job_state(stands, job, job_state);
     entries.push_reserved(Entry { job, event });
 }
 
 /// The state of a job.
-pub fn stand_in(stands: &Stands, job: u64) -> JobState
-    ensures { result ≡ stand_in stands.now job }
+pub fn job_state_in(stands: &JobStates, job: u64) -> JobState
+    ensures { result ≡ job_state_in stands.now job }
 {
     match stands.get(&job) {
         None => JobState::Fresh,
-        Some(stand) => *stand,
+        Some(job_state) => *job_state,
     }
 }
 
 /// Makes a row for a job, where it has none.
-fn make_row(stands: &mut Stands, job: u64) -> Result<(), AllocError>
-    ensures same { (j : ℕ) → stand_in stands.new j ≡ stand_in stands.old j }
+fn make_row(stands: &mut JobStates, job: u64) -> Result<(), AllocError>
+    ensures same { (j : ℕ) → job_state_in stands.new j ≡ job_state_in stands.old j }
     ensures row { OnOk result (is_some (at stands.new job) ≡ true) }
 {
     if stands.contains_key(&job) {
@@ -75,20 +75,20 @@ fn make_row(stands: &mut Stands, job: u64) -> Result<(), AllocError>
 }
 
 /// Sets a job that has a row to this state.
-fn set_stand(stands: &mut Stands, job: u64, stand: JobState)
+fn set_job_state(stands: &mut JobStates, job: u64, job_state: JobState)
     requires { is_some (at stands.old job) ≡ true }
-    ensures { (j : ℕ) → stand_in stands.new j ≡ (if job == j then stand else stand_in stands.old j) }
+    ensures { (j : ℕ) → job_state_in stands.new j ≡ (if job == j then job_state else job_state_in stands.old j) }
 {
     if let Some(row) = stands.get_mut(&job) {
-        *row = stand;
+        *row = job_state;
     }
 }
 
 /// How many attempts of a job have failed.
-pub fn failures(stand: JobState) -> u64
-    ensures { result ≡ failures stand }
+pub fn failures(job_state: JobState) -> u64
+    ensures { result ≡ failures job_state }
 {
-    match stand {
+    match job_state {
         JobState::Fresh | JobState::Ended(_) => 0,
         JobState::Reserved(failed) | JobState::Conflicted(failed) | JobState::Failed(failed) =>
             failed,
@@ -96,9 +96,9 @@ pub fn failures(stand: JobState) -> u64
 }
 
 /// The state of a job after an event, from its state before.
-fn stand_after(stand: JobState, place: u64, event: &Event) -> JobState
-    requires { failures stand < 2 ^ 48 }
-    ensures { result ≡ stand_after stand place event.now }
+fn job_state_after(job_state: JobState, place: u64, event: &Event) -> JobState
+    requires { failures job_state < 2 ^ 48 }
+    ensures { result ≡ job_state_after job_state place event.now }
 {
     match event {
         Event::Applied { .. }
@@ -109,8 +109,8 @@ fn stand_after(stand: JobState, place: u64, event: &Event) -> JobState
         | Event::Released(_)
         | Event::Adopted { .. }
         | Event::Denied { .. } => JobState::Ended(place),
-        Event::Reserved { .. } | Event::Wrote { .. } => JobState::Reserved(failures(stand)),
-        Event::Conflict { .. } => JobState::Conflicted(failures(stand)),
-        Event::Refused { .. } | Event::Unreserved(_) => JobState::Failed(failures(stand) + 1),
+        Event::Reserved { .. } | Event::Wrote { .. } => JobState::Reserved(failures(job_state)),
+        Event::Conflict { .. } => JobState::Conflicted(failures(job_state)),
+        Event::Refused { .. } | Event::Unreserved(_) => JobState::Failed(failures(job_state) + 1),
     }
 }

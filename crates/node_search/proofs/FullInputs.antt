@@ -51,15 +51,15 @@ one_way w (FirstAvailable rs) e = absurd (cc)
 abbrev ways : List Wish → List ℕ
 ways qs = map (λ q. ways_of q.request.kind) qs
 
-one_front : (lists : List (List ℕ)) (l : List ℕ) → lists ≡ l ∷ [] → fronted lists (0 ∷ []) ≡ (0 ∷ l) ∷ []
-one_front lists l e = ap (λ (ls : List (List ℕ)). fronted ls (0 ∷ [])) e
+one_prefix : (lists : List (List ℕ)) (l : List ℕ) → lists ≡ l ∷ [] → fronted lists (0 ∷ []) ≡ (0 ∷ l) ∷ []
+one_prefix lists l e = ap (λ (ls : List (List ℕ)). fronted ls (0 ∷ [])) e
 
 one_choice : (w : SearchInput) (qs : List Wish) → list_all (λ q. is_sure w q.request.kind) qs ≡ true → choices (ways qs) ≡ zeros qs ∷ []
 unfolding choices
 one_choice w [] e = refl
 one_choice w (q ∷ qs) e =
     let parts = and_parts (is_sure w q.request.kind) (list_all (λ p. is_sure w p.request.kind) qs) e in
-    ap (λ (k : ℕ). choices (k ∷ ways qs)) (one_way w q.request.kind parts.0) ∙ one_front (choices (ways qs)) (zeros qs) (one_choice w qs parts.1)
+    ap (λ (k : ℕ). choices (k ∷ ways qs)) (one_way w q.request.kind parts.0) ∙ one_prefix (choices (ways qs)) (zeros qs) (one_choice w qs parts.1)
 
 -- ---- what it asks for
 

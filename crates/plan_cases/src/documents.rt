@@ -19,7 +19,7 @@ fn run(alloc: Global, setup: &mut Setup, command: Command) -> Result<(), CaseErr
     requires { 0 < attempts_of command }
 {
     let job = setup.jobs.saturating_add(1);
-    match setup.ledger.stand(job) {
+    match setup.ledger.job_state(job) {
         JobState::Fresh => {
             setup.jobs = job;
             run_alone(alloc, &mut setup.ledger, job, command, BUDGET)?;

@@ -69,7 +69,7 @@ here_by w i least c d ds false e h lead s own rest =
     ap (λ (l : List agreeing.Pick). l ++ seen_all w (rule_at i c) (picks_of w ds)) (seen_other w i c (pick_of w (due_seen w d)) (λ f. other (sym f)))
     ∙ seen_none w i (asked_at w d.row).label.claim c ds (above i (asked_at w d.row).label.claim least h lead other) s
 
--- those of the first claim are at the front
+-- those of the first claim are at the prefix
 pub seen_here : (w : SearchInput) (i least : ℕ) (c : DeviceConstraint) (ds : List DueFields) → i ≤ least → AreByClaim least (map (due_seen w) ds) → Each (IsDue w) ds
     → seen_all w (rule_at i c) (picks_of w ds) ≡ flat_map (seen_as w) (take (prefix_len (is_at_place w i) ds) ds)
 seen_here w i least c [] h s each = refl

@@ -175,7 +175,7 @@ part_true w ids a l p =
     (ap (sits w a a.ask.mode) (places_back w ids a l p.met) ∙ p.seat)
 
 record Seam (w : SearchInput) (a : Asked) (l : List ℕ) (rest : List Pick) : Type 0 where
-  front : take (due w a) (map (shown w) (map (λ x. record { label = a.label; position = x }) l ++ rest)) ≡ map (shown w) (map (λ x. record { label = a.label; position = x }) l)
+  prefix : take (due w a) (map (shown w) (map (λ x. record { label = a.label; position = x }) l ++ rest)) ≡ map (shown w) (map (λ x. record { label = a.label; position = x }) l)
   back : drop (due w a) (map (shown w) (map (λ x. record { label = a.label; position = x }) l ++ rest)) ≡ map (shown w) rest
 
 seam_of : (w : SearchInput) (a : Asked) (l : List ℕ) (rest : List Pick) → due w a ≡ length l → Seam w a l rest
@@ -186,7 +186,7 @@ seam_of w a l rest e =
     let n : due w a ≡ length m = e ∙ sym (length-map l (λ x. record { label = a.label; position = x })) ∙ sym (length-map ps (shown w)) in
     let whole : map (shown w) (ps ++ rest) ≡ m ++ t = map-append (shown w) ps rest in
     record {
-      front = ap (λ (z : ℕ). take z (map (shown w) (ps ++ rest))) n ∙ ap (take (length m)) whole ∙ take-append_seam m t;
+      prefix = ap (λ (z : ℕ). take z (map (shown w) (ps ++ rest))) n ∙ ap (take (length m)) whole ∙ take-append_seam m t;
       back = ap (λ (z : ℕ). drop z (map (shown w) (ps ++ rest))) n ∙ ap (drop (length m)) whole ∙ drop-append_seam m t;
     }
 
@@ -198,7 +198,7 @@ parts_true w ids (a ∷ asks) (l ∷ ls) h =
     let all : List DeviceResult = map (shown w) (taken (a ∷ asks) (l ∷ ls)) in
     let mine : List DeviceResult = map (shown w) (map (λ x. record { label = a.label; position = x }) l) in
     let s = seam_of w a l (taken asks ls) h.0.due in
-    ap (λ (z : List DeviceResult). is_part w a z && are_parts w asks (drop (due w a) all)) s.front
+    ap (λ (z : List DeviceResult). is_part w a z && are_parts w asks (drop (due w a) all)) s.prefix
     ∙ ap (λ (z : List DeviceResult). is_part w a mine && are_parts w asks z) s.back
     ∙ both (is_part w a mine) (are_parts w asks (map (shown w) (taken asks ls))) (part_true w ids a l h.0) (parts_true w ids asks ls h.1)
 
@@ -209,7 +209,7 @@ parts_again w ids k (a ∷ asks) [] h = absurd h
 parts_again w ids k (a ∷ asks) (l ∷ ls) h =
     let all : List DeviceResult = map (shown w) (taken (a ∷ asks) (l ∷ ls)) in
     let s = seam_of w a l (taken asks ls) h.0.due in
-    ap (λ (z : List DeviceResult). map (place_of w) z ∷ map (part_of w) (cuts_for w k asks (drop (due w a) all))) s.front
+    ap (λ (z : List DeviceResult). map (place_of w) z ∷ map (part_of w) (cuts_for w k asks (drop (due w a) all))) s.prefix
     ∙ ap (λ (z : List ℕ). z ∷ map (part_of w) (cuts_for w k asks (drop (due w a) all))) (places_back w ids a l h.0.met)
     ∙ ap (λ (z : List DeviceResult). l ∷ map (part_of w) (cuts_for w k asks z)) s.back
     ∙ ap (λ (z : List (List ℕ)). l ∷ z) (parts_again w ids k asks ls h.1)

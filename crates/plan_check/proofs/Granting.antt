@@ -21,19 +21,19 @@ use Rattle.plan_check.specs.Chosen.{Due, choice_of, dues, dues_for, dues_from, n
 use Rattle.plan_check.specs.Rows.{AreDuesMore, AreWays, DueFields, HasWays, IsPickedAll, asked_rows}
 use Rattle.plan_check.specs.Shaped.{is_shaped, misshapen, shape_from}
 use Rattle.plan_check.specs.Standing.{all_results, is_off}
-use Rattle.plan_check.proofs.Lists.{back_is, drop_got, drop_next, drop_none, front_is}
+use Rattle.plan_check.proofs.Lists.{back_is, drop_got, drop_next, drop_none, prefix_is}
 use Rattle.plan_check.proofs.Shaping.{dues_joined, dues_none}
 
 -- ---- the rows of some requests, and of those after them
 
-pub front_there : (w : SearchInput) (n : ℕ) (qs ps : List Wish) → HasWays w n (qs ++ ps) → HasWays w n qs
-front_there w n qs ps h =
+pub prefix_there : (w : SearchInput) (n : ℕ) (qs ps : List Wish) → HasWays w n (qs ++ ps) → HasWays w n qs
+prefix_there w n qs ps h =
     let e : length (ways_from (qs ++ ps)) ≡ length (ways_from qs) + length (ways_from ps) = ap (λ (l : List Asked). length l) (flat_map-append ways_in qs ps) ∙ length-append (ways_from qs) (ways_from ps) in
     omega arith
 
-pub front_ways : (w : SearchInput) (n : ℕ) (qs ps : List Wish) → AreWays w n (qs ++ ps) → AreWays w n qs
-front_ways w n qs ps h =
-    front_is (ways_from qs) (ways_from ps) (drop n (all_asked w))
+pub prefix_ways : (w : SearchInput) (n : ℕ) (qs ps : List Wish) → AreWays w n (qs ++ ps) → AreWays w n qs
+prefix_ways w n qs ps h =
+    prefix_is (ways_from qs) (ways_from ps) (drop n (all_asked w))
     (ap (λ (l : List Asked). take (length l) (drop n (all_asked w))) (sym (flat_map-append ways_in qs ps)) ∙ h ∙ flat_map-append ways_in qs ps)
 
 pub later_there : (w : SearchInput) (n m : ℕ) (qs ps : List Wish) → m ≡ n + length (ways_from qs) → HasWays w n (qs ++ ps) → HasWays w m ps
@@ -168,12 +168,12 @@ both_opened w devices grants claims named now place c g h is at s =
 pub until_there : (w : SearchInput) (devices : List Offered) (grants : List Grant) (claims : List ResourceClaim) (named : Named) (now : List DueFields) (place : ℕ) (c : ResourceClaim) → place < length claims → c ≡ get_or claims place c
     → GrantedUntil w devices grants claims named now place → HasWays w named.next (wishes_in place c.key c.requests)
 until_there w devices grants claims named now place c h is s =
-    front_there w named.next (wishes_in place c.key c.requests) (wishes_from (place + 1) (drop (place + 1) claims)) (claim_opened w devices grants claims named now place c h is s).there
+    prefix_there w named.next (wishes_in place c.key c.requests) (wishes_from (place + 1) (drop (place + 1) claims)) (claim_opened w devices grants claims named now place c h is s).there
 
 pub until_ways : (w : SearchInput) (devices : List Offered) (grants : List Grant) (claims : List ResourceClaim) (named : Named) (now : List DueFields) (place : ℕ) (c : ResourceClaim) → place < length claims → c ≡ get_or claims place c
     → GrantedUntil w devices grants claims named now place → AreWays w named.next (wishes_in place c.key c.requests)
 until_ways w devices grants claims named now place c h is s =
-    front_ways w named.next (wishes_in place c.key c.requests) (wishes_from (place + 1) (drop (place + 1) claims)) (claim_opened w devices grants claims named now place c h is s).ways
+    prefix_ways w named.next (wishes_in place c.key c.requests) (wishes_from (place + 1) (drop (place + 1) claims)) (claim_opened w devices grants claims named now place c h is s).ways
 
 pub until_on_node : (w : SearchInput) (devices : List Offered) (grants : List Grant) (claims : List ResourceClaim) (named : Named) (now : List DueFields) (place : ℕ) (g : Grant) → slice_get grants place ≡ Some g
     → GrantedUntil w devices grants claims named now place → find (is_off devices) g.results ≡ None

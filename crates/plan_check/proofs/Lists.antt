@@ -77,8 +77,8 @@ each_append P (x ∷ xs) ys h k (suc i) y e = each_append P xs ys (λ j z f. h (
 
 -- ---- parts of a list
 
-pub front_is : {X : Type 0} (us bs xs : List X) → take (length (us ++ bs)) xs ≡ us ++ bs → take (length us) xs ≡ us
-front_is us bs xs h =
+pub prefix_is : {X : Type 0} (us bs xs : List X) → take (length (us ++ bs)) xs ≡ us ++ bs → take (length us) xs ≡ us
+prefix_is us bs xs h =
     let long : length (us ++ bs) ≡ length us + length bs = length-append us bs in
     sym (take-take (length us) (length (us ++ bs)) xs (omega arith)) ∙ ap (take (length us)) h ∙ take-append_seam us bs
 

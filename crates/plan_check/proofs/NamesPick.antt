@@ -95,9 +95,9 @@ named_all w [] ls h n b e = absurd (cc)
 named_all w (a ∷ asks) [] h n b e = absurd h
 named_all w (a ∷ asks) (l ∷ ls) h zero b e = let s : a ≡ b = cc in named_here w a b l (taken asks ls) s h.0
 named_all w (a ∷ asks) (l ∷ ls) h (suc n) b e =
-    let front : List Pick = map (λ x. record { label = a.label; position = x }) l in
-    ap (λ (z : List DeviceResult). is_named z b) (map-append (shown w) front (taken asks ls))
-    ∙ any_right (is_called b) (map (shown w) front) (map (shown w) (taken asks ls)) (named_all w asks ls h.1 n b e)
+    let prefix : List Pick = map (λ x. record { label = a.label; position = x }) l in
+    ap (λ (z : List DeviceResult). is_named z b) (map-append (shown w) prefix (taken asks ls))
+    ∙ any_right (is_called b) (map (shown w) prefix) (map (shown w) (taken asks ls)) (named_all w asks ls h.1 n b e)
 
 pub labels_taken : (P : Label → Type 0) (asks : List Asked) (ls : List (List ℕ)) → Each (λ a. P a.label) asks → Each (λ p. P p.label) (taken asks ls)
 labels_taken P [] ls h n p e = absurd (cc)

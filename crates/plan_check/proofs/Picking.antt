@@ -20,7 +20,7 @@ use Rattle.plan_check.specs.declared.naming.Named.{Named}
 use Rattle.plan_check.specs.Chosen.{asked_each, asked_for, is_named, named_sub, named_way}
 use Rattle.plan_check.specs.Rows.{AreWays, HasWays, IsPickedAll, IsPickedMore, Picked, asked_rows, unnamed}
 use Rattle.plan_check.specs.Shaped.{picks_each}
-use Rattle.plan_check.proofs.Lists.{back_is, drop_next, each_append, each_one, front_is, get_past, map_get, take_next}
+use Rattle.plan_check.proofs.Lists.{back_is, drop_next, each_append, each_one, prefix_is, get_past, map_get, take_next}
 
 -- ---- a window of a list
 
@@ -132,13 +132,13 @@ picked_one w rs q old new way k a e h choice rows next = record {
   };
 }
 
-add_front : (o : Option Asked) (xs ys : List Asked) → add_some o (xs ++ ys) ≡ add_some o xs ++ ys
-add_front None xs ys = refl
-add_front (Some a) xs ys = refl
+add_prefix : (o : Option Asked) (xs ys : List Asked) → add_some o (xs ++ ys) ≡ add_some o xs ++ ys
+add_prefix None xs ys = refl
+add_prefix (Some a) xs ys = refl
 
 pub each_joined : (rs : List DeviceResult) (qs ps : List Wish) → asked_each rs (qs ++ ps) ≡ asked_each rs qs ++ asked_each rs ps
 each_joined rs [] ps = refl
-each_joined rs (q ∷ qs) ps = ap (add_some (asked_for rs q)) (each_joined rs qs ps) ∙ add_front (asked_for rs q) (asked_each rs qs) (asked_each rs ps)
+each_joined rs (q ∷ qs) ps = ap (add_some (asked_for rs q)) (each_joined rs qs ps) ∙ add_prefix (asked_for rs q) (asked_each rs qs) (asked_each rs ps)
 
 picked_joined : (w : SearchInput) (rs : List DeviceResult) (qs ps : List Wish) (c d r s : List ℕ) → Picked w qs rs c r → Picked w ps rs d s → Picked w (qs ++ ps) rs (c ++ d) (r ++ s)
 picked_joined w rs qs ps c d r s h k = record {
@@ -169,7 +169,7 @@ first_there w n q qs h =
 
 pub first_ways : (w : SearchInput) (n : ℕ) (q : Wish) (qs : List Wish) → AreWays w n (q ∷ qs) → AreWays w n (q ∷ [])
 first_ways w n q qs h =
-    ap (λ (l : List Asked). take (length l) (drop n (all_asked w))) (ways_one q) ∙ front_is (ways_in q) (ways_from qs) (drop n (all_asked w)) h ∙ sym (ways_one q)
+    ap (λ (l : List Asked). take (length l) (drop n (all_asked w))) (ways_one q) ∙ prefix_is (ways_in q) (ways_from qs) (drop n (all_asked w)) h ∙ sym (ways_one q)
 
 rest_there : (w : SearchInput) (n m : ℕ) (q : Wish) (qs : List Wish) → m ≡ n + ways_of q.request.kind → HasWays w n (q ∷ qs) → HasWays w m qs
 rest_there w n m q qs g h =

@@ -75,7 +75,7 @@ pairs_end (e ∷ ds) d = ap (λ (l : List (DeviceId × Key)). pair_of e ++ l) (p
 seen_next : (w : SearchInput) (ds : List DueFields) (i : ℕ) (d : DueFields) → i < length ds → d ≡ get_or ds i d → map (due_seen w) (take (i + 1) ds) ≡ map (due_seen w) (take i ds) ++ due_seen w d ∷ []
 seen_next w ds i d h e = ap (map (due_seen w)) (take_next ds i d h e) ∙ map_end w (take i ds) d
 
--- the rest, with the next of them at the front
+-- the rest, with the next of them at the prefix
 parts : (w : SearchInput) (pairs : List (DeviceId × Key)) (ds : List DueFields) (i : ℕ) (d : DueFields) → i < length ds → d ≡ get_or ds i d
     → held_from pairs (map (due_seen w) (take i ds)) (map (due_seen w) (drop i ds))
     ≡ or_else (held_behind pairs (map (due_seen w) (take i ds)) (due_seen w d)) (held_from pairs (map (due_seen w) (take (i + 1) ds)) (map (due_seen w) (drop (i + 1) ds)))

@@ -67,14 +67,14 @@ each_of_at P [] h i x e = absurd (cc)
 each_of_at P (y ∷ ys) h zero x e = let f : y ≡ x = cc in subst P f h.0
 each_of_at P (y ∷ ys) h (suc i) x e = each_of_at P ys h.1 i x e
 
-front_differs : (u t : List ℕ) (ts : List (List ℕ)) (n : ℕ) → EachOf (λ v. text_eq u v ≡ false) ts → slice_get ts n ≡ Some t → u ≡ t → ⊥
-front_differs u t ts n h e f = truth_isnt (text_eq u t) (sym (ap (text_eq u) f) ∙ text_eq-same u) (each_of_at (λ v. text_eq u v ≡ false) ts h n t e)
+prefix_differs : (u t : List ℕ) (ts : List (List ℕ)) (n : ℕ) → EachOf (λ v. text_eq u v ≡ false) ts → slice_get ts n ≡ Some t → u ≡ t → ⊥
+prefix_differs u t ts n h e f = truth_isnt (text_eq u t) (sym (ap (text_eq u) f) ∙ text_eq-same u) (each_of_at (λ v. text_eq u v ≡ false) ts h n t e)
 
 pub place_tells : (ts : List (List ℕ)) → AreDistinct ts → (m n : ℕ) (t u : List ℕ) → slice_get ts m ≡ Some t → slice_get ts n ≡ Some u → t ≡ u → m ≡ n
 place_tells [] d m n t u e f s = absurd (cc)
 place_tells (v ∷ ts) d zero zero t u e f s = refl
-place_tells (v ∷ ts) d zero (suc n) t u e f s = let g : v ≡ t = cc in absurd (front_differs v u ts n d.0 f (g ∙ s))
-place_tells (v ∷ ts) d (suc m) zero t u e f s = let g : v ≡ u = cc in absurd (front_differs v t ts m d.0 e (g ∙ sym s))
+place_tells (v ∷ ts) d zero (suc n) t u e f s = let g : v ≡ t = cc in absurd (prefix_differs v u ts n d.0 f (g ∙ s))
+place_tells (v ∷ ts) d (suc m) zero t u e f s = let g : v ≡ u = cc in absurd (prefix_differs v t ts m d.0 e (g ∙ sym s))
 place_tells (v ∷ ts) d (suc m) (suc n) t u e f s = ap suc (place_tells ts d.1 m n t u e f s)
 
 -- ---- the requests of a claim

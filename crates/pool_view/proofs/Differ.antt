@@ -338,15 +338,15 @@ within_pool p x y f g less =
     let pool : text_cmp x.pool.name y.pool.name ≡ Equal = ap (λ (q : PoolName). text_cmp x.pool.name q.pool) (sym one) ∙ text_equal x.pool.name in
     third (text_cmp x.driver y.driver) (text_cmp x.pool.name y.pool.name) (text_cmp x.name y.name) driver pool less
 
-front_less : (a b c : Ordering) → ordering_then a b ≡ Less → ordering_then a (ordering_then b c) ≡ Less
-front_less Less b c e = refl
-front_less Equal b c e = ap (λ o. ordering_then o c) e
-front_less Greater b c e = absurd (cc)
+prefix_less : (a b c : Ordering) → ordering_then a b ≡ Less → ordering_then a (ordering_then b c) ≡ Less
+prefix_less Less b c e = refl
+prefix_less Equal b c e = ap (λ o. ordering_then o c) e
+prefix_less Greater b c e = absurd (cc)
 
 across_pools : (p q : PoolName) → Before p q → (x y : ResourceSlice) → OfPool p x → OfPool q y → PlacesRise x y
 across_pools p q less x y f g =
     let pools_less : pool_cmp (pool_named x) (pool_named y) ≡ Less = ap (λ r. pool_cmp r (pool_named y)) f ∙ ap (λ r. pool_cmp p r) g ∙ less in
-    front_less (text_cmp x.driver y.driver) (text_cmp x.pool.name y.pool.name) (text_cmp x.name y.name) pools_less
+    prefix_less (text_cmp x.driver y.driver) (text_cmp x.pool.name y.pool.name) (text_cmp x.name y.name) pools_less
 
 block_rises : (all : Named ResourceSlice) → Pairwise NamesRise (objects all) → (p : PoolName) → Pairwise PlacesRise (block all p)
 block_rises all h p =

@@ -1,4 +1,4 @@
--- Elements of a list with one more at the front.
+-- Elements of a list with one more at the prefix.
 use Rattle.std.proofs.Common.{ℕ, zero, suc, ◌<◌, ◌≡◌, ◌⊎◌, inl, inr, List, [], ◌∷◌, length, get_or, refl, arith}
 use Rattle.std.specs.List.{Contains}
 

@@ -28,7 +28,7 @@ use Rattle.replay_core.proofs.Searched.{GoesFrom, run_goes}
 
 -- what is used of the lower crates
 pub record Laws : Type 0 where
-  pub front : (front back : List Entry) → Legal (front ++ back) → Legal front
+  pub prefix : (prefix back : List Entry) → Legal (prefix ++ back) → Legal prefix
   pub alone : (job : ℕ) (h h' : List Entry) → Extends (job ∷ []) h h' → Alone job (length h) h'
   pub decided : (c : Run) (h : List Entry) (pod : Key) (p : PodState) → RanAlone c h pod p → Decided c h pod p
   pub bound : (c : Run) (h : List Entry) (pod : Key) (p : PodState) (node : List ℕ) → RanAlone c h pod p → MaySearch (state_at h c.from) pod p
@@ -43,15 +43,15 @@ pub record Laws : Type 0 where
   pub full : (c : Run) (h : List Entry) (pod : Key) (p : PodState) (claim : Key) → RanAlone c h pod p → IsFirstFull (state_at h c.from) pod p claim → JudgedBy c h pod (Users claim)
 
 -- where the entries of one command are
-record Cut (budget n : ℕ) (first : List Entry) (front : List Given) (g : Given) (h : List Entry) : Type 0 where
+record Cut (budget n : ℕ) (first : List Entry) (prefix : List Given) (g : Given) (h : List Entry) : Type 0 where
   before : List Entry
   segment : List Entry
   rest : List Entry
   is : h ≡ (before ++ segment) ++ rest
-  earlier : RunFrom budget n first front before
-  run : JobRun (n + length front + 1) g budget before segment
+  earlier : RunFrom budget n first prefix before
+  run : JobRun (n + length prefix + 1) g budget before segment
 
-cut : (budget n : ℕ) (first : List Entry) (front : List Given) (g : Given) (back : List Given) (h : List Entry) → RunFrom budget n first (front ++ g ∷ back) h → Cut budget n first front g h
+cut : (budget n : ℕ) (first : List Entry) (prefix : List Given) (g : Given) (back : List Given) (h : List Entry) → RunFrom budget n first (prefix ++ g ∷ back) h → Cut budget n first prefix g h
 unfolding RunFrom
 cut budget n first [] g back h r =
     let goes : GoesFrom (first ++ r.0) h = run_goes budget (n + 1) (first ++ r.0) back h r.2 in
@@ -64,9 +64,9 @@ cut budget n first [] g back h r =
       earlier = refl;
       run = subst (λ (k : ℕ). JobRun k g budget first r.0) eq r.1;
     }
-cut budget n first (d ∷ front) g back h r =
-    let s : Cut budget (n + 1) (first ++ r.0) front g h = cut budget (n + 1) (first ++ r.0) front g back h r.2 in
-    let eq : n + 1 + length front + 1 ≡ n + length (d ∷ front) + 1 = omega arith in
+cut budget n first (d ∷ prefix) g back h r =
+    let s : Cut budget (n + 1) (first ++ r.0) prefix g h = cut budget (n + 1) (first ++ r.0) prefix g back h r.2 in
+    let eq : n + 1 + length prefix + 1 ≡ n + length (d ∷ prefix) + 1 = omega arith in
     record {
       before = s.before;
       segment = s.segment;
@@ -123,15 +123,15 @@ complete_after laws job pod attempts budget before segment p legal run idle =
     subst (λ (s : State). IsComplete s c (before ++ segment) pod p) same
     (complete_at laws c (before ++ segment) pod p (alone_from laws job pod attempts budget before segment p legal run there))
 
-pub scheduled : Laws → (budget : ℕ) (front back : List Given) (pod : Key) (attempts : ℕ) (h : List Entry) → Legal h → RunOf budget (front ++ One (Schedule pod attempts) ∷ back) h
-    → Scheduled budget front pod attempts h
+pub scheduled : Laws → (budget : ℕ) (prefix back : List Given) (pod : Key) (attempts : ℕ) (h : List Entry) → Legal h → RunOf budget (prefix ++ One (Schedule pod attempts) ∷ back) h
+    → Scheduled budget prefix pod attempts h
 unfolding RunOf
-scheduled laws budget front back pod attempts h legal r =
+scheduled laws budget prefix back pod attempts h legal r =
     let g : Given = One (Schedule pod attempts) in
-    let s : Cut budget 0 [] front g h = cut budget 0 [] front g back h r in
-    let eq : 0 + length front + 1 ≡ length front + 1 = omega arith in
-    let run : JobRun (length front + 1) g budget s.before s.segment = subst (λ (k : ℕ). JobRun k g budget s.before s.segment) eq s.run in
-    let so_far : Legal (s.before ++ s.segment) = laws.front (s.before ++ s.segment) s.rest (subst (λ (x : List Entry). Legal x) s.is legal) in
+    let s : Cut budget 0 [] prefix g h = cut budget 0 [] prefix g back h r in
+    let eq : 0 + length prefix + 1 ≡ length prefix + 1 = omega arith in
+    let run : JobRun (length prefix + 1) g budget s.before s.segment = subst (λ (k : ℕ). JobRun k g budget s.before s.segment) eq s.run in
+    let so_far : Legal (s.before ++ s.segment) = laws.prefix (s.before ++ s.segment) s.rest (subst (λ (x : List Entry). Legal x) s.is legal) in
     record {
       before = s.before;
       segment = s.segment;
@@ -139,5 +139,5 @@ scheduled laws budget front back pod attempts h legal r =
       is = s.is;
       earlier = s.earlier;
       run = run;
-      complete = λ p idle. complete_after laws (length front + 1) pod attempts budget s.before s.segment p so_far run idle;
+      complete = λ p idle. complete_after laws (length prefix + 1) pod attempts budget s.before s.segment p so_far run idle;
     }

@@ -23,7 +23,7 @@ use Rattle.replay_core.specs.Lines.{MetNext, MetPrinted, PrintedShort, Stops, Su
 use Rattle.replay_core.specs.Replay.{Ends, EndsAt, EndsFull, EndsRead, EndsShort, IsPart, Tells, TellsFirst}
 use Rattle.replay_core.specs.Progress.{IsSound, Progress, Standing}
 use Rattle.replay_core.specs.Turns.{DocumentDid, DocumentStops, Unread}
-use Rattle.replay_core.proofs.Known.{appends_front, appends_kept, appends_more, consumes_more, front_all, rest_of}
+use Rattle.replay_core.proofs.Known.{appends_front, appends_kept, appends_more, consumes_more, prefix_all, rest_of}
 use Rattle.replay_core.proofs.Running.{LinesLaw, lines_more, run_more}
 use Rattle.replay_core.proofs.Scripts.{document_is, document_is_none, next_script, prepend_more, prepend_nothing, prepend_up_to, tells_by}
 
@@ -51,7 +51,7 @@ short_lines : (options : ReplayOptions) (left before now next : Option (List ℕ
 short_lines options left before now next done old s tells kept = record {
   text = lines_from 0 old.ledger.entries;
   due = inl (record { done = done; script = tells; history = old.ledger.entries; run = s.run; is = refl });
-  written = front_all before next (lines_from 0 old.ledger.entries) (appends_kept before now next (lines_from 0 old.ledger.entries) s.printed kept);
+  written = prefix_all before next (lines_from 0 old.ledger.entries) (appends_kept before now next (lines_from 0 old.ledger.entries) s.printed kept);
 }
 
 part_of : (options : ReplayOptions) (before now : Option (List ℕ)) (done : List (ℕ × Given)) (c : Given) (old new : Work) (n : ℕ) → Standing options before now done old → IsSound new.ledger → MetNext options c old new n
@@ -105,14 +105,14 @@ tells_before : (options : ReplayOptions) (left : Option (List ℕ)) (done more :
 tells_before options left done more tells bytes e = let t = tells bytes e in (prepend more t.0, t.1 ∙ sym (prepend_more done more t.0))
 
 -- the script as far as a command of a document
-tells_up_to : (options : ReplayOptions) (left : Option (List ℕ)) (done : List (ℕ × Given)) (at : ℕ) (document : List ℕ) (cs front : List Given) (c : Given) (back : List Given) → TellsDocument options left done at document
-    → reading options.attempts document ≡ readings.Asks cs → cs ≡ front ++ c ∷ back → TellsFirst options left ((done ++ at_each at front) ++ (at, c) ∷ [])
-tells_up_to options left done at document cs front c back tells is are bytes e =
+tells_up_to : (options : ReplayOptions) (left : Option (List ℕ)) (done : List (ℕ × Given)) (at : ℕ) (document : List ℕ) (cs prefix : List Given) (c : Given) (back : List Given) → TellsDocument options left done at document
+    → reading options.attempts document ≡ readings.Asks cs → cs ≡ prefix ++ c ∷ back → TellsFirst options left ((done ++ at_each at prefix) ++ (at, c) ∷ [])
+tells_up_to options left done at document cs prefix c back tells is are bytes e =
     let t = tells bytes e in (
       prepend (at_each at back) t.0,
       t.1 ∙ document_is done at (reading options.attempts document) cs t.0 is
           ∙ ap (λ (l : List Given). prepend (done ++ at_each at l) t.0) are
-          ∙ prepend_up_to done at front c back t.0,
+          ∙ prepend_up_to done at prefix c back t.0,
     )
 
 -- a command that wasn't done
@@ -165,9 +165,9 @@ pub document_stops : LinesLaw → (options : ReplayOptions) (left left_now befor
 document_stops lines options left left_now before now next done at document old new s standing tells sound (inl unread) =
     unread_ends options left left_now before now next done at document old s standing tells unread
 document_stops lines options left left_now before now next done at document old new s standing tells sound (inr (cs, is, stopped)) =
-    command_stops lines options left left_now before stopped.between next (done ++ at_each at stopped.front) at stopped.command stopped.work new s
+    command_stops lines options left left_now before stopped.between next (done ++ at_each at stopped.prefix) at stopped.command stopped.work new s
     (stopped.done.standing before done standing)
-    (tells_up_to options left done at document cs stopped.front stopped.command stopped.back tells is stopped.are) sound stopped.stops
+    (tells_up_to options left done at document cs stopped.prefix stopped.command stopped.back tells is stopped.are) sound stopped.stops
 
 -- what the script is where a document is next
 pub tells_document : (options : ReplayOptions) (left before written : Option (List ℕ)) (a b : Split) (left_a left_b : Option (List ℕ)) (work : Work) (doc : Document) → (p : Progress options left (remaining a left_a) before written a.at work)
@@ -203,7 +203,7 @@ memory_short options left now before written at work p = record {
     run = p.standing.run;
     is = refl;
   });
-  written = front_all before written (lines_from 0 work.ledger.entries) p.standing.printed;
+  written = prefix_all before written (lines_from 0 work.ledger.entries) p.standing.printed;
 }
 
 none_within : (attempts at : ℕ) (taken : List ℕ) → NoneWhole the_limits at taken → script_from attempts false at taken ≡ nothing Cut

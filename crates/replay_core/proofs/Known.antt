@@ -42,8 +42,8 @@ pub appends_front : (a b c : Option (List ℕ)) (x y : List ℕ) → Appends a b
 appends_front a b c x y p q = (length x + q.0, subst (λ (l : List ℕ). Appends a c l) (sym (take_over x y q.0)) (appends_more a b c x (take q.0 y) p q.1))
 
 -- all of it is a prefix
-pub front_all : (a b : Option (List ℕ)) (x : List ℕ) → Appends a b x → AppendsFront a b x
-front_all a b x p = (length x, subst (λ (l : List ℕ). Appends a b l) (sym (take_all (length x) x (omega arith))) p)
+pub prefix_all : (a b : Option (List ℕ)) (x : List ℕ) → Appends a b x → AppendsFront a b x
+prefix_all a b x p = (length x, subst (λ (l : List ℕ). Appends a b l) (sym (take_all (length x) x (omega arith))) p)
 
 -- what is left, where the bytes are known
 pub rest_of : (left now : Option (List ℕ)) (taken bytes : List ℕ) → Consumes left now taken → left ≡ Some bytes → (rest : List ℕ) × (bytes ≡ taken ++ rest) × (now ≡ Some rest)

@@ -5,9 +5,9 @@ use Rattle.std.specs.Prelude.{Option, drop}
 use Rattle.std.specs.Io.KnownBytes.{Appends}
 use Rattle.cluster.specs.declared.entry.Entry.{Entry}
 use Rattle.cluster.specs.declared.entry.JobState.TheVariants.{Fresh, Ended}
-use Rattle.cluster.specs.Events.{stand_after}
+use Rattle.cluster.specs.Events.{job_state_after}
 use Rattle.ledger_core.specs.Ledger.{History}
-use Rattle.cluster.specs.History.{stand_of}
+use Rattle.cluster.specs.History.{job_state_of}
 use Rattle.journal_text.specs.Journal.{lines_from}
 use Rattle.commands.specs.declared.given.Given.{Given}
 use Rattle.replay_core.specs.declared.work.Work.{Work}
@@ -23,7 +23,7 @@ use Rattle.replay_core.proofs.Scripts.{at_each_joined}
 
 -- the laws of histories and of lines, which the calls of lower crates state
 abbrev pub StandLaw : Type 0
-StandLaw = (h : List Entry) (e : Entry) (job : ℕ) → stand_of (h ++ e ∷ []) job ≡ cond (eqb e.job job) (stand_after (stand_of h job) (length h + 1) e.event) (stand_of h job)
+StandLaw = (h : List Entry) (e : Entry) (job : ℕ) → job_state_of (h ++ e ∷ []) job ≡ cond (eqb e.job job) (job_state_after (job_state_of h job) (length h + 1) e.event) (job_state_of h job)
 
 abbrev pub LinesLaw : Type 0
 LinesLaw = (n : ℕ) (xs ys : List Entry) → lines_from n (xs ++ ys) ≡ lines_from n xs ++ lines_from (n + length xs) ys
@@ -56,26 +56,26 @@ RunOf-more b done mid at c seg n is run job =
     (RunFrom-more b 0 [] (commands_of done) mid c seg run (subst (λ (k : ℕ). JobRun k c b mid seg) eq job))
 
 -- a job's entries leave the states of other jobs as they were
-pub own_only : StandLaw → (job : ℕ) (before seg : List Entry) (other : ℕ) → AllOwn job seg → (job ≡ other → ⊥) → stand_of (before ++ seg) other ≡ stand_of before other
+pub own_only : StandLaw → (job : ℕ) (before seg : List Entry) (other : ℕ) → AllOwn job seg → (job ≡ other → ⊥) → job_state_of (before ++ seg) other ≡ job_state_of before other
 unfolding AllOwn
-own_only law job before [] other own apart = ap (λ (h : List Entry). stand_of h other) (append-nil before)
+own_only law job before [] other own apart = ap (λ (h : List Entry). job_state_of h other) (append-nil before)
 own_only law job before (e ∷ es) other own apart =
     let differs : eqb e.job other ≡ false = ne_eqb e.job other (λ same. apart (sym own.0 ∙ same)) in
-    ap (λ (h : List Entry). stand_of h other) (sym (append_assoc before (e ∷ []) es))
+    ap (λ (h : List Entry). job_state_of h other) (sym (append_assoc before (e ∷ []) es))
     ∙ own_only law job (before ++ e ∷ []) es other own.1 apart
     ∙ law before e other
-    ∙ ap (λ (t : Bool). cond t (stand_after (stand_of before other) (length before + 1) e.event) (stand_of before other)) differs
+    ∙ ap (λ (t : Bool). cond t (job_state_after (job_state_of before other) (length before + 1) e.event) (job_state_of before other)) differs
 
-drop_front : (xs ys : List Entry) → drop (length xs) (xs ++ ys) ≡ ys
-drop_front [] ys = refl
-drop_front (x ∷ xs) ys = drop_front xs ys
+drop_prefix : (xs ys : List Entry) → drop (length xs) (xs ++ ys) ≡ ys
+drop_prefix [] ys = refl
+drop_prefix (x ∷ xs) ys = drop_prefix xs ys
 
 -- the lines of a history that grew
 pub lines_more : LinesLaw → (old new : History) (seg : List Entry) → new ≡ record old { entries = old.entries ++ seg }
     → lines_from 0 new.entries ≡ lines_from 0 old.entries ++ new_lines old new
 lines_more law old new seg is =
     let grown : new.entries ≡ old.entries ++ seg = ap (λ (h : History). h.entries) is in
-    let rest : drop (length old.entries) new.entries ≡ seg = ap (drop (length old.entries)) grown ∙ drop_front old.entries seg in
+    let rest : drop (length old.entries) new.entries ≡ seg = ap (drop (length old.entries)) grown ∙ drop_prefix old.entries seg in
     let zero : 0 + length old.entries ≡ length old.entries = omega arith in
     ap (lines_from 0) grown ∙ law 0 old.entries seg
     ∙ ap (λ (k : ℕ). lines_from 0 old.entries ++ lines_from k seg) zero
@@ -95,9 +95,9 @@ run_more options done at c old new run count same sound ran =
     }
 
 -- a job that had no entry and has ended has one
-has_entry : (before seg : List Entry) (job place : ℕ) → stand_of before job ≡ Fresh → stand_of (before ++ seg) job ≡ Ended place → 1 ≤ length seg
+has_entry : (before seg : List Entry) (job place : ℕ) → job_state_of before job ≡ Fresh → job_state_of (before ++ seg) job ≡ Ended place → 1 ≤ length seg
 has_entry before [] job place fresh ended =
-    let e : Fresh ≡ Ended place = sym fresh ∙ ap (λ (h : List Entry). stand_of h job) (sym (append-nil before)) ∙ ended in
+    let e : Fresh ≡ Ended place = sym fresh ∙ ap (λ (h : List Entry). job_state_of h job) (sym (append-nil before)) ∙ ended in
     absurd (cc)
 has_entry before (e ∷ es) job place fresh ended = omega arith
 
@@ -113,7 +113,7 @@ ready_more stands options c old new before after r did =
       fresh = λ job above.
           let past : old.commands < job = omega (arith, did.counted) in
           let apart : old.commands + 1 ≡ job → ⊥ = λ e. omega (arith, did.counted) in
-          ap (λ (h : List Entry). stand_of h job) grown
+          ap (λ (h : List Entry). job_state_of h job) grown
           ∙ own_only stands (old.commands + 1) old.ledger.entries ran.segment job ran.run.own apart
           ∙ r.fresh job past;
       few = omega (arith, did.counted, r.few, some, longer);
@@ -142,12 +142,12 @@ stands_first options old before = record {
 }
 
 -- and then one command more
-pub stands_more : StandLaw → LinesLaw → (options : ReplayOptions) (at : ℕ) (front : List Given) (c : Given) (old mid new : Work) (before now next : Option (List ℕ))
-    → StandsOn options (at_each at front) old mid before now → Did options c mid new now next → IsSound new.ledger → StandsOn options (at_each at (front ++ c ∷ [])) old new before next
-stands_more stands lines options at front c old mid new before now next on did sound = record {
+pub stands_more : StandLaw → LinesLaw → (options : ReplayOptions) (at : ℕ) (prefix : List Given) (c : Given) (old mid new : Work) (before now next : Option (List ℕ))
+    → StandsOn options (at_each at prefix) old mid before now → Did options c mid new now next → IsSound new.ledger → StandsOn options (at_each at (prefix ++ c ∷ [])) old new before next
+stands_more stands lines options at prefix c old mid new before now next on did sound = record {
   standing = λ start done s.
-      let joined : (done ++ at_each at front) ++ (at, c) ∷ [] ≡ done ++ at_each at (front ++ c ∷ []) =
-      append_assoc done (at_each at front) ((at, c) ∷ []) ∙ ap (λ (l : List (ℕ × Given)). done ++ l) (sym (at_each_joined at front (c ∷ []))) in
+      let joined : (done ++ at_each at prefix) ++ (at, c) ∷ [] ≡ done ++ at_each at (prefix ++ c ∷ []) =
+      append_assoc done (at_each at prefix) ((at, c) ∷ []) ∙ ap (λ (l : List (ℕ × Given)). done ++ l) (sym (at_each_joined at prefix (c ∷ []))) in
       subst (λ (l : List (ℕ × Given)). Standing options start next l new) joined
-      (standing_more stands lines options start now next (done ++ at_each at front) at c mid new (on.standing start done s) did sound);
+      (standing_more stands lines options start now next (done ++ at_each at prefix) at c mid new (on.standing start done s) did sound);
 }

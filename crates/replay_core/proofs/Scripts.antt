@@ -21,7 +21,7 @@ pub prepend_more : (done more : List (ℕ × Given)) (rest : Script) → prepend
 prepend_more done more rest =
     let P : List (ℕ × Given) → Script = λ cs. record { commands = cs; ending = rest.ending } in ap P (sym (append_assoc done more rest.commands))
 
-pub at_each_joined : (at : ℕ) (front back : List Given) → at_each at (front ++ back) ≡ at_each at front ++ at_each at back
+pub at_each_joined : (at : ℕ) (prefix back : List Given) → at_each at (prefix ++ back) ≡ at_each at prefix ++ at_each at back
 at_each_joined at [] back = refl
 at_each_joined at (c ∷ cs) back = ap (λ (l : List (ℕ × Given)). (at, c) ∷ l) (at_each_joined at cs back)
 
@@ -41,13 +41,13 @@ pub document_is_none : (done : List (ℕ × Given)) (at : ℕ) (r : Reading) (wh
 document_is_none done at r why rest is = ap (prepend done) (refused_is at r why rest is) ∙ prepend_nothing done (Bad at why)
 
 -- what goes before commands of which one is looked at
-pub prepend_up_to : (done : List (ℕ × Given)) (at : ℕ) (front : List Given) (c : Given) (back : List Given) (rest : Script)
-    → prepend (done ++ at_each at (front ++ c ∷ back)) rest ≡ prepend ((done ++ at_each at front) ++ (at, c) ∷ []) (prepend (at_each at back) rest)
-prepend_up_to done at front c back rest =
-    ap (λ (l : List (ℕ × Given)). prepend (done ++ l) rest) (at_each_joined at front (c ∷ back))
-    ∙ ap (λ (l : List (ℕ × Given)). prepend l rest) (sym (append_assoc done (at_each at front) ((at, c) ∷ at_each at back)))
-    ∙ ap (λ (l : List (ℕ × Given)). prepend l rest) (sym (append_assoc (done ++ at_each at front) ((at, c) ∷ []) (at_each at back)))
-    ∙ sym (prepend_more ((done ++ at_each at front) ++ (at, c) ∷ []) (at_each at back) rest)
+pub prepend_up_to : (done : List (ℕ × Given)) (at : ℕ) (prefix : List Given) (c : Given) (back : List Given) (rest : Script)
+    → prepend (done ++ at_each at (prefix ++ c ∷ back)) rest ≡ prepend ((done ++ at_each at prefix) ++ (at, c) ∷ []) (prepend (at_each at back) rest)
+prepend_up_to done at prefix c back rest =
+    ap (λ (l : List (ℕ × Given)). prepend (done ++ l) rest) (at_each_joined at prefix (c ∷ back))
+    ∙ ap (λ (l : List (ℕ × Given)). prepend l rest) (sym (append_assoc done (at_each at prefix) ((at, c) ∷ at_each at back)))
+    ∙ ap (λ (l : List (ℕ × Given)). prepend l rest) (sym (append_assoc (done ++ at_each at prefix) ((at, c) ∷ []) (at_each at back)))
+    ∙ sym (prepend_more ((done ++ at_each at prefix) ++ (at, c) ∷ []) (at_each at back) rest)
 
 -- one document on
 pub next_script : (attempts : ℕ) (a b : Split) (left_a left_b : Option (List ℕ)) (doc : Document) → (n : IsNext the_limits a b left_a left_b doc) → (ended : Bool) (more : List ℕ)

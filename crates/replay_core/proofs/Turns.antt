@@ -13,7 +13,7 @@ use Rattle.cluster.specs.declared.entry.Entry.{Entry}
 use Rattle.cluster.specs.declared.entry.JobState.TheVariants.{Fresh}
 use Rattle.ledger_core.specs.Ledger.{History}
 use Rattle.ledger_core.specs.Legal.{Legal, LegalAfter}
-use Rattle.cluster.specs.History.{stand_of}
+use Rattle.cluster.specs.History.{job_state_of}
 use Rattle.journal_text.specs.Journal.{lines_from}
 use Rattle.replay_core.specs.declared.options.ReplayOptions.{ReplayOptions}
 use Rattle.replay_core.specs.declared.status.Status.{Status}
@@ -85,7 +85,7 @@ begins_with None = tt
 begins_with (Some xs) = refl
 
 -- nothing was taken, and nothing done
-pub progress_begins : (options : ReplayOptions) (left before : Option (List ℕ)) (work : Work) → options.entries < 2 ^ 48 → ((job : ℕ) → stand_of [] job ≡ Fresh) → work.commands ≡ 0
+pub progress_begins : (options : ReplayOptions) (left before : Option (List ℕ)) (work : Work) → options.entries < 2 ^ 48 → ((job : ℕ) → job_state_of [] job ≡ Fresh) → work.commands ≡ 0
     → work.ledger ≡ record { entries = []; limit = options.entries } → Progress options left (prepend_known [] left) before before 0 work
 progress_begins options left before work small law none ledger =
     let entries : work.ledger.entries ≡ [] = ap (λ (h : History). h.entries) ledger in
@@ -98,7 +98,7 @@ progress_begins options left before work small law none ledger =
         run = subst (λ (h : List Entry). IsRun options [] h) (sym entries) (empty_run options);
         count_is = none;
         ready = record {
-          fresh = λ job above. ap (λ (h : List Entry). stand_of h job) entries ∙ law job;
+          fresh = λ job above. ap (λ (h : List Entry). job_state_of h job) entries ∙ law job;
           few = omega (arith, none);
           small = subst (λ (n : ℕ). n < 2 ^ 48) (sym (ap (λ (h : History). h.limit) ledger)) small;
         };

@@ -35,11 +35,11 @@ pub record IsComplete (s : State) (c : Run) (h : List Entry) (pod : Key) (p : Po
 
 -- After the entries of the commands before it come those of the Schedule, which are its job's run. If the pod is there
 -- and Idle when it begins, the job is complete.
-pub record Scheduled (budget : ℕ) (front : List Given) (pod : Key) (attempts : ℕ) (h : List Entry) : Type 0 where
+pub record Scheduled (budget : ℕ) (prefix : List Given) (pod : Key) (attempts : ℕ) (h : List Entry) : Type 0 where
   pub before : List Entry
   pub segment : List Entry
   pub rest : List Entry
   pub is : h ≡ (before ++ segment) ++ rest
-  pub earlier : RunOf budget front before
-  pub run : JobRun (length front + 1) (One (Schedule pod attempts)) budget before segment
-  pub complete : (p : PodState) → IsIdle (state_of before) pod p → IsComplete (state_of before) (run_after (length front + 1) (Schedule pod attempts) budget before) (before ++ segment) pod p
+  pub earlier : RunOf budget prefix before
+  pub run : JobRun (length prefix + 1) (One (Schedule pod attempts)) budget before segment
+  pub complete : (p : PodState) → IsIdle (state_of before) pod p → IsComplete (state_of before) (run_after (length prefix + 1) (Schedule pod attempts) budget before) (before ++ segment) pod p

@@ -2,7 +2,7 @@
 use Rattle.std.specs.Prelude.{ℕ, ◌≡◌, ◌≤◌, ◌<◌, ◌^◌, Bool, List, ◌++◌, Option, length}
 use Rattle.std.specs.Io.KnownBytes.{Appends, Consumes}
 use Rattle.cluster.specs.declared.entry.JobState.TheVariants.{Fresh}
-use Rattle.cluster.specs.History.{stand_of}
+use Rattle.cluster.specs.History.{job_state_of}
 use Rattle.ledger_core.specs.Legal.{Legal}
 use Rattle.ledger_core.specs.Ledger.{History}
 use Rattle.journal_text.specs.Journal.{lines_from}
@@ -14,7 +14,7 @@ use Rattle.replay_core.specs.Replay.{IsRun}
 
 -- no job after those of the commands done has an entry yet, and each of those has one
 pub record IsReady (work : Work) : Type 0 where
-  pub fresh : (job : ℕ) → work.commands < job → stand_of work.ledger.entries job ≡ Fresh
+  pub fresh : (job : ℕ) → work.commands < job → job_state_of work.ledger.entries job ≡ Fresh
   pub few : work.commands ≤ length work.ledger.entries
   pub small : work.ledger.limit < 2 ^ 48
 

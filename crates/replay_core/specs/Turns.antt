@@ -19,13 +19,13 @@ pub record StandsOn (options : ReplayOptions) (commands : List (ℕ × Given)) (
 
 -- of the commands at an offset those before one were done, and why that one wasn't
 pub record StoppedAmong (options : ReplayOptions) (at : ℕ) (commands : List Given) (old new : Work) (before after : Option (List ℕ)) (s : Status) : Type 0 where
-  pub front : List Given
+  pub prefix : List Given
   pub command : Given
   pub back : List Given
-  pub are : commands ≡ front ++ command ∷ back
+  pub are : commands ≡ prefix ++ command ∷ back
   pub work : Work
   pub between : Option (List ℕ)
-  pub done : StandsOn options (at_each at front) old work before between
+  pub done : StandsOn options (at_each at prefix) old work before between
   pub stops : Stops options at command work new between after s
 
 -- all commands of a document were done

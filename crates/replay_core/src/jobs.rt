@@ -1,6 +1,6 @@
 ghost use Rattle.std.specs.Prelude.{◌≡◌, ℕ, Err, OnOk, IsErrOf};
 ghost use Rattle.cluster.specs.declared.entry.JobState.TheVariants.{Fresh};
-ghost use Rattle.cluster.specs.History.{stand_of};
+ghost use Rattle.cluster.specs.History.{job_state_of};
 ghost use Rattle.replay_core.specs.Attempts.{MayTry};
 ghost use Rattle.replay_core.specs.Doing.{Met, Ran};
 ghost use Rattle.replay_core.specs.Forms.{command_of};
@@ -27,7 +27,7 @@ pub fn do_command(
     given: Given,
     budget: u64,
 ) -> Result<(), Stop>
-    requires fresh { stand_of ledger.old.entries job ≡ Fresh }
+    requires fresh { job_state_of ledger.old.entries job ≡ Fresh }
     requires attempts { MayTry given }
     ensures ran { OnOk result (Ran job given budget ledger.old ledger.new) }
     ensures not_yet { (form : Form) → IsErrOf result (Stop.NotYet form) → (command_of given ≡ Err form) × (ledger.new ≡ ledger.old) }

@@ -18,10 +18,10 @@ use sched_job::{alone_is_undisturbed, schedules_are_complete};
 /// In the run of commands with a budget, each plan and each verdict is what searches of the nodes
 /// within that budget return at its index.
 pub fn runs_search_within()
-    ensures plans { (budget : ℕ) (commands : List Given) (front back : List Entry) (job : ℕ) (pod : Key) (plan : Plan) →
-        RunOf budget commands (front ++ record { job = job; event = Event.Reserved pod plan } ∷ back) → PlanBy (state_at front plan.at) pod budget plan }
-    ensures verdicts { (budget : ℕ) (commands : List Given) (front back : List Entry) (job : ℕ) (pod : Key) (verdict : Verdict) →
-        RunOf budget commands (front ++ record { job = job; event = Event.VerdictGiven pod verdict } ∷ back) → VerdictBy (state_at front verdict.at) pod budget verdict }
+    ensures plans { (budget : ℕ) (commands : List Given) (prefix back : List Entry) (job : ℕ) (pod : Key) (plan : Plan) →
+        RunOf budget commands (prefix ++ record { job = job; event = Event.Reserved pod plan } ∷ back) → PlanBy (state_at prefix plan.at) pod budget plan }
+    ensures verdicts { (budget : ℕ) (commands : List Given) (prefix back : List Entry) (job : ℕ) (pod : Key) (verdict : Verdict) →
+        RunOf budget commands (prefix ++ record { job = job; event = Event.VerdictGiven pod verdict } ∷ back) → VerdictBy (state_at prefix verdict.at) pod budget verdict }
 {}
 
 /// In a legal history that is the run of commands with a budget, each Schedule that is a single command
@@ -29,8 +29,8 @@ pub fn runs_search_within()
 /// to the first node by name that fits in that state within the budget, or the one entry is the verdict
 /// that says why not.
 pub fn runs_are_complete()
-    ensures { (budget : ℕ) (front back : List Given) (pod : Key) (attempts : ℕ) (h : List Entry) → Legal h →
-        RunOf budget (front ++ Given.One (Command.Schedule pod attempts) ∷ back) h → Scheduled budget front pod attempts h }
+    ensures { (budget : ℕ) (prefix back : List Given) (pod : Key) (attempts : ℕ) (h : List Entry) → Legal h →
+        RunOf budget (prefix ++ Given.One (Command.Schedule pod attempts) ∷ back) h → Scheduled budget prefix pod attempts h }
 {
     alone_is_undisturbed();
     legal_steps();

@@ -42,7 +42,7 @@ get_past {X} (y ∷ before) rest k x e =
     let f : length (y ∷ before) + k ≡ suc (length before + k) = omega arith in
     ap (slice_get (y ∷ before ++ rest)) f ∙ get_past before rest k x e
 
-pub get_front : {X : Type 0} (front rest : List X) (k : ℕ) (x : X) → slice_get front k ≡ Some x → slice_get (front ++ rest) k ≡ Some x
-get_front [] rest k x e = absurd (cc)
-get_front (y ∷ front) rest zero x e = e
-get_front (y ∷ front) rest (suc k) x e = get_front front rest k x e
+pub get_prefix : {X : Type 0} (prefix rest : List X) (k : ℕ) (x : X) → slice_get prefix k ≡ Some x → slice_get (prefix ++ rest) k ≡ Some x
+get_prefix [] rest k x e = absurd (cc)
+get_prefix (y ∷ prefix) rest zero x e = e
+get_prefix (y ∷ prefix) rest (suc k) x e = get_prefix prefix rest k x e

@@ -11,7 +11,7 @@ use Rattle.request_rules.specs.Asked.{Asked, Wish, asked_by, asked_from, asked_s
 use Rattle.request_rules.specs.Lists.{add_some}
 use Rattle.request_rows.specs.Chosen.{chosen_rows, row_for_choice}
 use Rattle.request_rows.specs.Ways.{asked_exactly, is_exactly, nothing_asked, request_at, requests_from, ways_by, ways_from, ways_in}
-use Rattle.request_rows.proofs.Lists.{get_front, get_past, get_seam, map_length}
+use Rattle.request_rows.proofs.Lists.{get_prefix, get_past, get_seam, map_length}
 
 abbrev pub IsPicked : List Asked → Option ℕ → Option Asked → Type 0
 IsPicked asks None None = Unit {0}
@@ -43,7 +43,7 @@ one_sub : (asks before rest : List Asked) (q : Wish) (rs : List DeviceSubRequest
 one_sub asks before rest q rs first k true (Some s) e f g h =
     ap (λ (l : List Asked). slice_get l (first + k)) e
     ∙ ap (λ (n : ℕ). slice_get (before ++ (map (asked_sub q) rs ++ rest)) (n + k)) f
-    ∙ get_past before (map (asked_sub q) rs ++ rest) k (asked_sub q s) (get_front (map (asked_sub q) rs) rest k (asked_sub q s) (slice_get-map (asked_sub q) rs k ∙ ap (option_map (asked_sub q)) h))
+    ∙ get_past before (map (asked_sub q) rs ++ rest) k (asked_sub q s) (get_prefix (map (asked_sub q) rs) rest k (asked_sub q s) (slice_get-map (asked_sub q) rs k ∙ ap (option_map (asked_sub q)) h))
 one_sub asks before rest q rs first k true None e f g h = let n : k < length rs = grind (arith, nat_tests, g) in there_is rs k n h
 one_sub asks before rest q rs first k false (Some s) e f g h =
     let n : length rs ≤ k = grind (arith, nat_tests, g) in

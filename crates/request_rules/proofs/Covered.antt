@@ -102,9 +102,9 @@ covered-less w l p e =
     (ap (λ (n : ℕ). within w d.counter n) (sym (total-push w d.counter l p))
     ∙ all_at (λ c. within w c.counter (total w c.counter (l ++ p ∷ []))) (draws w q) (all_at t l old i q g) j d h)))
 
-covered-front : (w : SearchInput) (l m : List Pick) → covered w (l ++ m) ≡ true → covered w l ≡ true
-covered-front w l [] e = ap (covered w) (sym (append-nil l)) ∙ e
-covered-front w l (p ∷ m) e = covered-less w l p (covered-front w (l ++ p ∷ []) m (ap (covered w) (append_assoc l (p ∷ []) m) ∙ e))
+covered-prefix : (w : SearchInput) (l m : List Pick) → covered w (l ++ m) ≡ true → covered w l ≡ true
+covered-prefix w l [] e = ap (covered w) (sym (append-nil l)) ∙ e
+covered-prefix w l (p ∷ m) e = covered-less w l p (covered-prefix w (l ++ p ∷ []) m (ap (covered w) (append_assoc l (p ∷ []) m) ∙ e))
 
 after_by : (w : SearchInput) (before l : List Pick) (p : Pick) (b : Bool) → covers w before p ≡ b → covered w before ≡ true
     → (covered w (before ++ p ∷ []) ≡ true → each_after (covers w) (before ++ p ∷ []) l ≡ covered w ((before ++ p ∷ []) ++ l))
@@ -114,7 +114,7 @@ after_by w before l p true e c ih =
 after_by w before l p false e c ih =
     ap (λ (t : Bool). t && each_after (covers w) (before ++ p ∷ []) l) e
     ∙ sym (false_from (covered w (before ++ p ∷ l)) (λ h.
-    let f = covered-front w (before ++ p ∷ []) l (ap (covered w) (append_assoc before (p ∷ []) l) ∙ h) in
+    let f = covered-prefix w (before ++ p ∷ []) l (ap (covered w) (append_assoc before (p ∷ []) l) ∙ h) in
     let g = covered-push w before p c in
     let bad : true ≡ false = sym f ∙ g ∙ e in
     absurd (cc)))

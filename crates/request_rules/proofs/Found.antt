@@ -83,11 +83,11 @@ first_in w c fault e =
       after = g.after;
       requests_are = g.are;
       none_before = λ other k. record { none = λ d n why here says. no_fault other d (w.matched other.ask d) n why (first_some_none (fault_on w other) w.devices d (g.none other k) here) says };
-      front = h.before;
+      prefix = h.before;
       device = h.it;
       back = h.after;
       devices_are = h.are;
-      none_in_front = record { none = λ d n why here says. no_fault g.it d (w.matched g.it.ask d) n why (h.none d here) says };
+      none_in_prefix = record { none = λ d n why here says. no_fault g.it d (w.matched g.it.ask d) n why (h.none d here) says };
       says = t.says;
       claim_is = t.claim_is;
       request_is = t.request_is;

@@ -126,12 +126,12 @@ taken_nil : (asks : List Asked) → taken asks [] ≡ []
 taken_nil [] = refl
 taken_nil (a ∷ asks) = refl
 
-taken_split : (front back : List Asked) (parts : List (List ℕ)) → taken (front ++ back) parts ≡ taken front parts ++ taken back (drop (length front) parts)
+taken_split : (prefix back : List Asked) (parts : List (List ℕ)) → taken (prefix ++ back) parts ≡ taken prefix parts ++ taken back (drop (length prefix) parts)
 taken_split [] back parts = refl
-taken_split (a ∷ front) back [] = sym (taken_nil back)
-taken_split (a ∷ front) back (l ∷ ls) =
-    ap (λ (ps : List Pick). map (λ x. record { label = a.label; position = x }) l ++ ps) (taken_split front back ls)
-    ∙ sym (append_assoc (map (λ x. record { label = a.label; position = x }) l) (taken front ls) (taken back (drop (length front) ls)))
+taken_split (a ∷ prefix) back [] = sym (taken_nil back)
+taken_split (a ∷ prefix) back (l ∷ ls) =
+    ap (λ (ps : List Pick). map (λ x. record { label = a.label; position = x }) l ++ ps) (taken_split prefix back ls)
+    ∙ sym (append_assoc (map (λ x. record { label = a.label; position = x }) l) (taken prefix ls) (taken back (drop (length prefix) ls)))
 
 claim_taken : (i : ℕ) (asks : List Asked) (parts : List (List ℕ)) → Each (λ a. a.label.claim ≡ i) asks → Each (λ p. p.label.claim ≡ i) (taken asks parts)
 claim_taken i [] parts h j p e = absurd (cc)

@@ -48,16 +48,16 @@ pub all_from : {X : Type 0} (p : X → Bool) (l : List X) → ((i : ℕ) (x : X)
 all_from p [] h = refl
 all_from p (y ∷ l) h = both (p y) (list_all p l) (h 0 y refl) (all_from p l (λ i x k. h (suc i) x k))
 
-pub front_at : {X : Type 0} (p : X → Bool) (l : List X) (i : ℕ) → list_all p (take i l) ≡ true → (j : ℕ) (x : X) → j < i → slice_get l j ≡ Some x → p x ≡ true
-front_at p [] i e j x k h = absurd (cc)
-front_at p (y ∷ l) zero e j x k h = absurd (omega arith)
-front_at p (y ∷ l) (suc i) e zero x k h = let f : y ≡ x = cc in ap p (sym f) ∙ left_of (p y) (list_all p (take i l)) e
-front_at p (y ∷ l) (suc i) e (suc j) x k h = front_at p l i (right_of (p y) (list_all p (take i l)) e) j x (omega arith) h
+pub prefix_at : {X : Type 0} (p : X → Bool) (l : List X) (i : ℕ) → list_all p (take i l) ≡ true → (j : ℕ) (x : X) → j < i → slice_get l j ≡ Some x → p x ≡ true
+prefix_at p [] i e j x k h = absurd (cc)
+prefix_at p (y ∷ l) zero e j x k h = absurd (omega arith)
+prefix_at p (y ∷ l) (suc i) e zero x k h = let f : y ≡ x = cc in ap p (sym f) ∙ left_of (p y) (list_all p (take i l)) e
+prefix_at p (y ∷ l) (suc i) e (suc j) x k h = prefix_at p l i (right_of (p y) (list_all p (take i l)) e) j x (omega arith) h
 
-pub front_from : {X : Type 0} (p : X → Bool) (l : List X) (i : ℕ) → ((j : ℕ) (x : X) → j < i → slice_get l j ≡ Some x → p x ≡ true) → list_all p (take i l) ≡ true
-front_from p l zero h = refl
-front_from p [] (suc i) h = refl
-front_from p (y ∷ l) (suc i) h = both (p y) (list_all p (take i l)) (h 0 y (omega arith) refl) (front_from p l i (λ j x k e. h (suc j) x (omega arith) e))
+pub prefix_from : {X : Type 0} (p : X → Bool) (l : List X) (i : ℕ) → ((j : ℕ) (x : X) → j < i → slice_get l j ≡ Some x → p x ≡ true) → list_all p (take i l) ≡ true
+prefix_from p l zero h = refl
+prefix_from p [] (suc i) h = refl
+prefix_from p (y ∷ l) (suc i) h = both (p y) (list_all p (take i l)) (h 0 y (omega arith) refl) (prefix_from p l i (λ j x k e. h (suc j) x (omega arith) e))
 
 pub none_at : {X : Type 0} (p : X → Bool) (l : List X) → list_any p l ≡ false → (i : ℕ) (x : X) → slice_get l i ≡ Some x → p x ≡ false
 none_at p [] e i x h = absurd (cc)

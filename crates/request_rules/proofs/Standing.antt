@@ -16,7 +16,7 @@ use Rattle.request_rules.specs.Asked.{Rule, rules_of}
 use Rattle.request_rules.specs.Rules.{agrees, apart, covers, device_draws, draws, excludes, id_of, is_for, is_held, may_join, same_values, total, value_of, within}
 use Rattle.request_rules.specs.Allocation.{IsCovered, IsKept}
 use Rattle.request_rules.proofs.Tests.{left_of, right_of, both, either, implied, implies, is_false, is_true, false_from, not_both, not_both_from, or_left, or_right, same_number}
-use Rattle.request_rules.proofs.Places.{all_at, all_from, each_at, each_from, front_at, front_from, get-from_contains, none_at, none_from, Contains-from_get}
+use Rattle.request_rules.proofs.Places.{all_at, all_from, each_at, each_from, prefix_at, prefix_from, get-from_contains, none_at, none_from, Contains-from_get}
 use Rattle.request_rules.proofs.Covered.{covered, covered-after}
 
 pub record Standing (w : SearchInput) (ps : List Pick) : Type 0 where
@@ -115,14 +115,14 @@ kept_of : (w : SearchInput) (ps : List Pick) (r : Rule) → ((i : ℕ) (p : Pick
 kept_of w ps r h = record {
   present = λ i p g n. valued w r (take i ps) p (h i p g) n;
   same = λ i j p q k g e n m.
-      let one = front_at (λ z. not (is_for r z.label) || same_values (value_of w r z) (value_of w r q)) ps j (alike w r (take j ps) q (h j q e) m) i p k g in
+      let one = prefix_at (λ z. not (is_for r z.label) || same_values (value_of w r z) (value_of w r q)) ps j (alike w r (take j ps) q (h j q e) m) i p k g in
       equal_values (value_of w r p) (value_of w r q) (implied (is_for r p.label) (same_values (value_of w r p) (value_of w r q)) one n);
 }
 
 kept_from : (w : SearchInput) (ps : List Pick) (r : Rule) → IsKept w ps r → (i : ℕ) (p : Pick) → slice_get ps i ≡ Some p → agrees w r (take i ps) p ≡ true
 kept_from w ps r f i p g =
     agrees_from w r (take i ps) p (f.present i p g)
-    (λ n. front_from (λ z. not (is_for r z.label) || same_values (value_of w r z) (value_of w r p)) ps i
+    (λ n. prefix_from (λ z. not (is_for r z.label) || same_values (value_of w r z) (value_of w r p)) ps i
     (λ j q k e. implies (is_for r q.label) (same_values (value_of w r q) (value_of w r p))
     (λ m. same_values-from (value_of w r q) (value_of w r p) (f.same j i q p k e g m n) (f.present j q e m))))
 
@@ -133,7 +133,7 @@ neither_admin a b e f = both (not a) (not b) (is_true a e) (is_true b f)
 
 two_apart : (w : SearchInput) (ps : List Pick) → each_after (may_join w) [] ps ≡ true → EachTwo (λ p q. excludes p q ≡ true → id_of w p ≢ id_of w q) ps
 two_apart w ps e i j p q k g h x same =
-    let one = front_at (λ z. apart w z q) ps j (apart_of w (take j ps) q (each_at (may_join w) [] ps e j q h)) i p k g in
+    let one = prefix_at (λ z. apart w z q) ps j (apart_of w (take j ps) q (each_at (may_join w) [] ps e j q h)) i p k g in
     not_both (excludes p q) (device_eq (id_of w p) (id_of w q)) one x (equal_devices (id_of w p) (id_of w q) same)
 
 free_by : (w : SearchInput) (p : Pick) → (p.label.admin || not (is_held w p)) ≡ true → p.label.admin ≡ false → (holder : Key) → Contains w.held (id_of w p, holder) → ⊥
@@ -175,7 +175,7 @@ standing_from w ps f =
     let c : each_after (covers w) [] ps ≡ true = covered-after w [] ps refl ∙ covered_from w ps f.covered in
     each_from (may_join w) [] ps (λ i p g.
     joins_from w (take i ps) p
-    (front_from (λ q. apart w q p) ps i (λ j q k h. not_both_from (excludes q p) (device_eq (id_of w q) (id_of w p)) (λ x same.
+    (prefix_from (λ q. apart w q p) ps i (λ j q k h. not_both_from (excludes q p) (device_eq (id_of w q) (id_of w p)) (λ x same.
     let e = same_from_device_eq (id_of w q) (id_of w p) same in
     ⊎_elim
     (λ (t : eqb q.label.claim p.label.claim ≡ true). f.distinct j i q p k h g (eqb-true q.label.claim p.label.claim t) e)

@@ -48,11 +48,11 @@ pub record IsFirstFault (w : SearchInput) (c : List ℕ) (fault : FaultPlace) : 
   pub after : List Asked
   pub requests_are : asked w c ≡ before ++ request ∷ after
   pub none_before : (other : Asked) → Contains before other → GivesNone w other w.devices
-  pub front : List Offered
+  pub prefix : List Offered
   pub device : Offered
   pub back : List Offered
-  pub devices_are : w.devices ≡ front ++ device ∷ back
-  pub none_in_front : GivesNone w request front
+  pub devices_are : w.devices ≡ prefix ++ device ∷ back
+  pub none_in_prefix : GivesNone w request prefix
   pub says : w.matched request.ask device ≡ Fault fault.selector fault.cause
   pub claim_is : fault.claim ≡ request.key
   pub request_is : fault.request ≡ result_name request.label

@@ -20,12 +20,12 @@ and_assoc : (a b c : Bool) → (a && (b && c)) ≡ ((a && b) && c)
 and_assoc true b c = refl
 and_assoc false b c = refl
 
-pub each_after-front : {X : Type 0} (test : List X → X → Bool) (before l m : List X) → each_after test before (l ++ m) ≡ true → each_after test before l ≡ true
-each_after-front test before [] m e = refl
-each_after-front test before (y ∷ l) m e =
+pub each_after-prefix : {X : Type 0} (test : List X → X → Bool) (before l m : List X) → each_after test before (l ++ m) ≡ true → each_after test before l ≡ true
+each_after-prefix test before [] m e = refl
+each_after-prefix test before (y ∷ l) m e =
     both (test before y) (each_after test (before ++ y ∷ []) l)
     (left_of (test before y) (each_after test (before ++ y ∷ []) (l ++ m)) e)
-    (each_after-front test (before ++ y ∷ []) l m (right_of (test before y) (each_after test (before ++ y ∷ []) (l ++ m)) e))
+    (each_after-prefix test (before ++ y ∷ []) l m (right_of (test before y) (each_after test (before ++ y ∷ []) (l ++ m)) e))
 
 pub picks-append : (ss : List Slot) (l m : List ℕ) → picks ss (l ++ m) ≡ picks ss l ++ picks (drop (length l) ss) m
 picks-append [] [] m = refl
@@ -41,14 +41,14 @@ fills-append w least (s ∷ ss) (x ∷ l) m =
     ap (λ (t : Bool). fills w s least x && t) (fills-append w (x + 1) ss l m)
     ∙ and_assoc (fills w s least x) (each_fills w (x + 1) ss l) (each_fills w (least_after (x + 1) l) (drop (length l) ss) m)
 
-pub good-front : (w : SearchInput) (ss : List Slot) (l m : List ℕ) → is_good w ss (l ++ m) ≡ true → is_good w ss l ≡ true
+pub good-prefix : (w : SearchInput) (ss : List Slot) (l m : List ℕ) → is_good w ss (l ++ m) ≡ true → is_good w ss l ≡ true
 unfolding is_good
-good-front w ss l m e =
+good-prefix w ss l m e =
     let f = left_of (each_fills w 0 ss (l ++ m)) (each_after (may_join w) [] (picks ss (l ++ m))) e in
     let g = right_of (each_fills w 0 ss (l ++ m)) (each_after (may_join w) [] (picks ss (l ++ m))) e in
     both (each_fills w 0 ss l) (each_after (may_join w) [] (picks ss l))
     (left_of (each_fills w 0 ss l) (each_fills w (least_after 0 l) (drop (length l) ss) m) (sym (fills-append w 0 ss l m) ∙ f))
-    (each_after-front (may_join w) [] (picks ss l) (picks (drop (length l) ss) m) (ap (each_after (may_join w) []) (sym (picks-append ss l m)) ∙ g))
+    (each_after-prefix (may_join w) [] (picks ss l) (picks (drop (length l) ss) m) (ap (each_after (may_join w) []) (sym (picks-append ss l m)) ∙ g))
 
 pub good-nil : (w : SearchInput) (ss : List Slot) → is_good w ss [] ≡ true
 unfolding is_good

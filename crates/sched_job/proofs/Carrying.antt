@@ -12,7 +12,7 @@ use Rattle.cluster.specs.declared.entry.Entry.{Entry}
 use Rattle.cluster.specs.declared.entry.Event.{Event}
 use Rattle.cluster.specs.declared.entry.Event.TheVariants.{Applied, Deleted, Reserved, Refused, Wrote, Conflict, Unreserved, Bound, VerdictGiven, Contended, Released, Adopted, Denied}
 use Rattle.cluster.specs.declared.entry.JobState.{JobState}
-use Rattle.cluster.specs.declared.entry.JobState.TheVariants as stand
+use Rattle.cluster.specs.declared.entry.JobState.TheVariants as job_state
 use Rattle.cluster.specs.declared.entry.Refusal.{Refusal}
 use Rattle.cluster.specs.declared.plan.Plan.{Plan}
 use Rattle.cluster.specs.declared.plan.Verdict.{Verdict}
@@ -20,8 +20,8 @@ use Rattle.cluster.specs.declared.state.Phase.TheVariants.{Taken}
 use Rattle.cluster.specs.declared.state.PodState.{PodState}
 use Rattle.cluster.specs.declared.state.State.{State}
 use Rattle.cluster.specs.Denied.{or_else, phase_refusal, schedule_refusal}
-use Rattle.cluster.specs.Events.{after, allows, stand_after}
-use Rattle.cluster.specs.History.{state_at, state_of, stand_of}
+use Rattle.cluster.specs.Events.{after, allows, job_state_after}
+use Rattle.cluster.specs.History.{state_at, state_of, job_state_of}
 use Rattle.cluster.specs.Reserved.{with_reserved}
 use Rattle.cluster.specs.State.{claims_of, has_written}
 use Rattle.cluster.specs.Wrote.{with_written}
@@ -32,22 +32,22 @@ use Rattle.alloc_rules.specs.Plans.{IsIdle, PlanBy, PlanTrue, VerdictBy, Verdict
 use Rattle.ledger_core.specs.Bound.{MayBind}
 use Rattle.ledger_core.specs.Denied.{MayDeny}
 use Rattle.ledger_core.specs.GoesOn.{GoesOn}
-use Rattle.ledger_core.specs.Legal.{Legal, MayStand, Step}
+use Rattle.ledger_core.specs.Legal.{Legal, MayFollow, Step}
 use Rattle.ledger_core.specs.Wrote.{MayWrite}
 use Rattle.commands.specs.declared.command.Command.TheVariants.{Schedule}
 use Rattle.sched_job.specs.Alone.{Alone, NeverSetBack, is_setback}
 use Rattle.sched_job.specs.Complete.{CarriesOut, Decided, IsWrite, RanAlone, own}
 use Rattle.sched_job.specs.Histories.{Each}
 use Rattle.sched_job.specs.Runs.{Run, JobKept, JobStep, IsTry, attempts_of, denied_command}
-use Rattle.sched_job.proofs.Growing.{Grows, stand_other, stand_own}
+use Rattle.sched_job.proofs.Growing.{Grows, job_state_other, job_state_own}
 
 -- what is used of the lower crates, and of this one's law
 pub record Laws : Type 0 where
   pub grows : Grows
   pub state : (h : List Entry) (e : Entry) → state_of (h ++ e ∷ []) ≡ after (length h + 1) e.job e.event (state_of h)
-  pub fresh : (job : ℕ) → stand_of [] job ≡ stand.Fresh
+  pub fresh : (job : ℕ) → job_state_of [] job ≡ job_state.Fresh
   pub goes : (s : State) (pod : Key) (plan : Plan) (job : ℕ) (t : PlanTrue s pod plan) → GoesOn (with_reserved job pod plan s) pod job plan.node (claims_of t.state)
-  pub step : (front : List Entry) (e : Entry) (back : List Entry) → Legal (front ++ e ∷ back) → Step front e
+  pub step : (prefix : List Entry) (e : Entry) (back : List Entry) → Legal (prefix ++ e ∷ back) → Step prefix e
   pub never : (c : Run) (h : List Entry) → Legal h → JobKept c h → Alone c.job c.from h → NeverSetBack c.job h
 
 -- ---- how far the job has come
@@ -56,14 +56,14 @@ pub record Laws : Type 0 where
 record HasReserved (c : Run) (pod : Key) (s : State) (p : PodState) (before : List Entry) : Type 0 where
   plan : Plan
   is : IsReserve s pod c.budget c.from plan
-  front : List Entry
-  len : length front ≡ c.from
+  prefix : List Entry
+  len : length prefix ≡ c.from
   done : List Key
   left : List Key
   claims : claims_of p ≡ done ++ left
   writes : List Entry
   each : AllZip (λ k e. IsWrite c pod k e) done writes
-  now : before ≡ front ++ own c (Reserved pod plan) ∷ writes
+  now : before ≡ prefix ++ own c (Reserved pod plan) ∷ writes
   goes : GoesOn (state_of before) pod c.job plan.node left
 
 record HasBound (c : Run) (pod : Key) (p : PodState) (plan : Plan) (added : List Entry) : Type 0 where
@@ -79,25 +79,25 @@ HasMade c pod p added (Judge verdict) = added ≡ own c (VerdictGiven pod verdic
 record HasEnded (c : Run) (pod : Key) (s : State) (p : PodState) (before : List Entry) : Type 0 where
   choice : Decision
   is : IsDecision s pod c.budget c.from choice
-  front : List Entry
-  len : length front ≡ c.from
+  prefix : List Entry
+  len : length prefix ≡ c.from
   added : List Entry
-  now : before ≡ front ++ added
+  now : before ≡ prefix ++ added
   out : HasMade c pod p added choice
 
 abbrev Far : Run → Key → State → PodState → List Entry → JobState → Type 0
-Far c pod s p before stand.Fresh = length before ≤ c.from
-Far c pod s p before (stand.Reserved k) = HasReserved c pod s p before
-Far c pod s p before (stand.Conflicted k) = ⊥
-Far c pod s p before (stand.Failed k) = ⊥
-Far c pod s p before (stand.Ended place) = HasEnded c pod s p before
+Far c pod s p before job_state.Fresh = length before ≤ c.from
+Far c pod s p before (job_state.Reserved k) = HasReserved c pod s p before
+Far c pod s p before (job_state.Conflicted k) = ⊥
+Far c pod s p before (job_state.Failed k) = ⊥
+Far c pod s p before (job_state.Ended place) = HasEnded c pod s p before
 
 -- all that is said of an entry of the job
 record IsNext (c : Run) (pod : Key) (attempts : ℕ) (s : State) (p : PodState) (before : List Entry) (ev : Event) : Type 0 where
   command : c.command ≡ Schedule pod attempts
   idle : IsIdle s pod p
   begun : length before ≡ c.from → state_of before ≡ s
-  stands : MayStand before c.job ev
+  stands : MayFollow before c.job ev
   kept : JobStep c before ev
   fine : is_setback ev ≡ false
 
@@ -118,8 +118,8 @@ node_is : (i j : ℕ) (m n : List ℕ) → Taken i m ≡ Taken j n → m ≡ n
 node_is i j m n e = cc
 
 -- one entry more behind those that are told apart
-one_more : (before front : List Entry) (r : Entry) (writes : List Entry) (e : Entry) → before ≡ front ++ r ∷ writes → before ++ e ∷ [] ≡ front ++ r ∷ (writes ++ e ∷ [])
-one_more before front r writes e is = ap (λ (l : List Entry). l ++ e ∷ []) is ∙ append_assoc front (r ∷ writes) (e ∷ [])
+one_more : (before prefix : List Entry) (r : Entry) (writes : List Entry) (e : Entry) → before ≡ prefix ++ r ∷ writes → before ++ e ∷ [] ≡ prefix ++ r ∷ (writes ++ e ∷ [])
+one_more before prefix r writes e is = ap (λ (l : List Entry). l ++ e ∷ []) is ∙ append_assoc prefix (r ∷ writes) (e ∷ [])
 
 -- ---- the first entry
 
@@ -138,7 +138,7 @@ reserves laws c pod attempts s p before q plan a len same =
     let made : HasReserved c pod s p (before ++ own c (Reserved pod plan) ∷ []) = record {
       plan = plan;
       is = record { place = at; holds = true_pod; found = subst (λ (k : Key). PlanBy s k c.budget plan) same by_q };
-      front = before;
+      prefix = before;
       len = len;
       done = [];
       left = claims_of p;
@@ -158,7 +158,7 @@ judges c pod attempts s p before q verdict a len same =
     let made : HasEnded c pod s p (before ++ own c (VerdictGiven pod verdict) ∷ []) = record {
       choice = Judge verdict;
       is = record { place = at; holds = subst (λ (k : Key). VerdictTrue s k verdict) same true_q; found = subst (λ (k : Key). VerdictBy s k c.budget verdict) same by_q };
-      front = before;
+      prefix = before;
       len = len;
       added = own c (VerdictGiven pod verdict) ∷ [];
       now = refl;
@@ -189,8 +189,8 @@ never_denied c pod attempts s p before command refusal a len =
     let d : MayDeny (state_of before) command refusal = a.stands in
     not_denied s pod p refusal a.idle (subst (λ (x : Asked). MayDeny s x refusal) is (subst (λ (t : State). MayDeny t command refusal) (a.begun len) d))
 
-fresh_far : Laws → (c : Run) (pod : Key) (attempts : ℕ) (s : State) (p : PodState) (before : List Entry) (place : ℕ) (ev : Event) → IsNext c pod attempts s p before ev → length before ≤ c.from → allows stand.Fresh ev ≡ true
-    → Far c pod s p (before ++ own c ev ∷ []) (stand_after stand.Fresh place ev)
+fresh_far : Laws → (c : Run) (pod : Key) (attempts : ℕ) (s : State) (p : PodState) (before : List Entry) (place : ℕ) (ev : Event) → IsNext c pod attempts s p before ev → length before ≤ c.from → allows job_state.Fresh ev ≡ true
+    → Far c pod s p (before ++ own c ev ∷ []) (job_state_after job_state.Fresh place ev)
 fresh_far laws c pod attempts s p before place (Applied object mode) a le may = let e = a.kept.of_command ∙ a.command in absurd cc
 fresh_far laws c pod attempts s p before place (Deleted target) a le may = let e = a.kept.of_command ∙ a.command in absurd cc
 fresh_far laws c pod attempts s p before place (Reserved q plan) a le may =
@@ -261,42 +261,42 @@ last_bind s pod job node other (k ∷ ks) goes may =
     subst (λ (x : PodState). find (λ k. not (has_written s pod k)) (claims_of x) ≡ Some k) one goes.0.next in
     absurd (some_none k (find (λ k. not (has_written s pod k)) (claims_of may.state)) next (none_left (λ k. has_written s pod k) (claims_of may.state) may.written))
 
-writes_more : Laws → (c : Run) (pod : Key) (s : State) (p : PodState) (before : List Entry) (q claim : Key) (seen : ℕ) → HasReserved c pod s p before → q ≡ pod → MayStand before c.job (Wrote q claim seen) → HasReserved c pod s p (before ++ own c (Wrote q claim seen) ∷ [])
+writes_more : Laws → (c : Run) (pod : Key) (s : State) (p : PodState) (before : List Entry) (q claim : Key) (seen : ℕ) → HasReserved c pod s p before → q ≡ pod → MayFollow before c.job (Wrote q claim seen) → HasReserved c pod s p (before ++ own c (Wrote q claim seen) ∷ [])
 writes_more laws c pod s p before q claim seen r same may =
     let e : Entry = own c (Wrote pod claim seen) in
     let first = next_write (state_of before) pod c.job r.plan.node claim seen r.left r.goes (subst (λ (k : Key). MayWrite (state_of before) k c.job claim seen) same may) in
     let made : HasReserved c pod s p (before ++ own c (Wrote pod claim seen) ∷ []) = record {
       plan = r.plan;
       is = r.is;
-      front = r.front;
+      prefix = r.prefix;
       len = r.len;
       done = r.done ++ claim ∷ [];
       left = first.rest;
       claims = r.claims ∙ ap (λ (l : List Key). r.done ++ l) first.is ∙ sym (append_assoc r.done (claim ∷ []) first.rest);
       writes = r.writes ++ e ∷ [];
       each = zip_push (λ k x. IsWrite c pod k x) r.done r.writes claim e r.each (record { seen = seen; is = refl });
-      now = one_more before r.front (own c (Reserved pod r.plan)) r.writes e r.now;
+      now = one_more before r.prefix (own c (Reserved pod r.plan)) r.writes e r.now;
       goes = subst (λ (t : State). GoesOn t pod c.job r.plan.node first.rest) (sym (laws.state before e)) (first.goes (length before + 1));
     } in subst (λ (k : Key). HasReserved c pod s p (before ++ own c (Wrote k claim seen) ∷ [])) (sym same) made
 
-binds : (c : Run) (pod : Key) (s : State) (p : PodState) (before : List Entry) (q : Key) (node : List ℕ) → HasReserved c pod s p before → q ≡ pod → MayStand before c.job (Bound q node) → HasEnded c pod s p (before ++ own c (Bound q node) ∷ [])
+binds : (c : Run) (pod : Key) (s : State) (p : PodState) (before : List Entry) (q : Key) (node : List ℕ) → HasReserved c pod s p before → q ≡ pod → MayFollow before c.job (Bound q node) → HasEnded c pod s p (before ++ own c (Bound q node) ∷ [])
 binds c pod s p before q node r same may =
     let last = last_bind (state_of before) pod c.job r.plan.node node r.left r.goes (subst (λ (k : Key). MayBind (state_of before) k c.job node) same may) in
     let claims : r.done ≡ claims_of p = sym (r.claims ∙ ap (λ (l : List Key). r.done ++ l) last.0 ∙ append-nil r.done) in
     let made : HasEnded c pod s p (before ++ own c (Bound pod r.plan.node) ∷ []) = record {
       choice = Reserve r.plan;
       is = r.is;
-      front = r.front;
+      prefix = r.prefix;
       len = r.len;
       added = own c (Reserved pod r.plan) ∷ (r.writes ++ own c (Bound pod r.plan.node) ∷ []);
-      now = one_more before r.front (own c (Reserved pod r.plan)) r.writes (own c (Bound pod r.plan.node)) r.now;
+      now = one_more before r.prefix (own c (Reserved pod r.plan)) r.writes (own c (Bound pod r.plan.node)) r.now;
       out = record { writes = r.writes; each = subst (λ (ks : List Key). AllZip (λ k e. IsWrite c pod k e) ks r.writes) claims r.each; entries = refl };
     } in
     subst (λ (k : Key). HasEnded c pod s p (before ++ own c (Bound k node) ∷ [])) (sym same)
     (subst (λ (n : List ℕ). HasEnded c pod s p (before ++ own c (Bound pod n) ∷ [])) (sym last.1) made)
 
-reserved_far : Laws → (c : Run) (pod : Key) (attempts : ℕ) (s : State) (p : PodState) (before : List Entry) (place k : ℕ) (ev : Event) → IsNext c pod attempts s p before ev → HasReserved c pod s p before → allows (stand.Reserved k) ev ≡ true
-    → Far c pod s p (before ++ own c ev ∷ []) (stand_after (stand.Reserved k) place ev)
+reserved_far : Laws → (c : Run) (pod : Key) (attempts : ℕ) (s : State) (p : PodState) (before : List Entry) (place k : ℕ) (ev : Event) → IsNext c pod attempts s p before ev → HasReserved c pod s p before → allows (job_state.Reserved k) ev ≡ true
+    → Far c pod s p (before ++ own c ev ∷ []) (job_state_after (job_state.Reserved k) place ev)
 reserved_far laws c pod attempts s p before place k (Applied object mode) a r may = absurd cc
 reserved_far laws c pod attempts s p before place k (Deleted target) a r may = absurd cc
 reserved_far laws c pod attempts s p before place k (Reserved q plan) a r may = absurd cc
@@ -312,7 +312,7 @@ reserved_far laws c pod attempts s p before place k (Adopted claim status) a r m
 reserved_far laws c pod attempts s p before place k (Denied command refusal) a r may = absurd cc
 
 -- a job that has ended makes no entry
-none_ended : (place : ℕ) (ev : Event) → allows (stand.Ended place) ev ≡ true → ⊥
+none_ended : (place : ℕ) (ev : Event) → allows (job_state.Ended place) ev ≡ true → ⊥
 none_ended place (Applied object mode) may = cc
 none_ended place (Deleted target) may = cc
 none_ended place (Reserved q plan) may = cc
@@ -330,25 +330,25 @@ none_ended place (Denied command refusal) may = cc
 -- ---- entry after entry
 
 own_far : Laws → (c : Run) (pod : Key) (attempts : ℕ) (s : State) (p : PodState) (before : List Entry) (st : JobState) (place : ℕ) (ev : Event) → IsNext c pod attempts s p before ev → Far c pod s p before st → allows st ev ≡ true
-    → Far c pod s p (before ++ own c ev ∷ []) (stand_after st place ev)
-own_far laws c pod attempts s p before stand.Fresh place ev a far may = fresh_far laws c pod attempts s p before place ev a far may
-own_far laws c pod attempts s p before (stand.Reserved k) place ev a far may = reserved_far laws c pod attempts s p before place k ev a far may
-own_far laws c pod attempts s p before (stand.Conflicted k) place ev a far may = absurd far
-own_far laws c pod attempts s p before (stand.Failed k) place ev a far may = absurd far
-own_far laws c pod attempts s p before (stand.Ended n) place ev a far may = absurd (none_ended n ev may)
+    → Far c pod s p (before ++ own c ev ∷ []) (job_state_after st place ev)
+own_far laws c pod attempts s p before job_state.Fresh place ev a far may = fresh_far laws c pod attempts s p before place ev a far may
+own_far laws c pod attempts s p before (job_state.Reserved k) place ev a far may = reserved_far laws c pod attempts s p before place k ev a far may
+own_far laws c pod attempts s p before (job_state.Conflicted k) place ev a far may = absurd far
+own_far laws c pod attempts s p before (job_state.Failed k) place ev a far may = absurd far
+own_far laws c pod attempts s p before (job_state.Ended n) place ev a far may = absurd (none_ended n ev may)
 
 -- before the job begins it has no entry
 early_far : (c : Run) (pod : Key) (s : State) (p : PodState) (before : List Entry) (e : Entry) (st : JobState) → Far c pod s p before st → length before < c.from → Far c pod s p (before ++ e ∷ []) st
-early_far c pod s p before e stand.Fresh far small = omega (arith, length-append before (e ∷ []))
-early_far c pod s p before e (stand.Reserved k) far small = absurd (
+early_far c pod s p before e job_state.Fresh far small = omega (arith, length-append before (e ∷ []))
+early_far c pod s p before e (job_state.Reserved k) far small = absurd (
     let l = ap length far.now in
-    let m = far.len in omega (arith, length-append far.front (own c (Reserved pod far.plan) ∷ far.writes))
+    let m = far.len in omega (arith, length-append far.prefix (own c (Reserved pod far.plan) ∷ far.writes))
     )
-early_far c pod s p before e (stand.Conflicted k) far small = absurd far
-early_far c pod s p before e (stand.Failed k) far small = absurd far
-early_far c pod s p before e (stand.Ended place) far small = absurd (
+early_far c pod s p before e (job_state.Conflicted k) far small = absurd far
+early_far c pod s p before e (job_state.Failed k) far small = absurd far
+early_far c pod s p before e (job_state.Ended place) far small = absurd (
     let l = ap length far.now in
-    let m = far.len in omega (arith, length-append far.front far.added)
+    let m = far.len in omega (arith, length-append far.prefix far.added)
     )
 
 -- the state in which the job begins is that after the first entries
@@ -358,14 +358,14 @@ begins_at c before es s is len =
     let all : take c.from before ≡ before = take_all c.from before (omega arith) in
     sym (is ∙ ap state_of (take-append-le c.from before es le ∙ all))
 
-own_step : Laws → (c : Run) (pod : Key) (attempts : ℕ) (s : State) (p : PodState) (before : List Entry) (e : Entry) → IsNext c pod attempts s p before e.event → e.job ≡ c.job → Step before e → Far c pod s p before (stand_of before c.job)
-    → Far c pod s p (before ++ e ∷ []) (stand_of (before ++ e ∷ []) c.job)
+own_step : Laws → (c : Run) (pod : Key) (attempts : ℕ) (s : State) (p : PodState) (before : List Entry) (e : Entry) → IsNext c pod attempts s p before e.event → e.job ≡ c.job → Step before e → Far c pod s p before (job_state_of before c.job)
+    → Far c pod s p (before ++ e ∷ []) (job_state_of (before ++ e ∷ []) c.job)
 own_step laws c pod attempts s p before e a mine step far =
-    let may : allows (stand_of before c.job) e.event ≡ true = subst (λ (n : ℕ). allows (stand_of before n) e.event ≡ true) mine step.allowed in
-    let r = own_far laws c pod attempts s p before (stand_of before c.job) (length before + 1) e.event a far may in
+    let may : allows (job_state_of before c.job) e.event ≡ true = subst (λ (n : ℕ). allows (job_state_of before n) e.event ≡ true) mine step.allowed in
+    let r = own_far laws c pod attempts s p before (job_state_of before c.job) (length before + 1) e.event a far may in
     let same : ◌≡◌ {A = Entry} e (own c e.event) = ap (λ (n : ℕ). record { job = n; event = e.event }) mine in
-    subst (λ (st : JobState). Far c pod s p (before ++ e ∷ []) st) (sym (stand_own laws.grows before e c.job mine))
-    (subst (λ (x : Entry). Far c pod s p (before ++ x ∷ []) (stand_after (stand_of before c.job) (length before + 1) e.event)) (sym same) r)
+    subst (λ (st : JobState). Far c pod s p (before ++ e ∷ []) st) (sym (job_state_own laws.grows before e c.job mine))
+    (subst (λ (x : Entry). Far c pod s p (before ++ x ∷ []) (job_state_after (job_state_of before c.job) (length before + 1) e.event)) (sym same) r)
 
 eqb_cases : (a b : ℕ) → (a ≡ b → ⊥) → eqb a b ≡ false
 eqb_cases a b differ = pick (eqb a b) refl
@@ -382,53 +382,53 @@ record At (c : Run) (before : List Entry) (e : Entry) : Type 0 where
   fine : e.job ≡ c.job → is_setback e.event ≡ false
 
 one_step : Laws → (c : Run) (pod : Key) (attempts : ℕ) (s : State) (p : PodState) (before : List Entry) (e : Entry) → c.command ≡ Schedule pod attempts → IsIdle s pod p → (length before ≡ c.from → state_of before ≡ s) → At c before e
-    → Far c pod s p before (stand_of before c.job) → Far c pod s p (before ++ e ∷ []) (stand_of (before ++ e ∷ []) c.job)
+    → Far c pod s p before (job_state_of before c.job) → Far c pod s p (before ++ e ∷ []) (job_state_of (before ++ e ∷ []) c.job)
 one_step laws c pod attempts s p before e command idle begun a far = pick (nat_le c.from (length before)) refl
   where
-    pick : (b : Bool) → nat_le c.from (length before) ≡ b → Far c pod s p (before ++ e ∷ []) (stand_of (before ++ e ∷ []) c.job)
+    pick : (b : Bool) → nat_le c.from (length before) ≡ b → Far c pod s p (before ++ e ∷ []) (job_state_of (before ++ e ∷ []) c.job)
     pick true t =
         let mine : e.job ≡ c.job = a.alone (leb-true c.from (length before) t) in
-        let stands : MayStand before c.job e.event = subst (λ (n : ℕ). MayStand before n e.event) mine a.step.stands in
+        let stands : MayFollow before c.job e.event = subst (λ (n : ℕ). MayFollow before n e.event) mine a.step.stands in
         own_step laws c pod attempts s p before e (record { command = command; idle = idle; begun = begun; stands = stands; kept = a.kept mine; fine = a.fine mine }) mine a.step far
     pick false t =
         let small : length before < c.from = grind (arith, nat_tests) in
         let differ : e.job ≡ c.job → ⊥ = λ mine. let le = (a.kept mine).after in absurd (omega arith) in
-        subst (λ (st : JobState). Far c pod s p (before ++ e ∷ []) st) (sym (stand_other laws.grows before e c.job (eqb_cases e.job c.job differ))) (early_far c pod s p before e (stand_of before c.job) far small)
+        subst (λ (st : JobState). Far c pod s p (before ++ e ∷ []) st) (sym (job_state_other laws.grows before e c.job (eqb_cases e.job c.job differ))) (early_far c pod s p before e (job_state_of before c.job) far small)
 
 far_from : Laws → (c : Run) (pod : Key) (attempts : ℕ) (s : State) (p : PodState) (before es : List Entry) → c.command ≡ Schedule pod attempts → IsIdle s pod p → s ≡ state_at (before ++ es) c.from → Legal (before ++ es)
     → Each (λ b e. e.job ≡ c.job → JobStep c b e.event) before es → Each (λ b e. c.from ≤ length b → e.job ≡ c.job) before es → Each (λ b e. e.job ≡ c.job → is_setback e.event ≡ false) before es
-    → Far c pod s p before (stand_of before c.job) → Far c pod s p (before ++ es) (stand_of (before ++ es) c.job)
+    → Far c pod s p before (job_state_of before c.job) → Far c pod s p (before ++ es) (job_state_of (before ++ es) c.job)
 unfolding Each
-far_from laws c pod attempts s p before [] command idle is legal kept alone never far = subst (λ (h : List Entry). Far c pod s p h (stand_of h c.job)) (sym (append-nil before)) far
+far_from laws c pod attempts s p before [] command idle is legal kept alone never far = subst (λ (h : List Entry). Far c pod s p h (job_state_of h c.job)) (sym (append-nil before)) far
 far_from laws c pod attempts s p before (e ∷ es) command idle is legal kept alone never far =
     let next = one_step laws c pod attempts s p before e command idle (begins_at c before (e ∷ es) s is) (record { step = laws.step before e es legal; kept = kept.0; alone = alone.0; fine = never.0 }) far in
     let whole : (before ++ e ∷ []) ++ es ≡ before ++ e ∷ es = append_assoc before (e ∷ []) es in
-    subst (λ (h : List Entry). Far c pod s p h (stand_of h c.job)) whole
+    subst (λ (h : List Entry). Far c pod s p h (job_state_of h c.job)) whole
     (far_from laws c pod attempts s p (before ++ e ∷ []) es command idle (is ∙ ap (λ (h : List Entry). state_at h c.from) (sym whole)) (subst Legal (sym whole) legal) kept.1 alone.1 never.1 next)
 
 -- ---- what the job has made
 
-past : (n : ℕ) (front added : List Entry) → length front ≡ n → drop n (front ++ added) ≡ added
-past n front added len =
-    let none : drop n front ≡ [] = drop_all n front (omega arith) in
-    drop-append-le n front added (omega arith) ∙ ap (λ (l : List Entry). l ++ added) none
+past : (n : ℕ) (prefix added : List Entry) → length prefix ≡ n → drop n (prefix ++ added) ≡ added
+past n prefix added len =
+    let none : drop n prefix ≡ [] = drop_all n prefix (omega arith) in
+    drop-append-le n prefix added (omega arith) ∙ ap (λ (l : List Entry). l ++ added) none
 
 carries : (c : Run) (h : List Entry) (pod : Key) (p : PodState) (added : List Entry) (choice : Decision) → drop c.from h ≡ added → HasMade c pod p added choice → CarriesOut c h pod p choice
 carries c h pod p added (Reserve plan) is out = record { writes = out.writes; each = out.each; entries = is ∙ out.entries }
 carries c h pod p added (Judge verdict) is out = is ∙ out
 
-ended_far : (c : Run) (h : List Entry) (pod : Key) (p : PodState) (place : ℕ) (st : JobState) → st ≡ stand.Ended place → Far c pod (state_at h c.from) p h st → Decided c h pod p
-ended_far c h pod p place stand.Fresh is far = absurd cc
-ended_far c h pod p place (stand.Reserved k) is far = absurd cc
-ended_far c h pod p place (stand.Conflicted k) is far = absurd cc
-ended_far c h pod p place (stand.Failed k) is far = absurd cc
-ended_far c h pod p place (stand.Ended n) is far =
-    let made : drop c.from h ≡ far.added = ap (λ (l : List Entry). drop c.from l) far.now ∙ past c.from far.front far.added far.len in
+ended_far : (c : Run) (h : List Entry) (pod : Key) (p : PodState) (place : ℕ) (st : JobState) → st ≡ job_state.Ended place → Far c pod (state_at h c.from) p h st → Decided c h pod p
+ended_far c h pod p place job_state.Fresh is far = absurd cc
+ended_far c h pod p place (job_state.Reserved k) is far = absurd cc
+ended_far c h pod p place (job_state.Conflicted k) is far = absurd cc
+ended_far c h pod p place (job_state.Failed k) is far = absurd cc
+ended_far c h pod p place (job_state.Ended n) is far =
+    let made : drop c.from h ≡ far.added = ap (λ (l : List Entry). drop c.from l) far.now ∙ past c.from far.prefix far.added far.len in
     record { choice = far.choice; is = far.is; out = carries c h pod p far.added far.choice made far.out }
 
 -- the job carried out the decision in the state in which it began
 pub decided : Laws → (c : Run) (h : List Entry) (pod : Key) (p : PodState) → RanAlone c h pod p → Decided c h pod p
 decided laws c h pod p r =
-    let start : Far c pod (state_at h c.from) p [] (stand_of [] c.job) = subst (λ (st : JobState). Far c pod (state_at h c.from) p [] st) (sym (laws.fresh c.job)) (omega arith) in
-    ended_far c h pod p r.run.place (stand_of h c.job) r.run.ended
+    let start : Far c pod (state_at h c.from) p [] (job_state_of [] c.job) = subst (λ (st : JobState). Far c pod (state_at h c.from) p [] st) (sym (laws.fresh c.job)) (omega arith) in
+    ended_far c h pod p r.run.place (job_state_of h c.job) r.run.ended
     (far_from laws c pod r.attempts (state_at h c.from) p [] h r.command r.idle refl r.legal r.run.kept r.alone (laws.never c h r.legal r.run.kept r.alone) start)

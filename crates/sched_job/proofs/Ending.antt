@@ -5,8 +5,8 @@ use Rattle.object_fields.specs.declared.key.Key.{Key}
 use Rattle.cluster.specs.declared.entry.Entry.{Entry}
 use Rattle.cluster.specs.declared.entry.Event.{Event}
 use Rattle.cluster.specs.declared.entry.JobState.{JobState}
-use Rattle.cluster.specs.declared.entry.JobState.TheVariants as stand
-use Rattle.cluster.specs.History.{state_of, stand_of}
+use Rattle.cluster.specs.declared.entry.JobState.TheVariants as job_state
+use Rattle.cluster.specs.History.{state_of, job_state_of}
 use Rattle.alloc_rules.specs.declared.decision.Decision.{Decision}
 use Rattle.alloc_rules.specs.Decisions.{is_idle_pod}
 use Rattle.ledger_core.specs.Ledger.{History}
@@ -24,8 +24,8 @@ use Rattle.sched_job.proofs.Stepping.{all_of_append}
 
 -- the facts of turns that append nothing
 pub record MovesOn : Type 0 where
-  pub thinks : (c : Run) (h : List Entry) (w : Work) → Legal h → Running c h w → is_ended (stand_of h w.job) ≡ false → move_of h w ≡ None → stage_after h w ≡ looked h
-  pub idle : (c : Run) (h : List Entry) (w : Work) (pod : Key) (attempts : ℕ) → w.command ≡ Schedule pod attempts → Legal h → Running c h w → is_ended (stand_of h w.job) ≡ false → move_of h w ≡ None → is_idle_pod (state_of h) pod ≡ true
+  pub thinks : (c : Run) (h : List Entry) (w : Work) → Legal h → Running c h w → is_ended (job_state_of h w.job) ≡ false → move_of h w ≡ None → stage_after h w ≡ looked h
+  pub idle : (c : Run) (h : List Entry) (w : Work) (pod : Key) (attempts : ℕ) → w.command ≡ Schedule pod attempts → Legal h → Running c h w → is_ended (job_state_of h w.job) ≡ false → move_of h w ≡ None → is_idle_pod (state_of h) pod ≡ true
   pub acts : (c : Run) (h : List Entry) (w : Work) (pod : Key) (attempts : ℕ) (choice : Decision) → w.command ≡ Schedule pod attempts → w.stage ≡ Chosen choice → Running c h w → move_of h w ≡ Some (chosen_event (state_of h) pod choice)
 
 -- a search over a snapshot in which the pod is Idle
@@ -36,9 +36,9 @@ pub same_kept : {X : Type 0} (h : List Entry) → Ready ≡ looked h → X
 same_kept h e = absurd cc
 
 -- what is kept of a turn without an entry, by the command
-pub after_none : MovesOn → (c : Run) (h : List Entry) (w : Work) (cmd : Command) → w.command ≡ cmd → Legal h → Running c h w → is_ended (stand_of h w.job) ≡ false → move_of h w ≡ None → stage_by h (stand_of h w.job) cmd None ≡ looked h
+pub after_none : MovesOn → (c : Run) (h : List Entry) (w : Work) (cmd : Command) → w.command ≡ cmd → Legal h → Running c h w → is_ended (job_state_of h w.job) ≡ false → move_of h w ≡ None → stage_by h (job_state_of h w.job) cmd None ≡ looked h
 after_none m c h w cmd is legal r open_yet none =
-    sym (ap (λ (o : Option Event). stage_by h (stand_of h w.job) w.command o) none ∙ ap (λ (x : Command). stage_by h (stand_of h w.job) x None) is) ∙ m.thinks c h w legal r open_yet none
+    sym (ap (λ (o : Option Event). stage_by h (job_state_of h w.job) w.command o) none ∙ ap (λ (x : Command). stage_by h (job_state_of h w.job) x None) is) ∙ m.thinks c h w legal r open_yet none
 
 searched_less : MovesOn → (budget : ℕ) (c : Run) (h : List Entry) (w : Work) (pod : Key) (attempts : ℕ) (kept made : Stage) → w.stage ≡ kept → w.command ≡ Schedule pod attempts → Running c h w → move_of h w ≡ None → waits made ≡ 0 → waits made < waits kept
 searched_less m budget c h w pod attempts Ready made at is r none e = omega arith
@@ -49,7 +49,7 @@ searched_less m budget c h w pod attempts (Chosen choice) made at is r none e = 
     some_none x e = cc
 
 -- a turn without an entry, with the search after it
-pub less_none : MovesOn → (budget : ℕ) (c : Run) (h : List Entry) (w : Work) (cmd : Command) (made : Stage) → w.command ≡ cmd → Legal h → Running c h w → is_ended (stand_of h w.job) ≡ false → move_of h w ≡ None
+pub less_none : MovesOn → (budget : ℕ) (c : Run) (h : List Entry) (w : Work) (cmd : Command) (made : Stage) → w.command ≡ cmd → Legal h → Running c h w → is_ended (job_state_of h w.job) ≡ false → move_of h w ≡ None
     → Thought budget cmd (stage_after h w) made → waits made < waits w.stage
 less_none m budget c h w (Apply object mode) made is legal r open_yet none t = same_kept h (after_none m c h w (Apply object mode) is legal r open_yet none)
 less_none m budget c h w (Invalid error) made is legal r open_yet none t = same_kept h (after_none m c h w (Invalid error) is legal r open_yet none)
@@ -76,12 +76,12 @@ extends_join jobs h h1 h2 a b = record {
   of_jobs = all_of_append jobs a.added b.added a.of_jobs b.of_jobs;
 }
 
-pub open_by : (st : JobState) → ((p : ℕ) → st ≡ stand.Ended p → ⊥) → is_ended st ≡ false
-open_by stand.Fresh never = refl
-open_by (stand.Reserved k) never = refl
-open_by (stand.Conflicted k) never = refl
-open_by (stand.Failed k) never = refl
-open_by (stand.Ended p) never = absurd (never p refl)
+pub open_by : (st : JobState) → ((p : ℕ) → st ≡ job_state.Ended p → ⊥) → is_ended st ≡ false
+open_by job_state.Fresh never = refl
+open_by (job_state.Reserved k) never = refl
+open_by (job_state.Conflicted k) never = refl
+open_by (job_state.Failed k) never = refl
+open_by (job_state.Ended p) never = absurd (never p refl)
 
 -- a fact is one of an error
 pub on_err : {T E P : Type 0} (r : Result T E) → P → OnErr r P

@@ -11,21 +11,21 @@ use Rattle.cluster.specs.declared.entry.Entry.{Entry}
 use Rattle.cluster.specs.declared.entry.Event.{Event}
 use Rattle.cluster.specs.declared.entry.Event.TheVariants.{Applied, Deleted, Reserved, Refused, Wrote, Conflict, Unreserved, Bound, VerdictGiven, Contended, Released, Adopted, Denied}
 use Rattle.cluster.specs.declared.entry.JobState.{JobState}
-use Rattle.cluster.specs.declared.entry.JobState.TheVariants as stand
+use Rattle.cluster.specs.declared.entry.JobState.TheVariants as job_state
 use Rattle.cluster.specs.declared.state.ClaimState.{ClaimState}
 use Rattle.cluster.specs.declared.state.PodState.{PodState}
 use Rattle.cluster.specs.declared.state.State.{State}
 use Rattle.cluster.specs.declared.state.Use.{Use}
 use Rattle.cluster.specs.declared.state.Use.TheVariants.{Assumed, Written}
 use Rattle.cluster.specs.Claims.{claim_keys, first_places}
-use Rattle.cluster.specs.Events.{after, allows, stand_after}
-use Rattle.cluster.specs.History.{state_of, stand_of}
+use Rattle.cluster.specs.Events.{after, allows, job_state_after}
+use Rattle.cluster.specs.History.{state_of, job_state_of}
 use Rattle.cluster.specs.JobState.{failures}
 use Rattle.cluster.specs.State.{claims_of, has_written, is_written, use_in}
 use Rattle.cluster.specs.Tables.{changed_at}
 use Rattle.cluster.specs.Wrote.{with_written, written_by}
 use Rattle.ledger_core.specs.Conflict.{MayConflict}
-use Rattle.ledger_core.specs.Legal.{Legal, MayStand, Step}
+use Rattle.ledger_core.specs.Legal.{Legal, MayFollow, Step}
 use Rattle.ledger_core.specs.Ledger.{History}
 use Rattle.ledger_core.specs.Limits.{ObjectsKept}
 use Rattle.ledger_core.specs.Wrote.{MayWrite}
@@ -39,7 +39,7 @@ use Rattle.sched_job.specs.Moves.{looked, moved, move_of, stage_by, tries}
 use Rattle.sched_job.specs.Runs.{Run, IsStaged, IsTrying, JobStep, Running, attempts_of, command_of, is_ended, is_schedule}
 use Rattle.sched_job.specs.Steps.{OneTurn, Thought}
 use Rattle.sched_job.specs.Turns.{attempts_left, left_by, most_turns, once_left, unwritten, unwritten_among, unwritten_by, waits}
-use Rattle.sched_job.proofs.Growing.{Grows, stand_own}
+use Rattle.sched_job.proofs.Growing.{Grows, job_state_own}
 use Rattle.sched_job.proofs.Keys.{changed_other, changed_there, same_or_not}
 use Rattle.sched_job.proofs.Runnings.{staged_some, step_is}
 use Rattle.sched_job.proofs.Ending.{MovesOn, after_none, less_none, same_kept}
@@ -163,14 +163,14 @@ conflict_left s pod job claim had now may =
 -- ---- an entry of the job
 
 once_some : (st : JobState) → is_ended st ≡ false → 0 < once_left st
-once_some stand.Fresh open_yet = omega arith
-once_some (stand.Reserved k) open_yet = omega arith
-once_some (stand.Conflicted k) open_yet = omega arith
-once_some (stand.Failed k) open_yet = omega arith
-once_some (stand.Ended p) open_yet = absurd cc
+once_some job_state.Fresh open_yet = omega arith
+once_some (job_state.Reserved k) open_yet = omega arith
+once_some (job_state.Conflicted k) open_yet = omega arith
+once_some (job_state.Failed k) open_yet = omega arith
+once_some (job_state.Ended p) open_yet = absurd cc
 
 -- the one of a job that isn't to schedule a pod ends it
-once_ends : (attempts : ℕ) (st : JobState) (place : ℕ) (ev : Event) → is_schedule (command_of attempts ev) ≡ false → once_left (stand_after st place ev) ≡ 0
+once_ends : (attempts : ℕ) (st : JobState) (place : ℕ) (ev : Event) → is_schedule (command_of attempts ev) ≡ false → once_left (job_state_after st place ev) ≡ 0
 once_ends attempts st place (Applied object mode) e = refl
 once_ends attempts st place (Deleted target) e = refl
 once_ends attempts st place (Reserved pod plan) e = absurd cc
@@ -189,44 +189,44 @@ pod_is : (p pod : Key) (a b : ℕ) → Schedule p a ≡ Schedule pod b → p ≡
 pod_is p pod a b e = cc
 
 -- the turns that a job to schedule a pod has left after it
-less_some : (c : Run) (h : List Entry) (pod : Key) (attempts place job : ℕ) (kept : Stage) (st : JobState) (ev : Event) → c.command ≡ Schedule pod attempts → stand_of h c.job ≡ st → allows st ev ≡ true → MayStand h job ev → JobStep c h ev
+less_some : (c : Run) (h : List Entry) (pod : Key) (attempts place job : ℕ) (kept : Stage) (st : JobState) (ev : Event) → c.command ≡ Schedule pod attempts → job_state_of h c.job ≡ st → allows st ev ≡ true → MayFollow h job ev → JobStep c h ev
     → 0 < attempts_left (state_of h) pod attempts kept st → unwritten (after place job ev (state_of h)) pod ≤ 32
-    → attempts_left (after place job ev (state_of h)) pod attempts Ready (stand_after st place ev) < attempts_left (state_of h) pod attempts kept st
+    → attempts_left (after place job ev (state_of h)) pod attempts Ready (job_state_after st place ev) < attempts_left (state_of h) pod attempts kept st
 less_some c h pod attempts place job kept st (Applied object mode) cmd sd may stands k positive most = positive
 less_some c h pod attempts place job kept st (Deleted target) cmd sd may stands k positive most = positive
-less_some c h pod attempts place job kept stand.Fresh (Reserved p plan) cmd sd may stands k positive most =
-    let l = k.timed.try.left in let f : failures (stand_of h c.job) ≡ 0 = ap failures sd in let n : attempts_of c.command ≡ attempts = ap attempts_of cmd in omega arith
-less_some c h pod attempts place job kept (stand.Reserved m) (Reserved p plan) cmd sd may stands k positive most = absurd cc
-less_some c h pod attempts place job kept (stand.Conflicted m) (Reserved p plan) cmd sd may stands k positive most = absurd cc
-less_some c h pod attempts place job kept (stand.Failed m) (Reserved p plan) cmd sd may stands k positive most =
-    let l = k.timed.try.left in let f : failures (stand_of h c.job) ≡ m = ap failures sd in let n : attempts_of c.command ≡ attempts = ap attempts_of cmd in omega arith
-less_some c h pod attempts place job kept (stand.Ended m) (Reserved p plan) cmd sd may stands k positive most = absurd cc
-less_some c h pod attempts place job kept stand.Fresh (Refused p plan why) cmd sd may stands k positive most =
-    let l = k.timed.try.left in let f : failures (stand_of h c.job) ≡ 0 = ap failures sd in let n : attempts_of c.command ≡ attempts = ap attempts_of cmd in omega arith
-less_some c h pod attempts place job kept (stand.Reserved m) (Refused p plan why) cmd sd may stands k positive most = absurd cc
-less_some c h pod attempts place job kept (stand.Conflicted m) (Refused p plan why) cmd sd may stands k positive most = absurd cc
-less_some c h pod attempts place job kept (stand.Failed m) (Refused p plan why) cmd sd may stands k positive most =
-    let l = k.timed.try.left in let f : failures (stand_of h c.job) ≡ m = ap failures sd in let n : attempts_of c.command ≡ attempts = ap attempts_of cmd in omega arith
-less_some c h pod attempts place job kept (stand.Ended m) (Refused p plan why) cmd sd may stands k positive most = absurd cc
-less_some c h pod attempts place job kept stand.Fresh (Wrote p claim had) cmd sd may stands k positive most = absurd cc
-less_some c h pod attempts place job kept (stand.Reserved m) (Wrote p claim had) cmd sd may stands k positive most =
+less_some c h pod attempts place job kept job_state.Fresh (Reserved p plan) cmd sd may stands k positive most =
+    let l = k.timed.try.left in let f : failures (job_state_of h c.job) ≡ 0 = ap failures sd in let n : attempts_of c.command ≡ attempts = ap attempts_of cmd in omega arith
+less_some c h pod attempts place job kept (job_state.Reserved m) (Reserved p plan) cmd sd may stands k positive most = absurd cc
+less_some c h pod attempts place job kept (job_state.Conflicted m) (Reserved p plan) cmd sd may stands k positive most = absurd cc
+less_some c h pod attempts place job kept (job_state.Failed m) (Reserved p plan) cmd sd may stands k positive most =
+    let l = k.timed.try.left in let f : failures (job_state_of h c.job) ≡ m = ap failures sd in let n : attempts_of c.command ≡ attempts = ap attempts_of cmd in omega arith
+less_some c h pod attempts place job kept (job_state.Ended m) (Reserved p plan) cmd sd may stands k positive most = absurd cc
+less_some c h pod attempts place job kept job_state.Fresh (Refused p plan why) cmd sd may stands k positive most =
+    let l = k.timed.try.left in let f : failures (job_state_of h c.job) ≡ 0 = ap failures sd in let n : attempts_of c.command ≡ attempts = ap attempts_of cmd in omega arith
+less_some c h pod attempts place job kept (job_state.Reserved m) (Refused p plan why) cmd sd may stands k positive most = absurd cc
+less_some c h pod attempts place job kept (job_state.Conflicted m) (Refused p plan why) cmd sd may stands k positive most = absurd cc
+less_some c h pod attempts place job kept (job_state.Failed m) (Refused p plan why) cmd sd may stands k positive most =
+    let l = k.timed.try.left in let f : failures (job_state_of h c.job) ≡ m = ap failures sd in let n : attempts_of c.command ≡ attempts = ap attempts_of cmd in omega arith
+less_some c h pod attempts place job kept (job_state.Ended m) (Refused p plan why) cmd sd may stands k positive most = absurd cc
+less_some c h pod attempts place job kept job_state.Fresh (Wrote p claim had) cmd sd may stands k positive most = absurd cc
+less_some c h pod attempts place job kept (job_state.Reserved m) (Wrote p claim had) cmd sd may stands k positive most =
     let same : p ≡ pod = pod_is p pod (attempts_of c.command) attempts (k.of_command ∙ cmd) in
     let less = subst (λ (x : Key). unwritten (with_written place p claim (state_of h)) x < unwritten (state_of h) x) same (wrote_less (state_of h) place p job claim had stands) in omega arith
-less_some c h pod attempts place job kept (stand.Conflicted m) (Wrote p claim had) cmd sd may stands k positive most = absurd cc
-less_some c h pod attempts place job kept (stand.Failed m) (Wrote p claim had) cmd sd may stands k positive most = absurd cc
-less_some c h pod attempts place job kept (stand.Ended m) (Wrote p claim had) cmd sd may stands k positive most = absurd cc
-less_some c h pod attempts place job kept stand.Fresh (Conflict p claim had now) cmd sd may stands k positive most = absurd cc
-less_some c h pod attempts place job kept (stand.Reserved m) (Conflict p claim had now) cmd sd may stands k positive most =
+less_some c h pod attempts place job kept (job_state.Conflicted m) (Wrote p claim had) cmd sd may stands k positive most = absurd cc
+less_some c h pod attempts place job kept (job_state.Failed m) (Wrote p claim had) cmd sd may stands k positive most = absurd cc
+less_some c h pod attempts place job kept (job_state.Ended m) (Wrote p claim had) cmd sd may stands k positive most = absurd cc
+less_some c h pod attempts place job kept job_state.Fresh (Conflict p claim had now) cmd sd may stands k positive most = absurd cc
+less_some c h pod attempts place job kept (job_state.Reserved m) (Conflict p claim had now) cmd sd may stands k positive most =
     let same : p ≡ pod = pod_is p pod (attempts_of c.command) attempts (k.of_command ∙ cmd) in
     let some = subst (λ (x : Key). 0 < unwritten (state_of h) x) same (conflict_left (state_of h) p job claim had now stands) in omega arith
-less_some c h pod attempts place job kept (stand.Conflicted m) (Conflict p claim had now) cmd sd may stands k positive most = absurd cc
-less_some c h pod attempts place job kept (stand.Failed m) (Conflict p claim had now) cmd sd may stands k positive most = absurd cc
-less_some c h pod attempts place job kept (stand.Ended m) (Conflict p claim had now) cmd sd may stands k positive most = absurd cc
-less_some c h pod attempts place job kept stand.Fresh (Unreserved p) cmd sd may stands k positive most = absurd cc
-less_some c h pod attempts place job kept (stand.Reserved m) (Unreserved p) cmd sd may stands k positive most = absurd cc
-less_some c h pod attempts place job kept (stand.Conflicted m) (Unreserved p) cmd sd may stands k positive most = omega arith
-less_some c h pod attempts place job kept (stand.Failed m) (Unreserved p) cmd sd may stands k positive most = absurd cc
-less_some c h pod attempts place job kept (stand.Ended m) (Unreserved p) cmd sd may stands k positive most = absurd cc
+less_some c h pod attempts place job kept (job_state.Conflicted m) (Conflict p claim had now) cmd sd may stands k positive most = absurd cc
+less_some c h pod attempts place job kept (job_state.Failed m) (Conflict p claim had now) cmd sd may stands k positive most = absurd cc
+less_some c h pod attempts place job kept (job_state.Ended m) (Conflict p claim had now) cmd sd may stands k positive most = absurd cc
+less_some c h pod attempts place job kept job_state.Fresh (Unreserved p) cmd sd may stands k positive most = absurd cc
+less_some c h pod attempts place job kept (job_state.Reserved m) (Unreserved p) cmd sd may stands k positive most = absurd cc
+less_some c h pod attempts place job kept (job_state.Conflicted m) (Unreserved p) cmd sd may stands k positive most = omega arith
+less_some c h pod attempts place job kept (job_state.Failed m) (Unreserved p) cmd sd may stands k positive most = absurd cc
+less_some c h pod attempts place job kept (job_state.Ended m) (Unreserved p) cmd sd may stands k positive most = absurd cc
 less_some c h pod attempts place job kept st (Bound p node) cmd sd may stands k positive most = positive
 less_some c h pod attempts place job kept st (VerdictGiven p verdict) cmd sd may stands k positive most = positive
 less_some c h pod attempts place job kept st (Contended p failed) cmd sd may stands k positive most = positive
@@ -236,7 +236,7 @@ less_some c h pod attempts place job kept st (Denied command refusal) cmd sd may
 
 -- ---- a work that hasn't ended has a turn left
 
-chosen_left : (c : Run) (h : List Entry) (pod : Key) (kept : Stage) → IsTrying c h pod kept → waits kept ≡ 0 → failures (stand_of h c.job) < attempts_of c.command
+chosen_left : (c : Run) (h : List Entry) (pod : Key) (kept : Stage) → IsTrying c h pod kept → waits kept ≡ 0 → failures (job_state_of h c.job) < attempts_of c.command
 chosen_left c h pod Ready s e = absurd cc
 chosen_left c h pod (Seen seen) s e = absurd cc
 chosen_left c h pod (Chosen (Reserve plan)) s e = s.tried.try.left
@@ -247,13 +247,13 @@ waits_or Ready = inr refl
 waits_or (Seen seen) = inr refl
 waits_or (Chosen choice) = inl refl
 
-positive_left : (c : Run) (h : List Entry) (pod : Key) (attempts : ℕ) (kept : Stage) (st : JobState) → c.command ≡ Schedule pod attempts → 0 < attempts → stand_of h c.job ≡ st → is_ended st ≡ false → IsTrying c h pod kept → 0 < attempts_left (state_of h) pod attempts kept st
-positive_left c h pod attempts kept stand.Fresh cmd some sd open_yet s = omega arith
-positive_left c h pod attempts kept (stand.Reserved m) cmd some sd open_yet s = omega arith
-positive_left c h pod attempts kept (stand.Conflicted m) cmd some sd open_yet s = omega arith
-positive_left c h pod attempts kept (stand.Failed m) cmd some sd open_yet s =
-    ⊎_elim (λ none. let l = chosen_left c h pod kept s none in let f : failures (stand_of h c.job) ≡ m = ap failures sd in let n : attempts_of c.command ≡ attempts = ap attempts_of cmd in omega arith) (λ one. omega arith) (waits_or kept)
-positive_left c h pod attempts kept (stand.Ended m) cmd some sd open_yet s = absurd cc
+positive_left : (c : Run) (h : List Entry) (pod : Key) (attempts : ℕ) (kept : Stage) (st : JobState) → c.command ≡ Schedule pod attempts → 0 < attempts → job_state_of h c.job ≡ st → is_ended st ≡ false → IsTrying c h pod kept → 0 < attempts_left (state_of h) pod attempts kept st
+positive_left c h pod attempts kept job_state.Fresh cmd some sd open_yet s = omega arith
+positive_left c h pod attempts kept (job_state.Reserved m) cmd some sd open_yet s = omega arith
+positive_left c h pod attempts kept (job_state.Conflicted m) cmd some sd open_yet s = omega arith
+positive_left c h pod attempts kept (job_state.Failed m) cmd some sd open_yet s =
+    ⊎_elim (λ none. let l = chosen_left c h pod kept s none in let f : failures (job_state_of h c.job) ≡ m = ap failures sd in let n : attempts_of c.command ≡ attempts = ap attempts_of cmd in omega arith) (λ one. omega arith) (waits_or kept)
+positive_left c h pod attempts kept (job_state.Ended m) cmd some sd open_yet s = absurd cc
 
 -- ---- a turn
 
@@ -261,45 +261,45 @@ positive_left c h pod attempts kept (stand.Ended m) cmd some sd open_yet s = abs
 pub record Turns : Type 0 where
   pub grows : Grows
   pub state : (h : List Entry) (e : Entry) → state_of (h ++ e ∷ []) ≡ after (length h + 1) e.job e.event (state_of h)
-  pub step : (front : List Entry) (e : Entry) (back : List Entry) → Legal (front ++ e ∷ back) → Step front e
+  pub step : (prefix : List Entry) (e : Entry) (back : List Entry) → Legal (prefix ++ e ∷ back) → Step prefix e
   pub limits : (h : List Entry) → Legal h → ObjectsKept (state_of h)
   pub moves : MovesOn
 
 -- an entry of the job, by its command
-entry_less : (c : Run) (h : List Entry) (place job : ℕ) (kept : Stage) (ev : Event) (cmd : Command) → c.command ≡ cmd → 0 < attempts_of cmd → is_ended (stand_of h c.job) ≡ false → allows (stand_of h c.job) ev ≡ true → MayStand h job ev → JobStep c h ev → IsStaged c h cmd kept
-    → ((pod : Key) → unwritten (after place job ev (state_of h)) pod ≤ 32) → left_by (after place job ev (state_of h)) Ready (stand_after (stand_of h c.job) place ev) cmd < left_by (state_of h) kept (stand_of h c.job) cmd
+entry_less : (c : Run) (h : List Entry) (place job : ℕ) (kept : Stage) (ev : Event) (cmd : Command) → c.command ≡ cmd → 0 < attempts_of cmd → is_ended (job_state_of h c.job) ≡ false → allows (job_state_of h c.job) ev ≡ true → MayFollow h job ev → JobStep c h ev → IsStaged c h cmd kept
+    → ((pod : Key) → unwritten (after place job ev (state_of h)) pod ≤ 32) → left_by (after place job ev (state_of h)) Ready (job_state_after (job_state_of h c.job) place ev) cmd < left_by (state_of h) kept (job_state_of h c.job) cmd
 entry_less c h place job kept ev (Apply object mode) is some open_yet may stands k s most =
-    let z = once_ends (attempts_of c.command) (stand_of h c.job) place ev (ap is_schedule (k.of_command ∙ is)) in let o = once_some (stand_of h c.job) open_yet in omega arith
+    let z = once_ends (attempts_of c.command) (job_state_of h c.job) place ev (ap is_schedule (k.of_command ∙ is)) in let o = once_some (job_state_of h c.job) open_yet in omega arith
 entry_less c h place job kept ev (Invalid error) is some open_yet may stands k s most =
-    let z = once_ends (attempts_of c.command) (stand_of h c.job) place ev (ap is_schedule (k.of_command ∙ is)) in let o = once_some (stand_of h c.job) open_yet in omega arith
+    let z = once_ends (attempts_of c.command) (job_state_of h c.job) place ev (ap is_schedule (k.of_command ∙ is)) in let o = once_some (job_state_of h c.job) open_yet in omega arith
 entry_less c h place job kept ev (Delete target) is some open_yet may stands k s most =
-    let z = once_ends (attempts_of c.command) (stand_of h c.job) place ev (ap is_schedule (k.of_command ∙ is)) in let o = once_some (stand_of h c.job) open_yet in omega arith
+    let z = once_ends (attempts_of c.command) (job_state_of h c.job) place ev (ap is_schedule (k.of_command ∙ is)) in let o = once_some (job_state_of h c.job) open_yet in omega arith
 entry_less c h place job kept ev (Schedule pod attempts) is some open_yet may stands k s most =
-    less_some c h pod attempts place job kept (stand_of h c.job) ev is refl may stands k (positive_left c h pod attempts kept (stand_of h c.job) is some refl open_yet s) (most pod)
+    less_some c h pod attempts place job kept (job_state_of h c.job) ev is refl may stands k (positive_left c h pod attempts kept (job_state_of h c.job) is some refl open_yet s) (most pod)
 entry_less c h place job kept ev (Release pod) is some open_yet may stands k s most =
-    let z = once_ends (attempts_of c.command) (stand_of h c.job) place ev (ap is_schedule (k.of_command ∙ is)) in let o = once_some (stand_of h c.job) open_yet in omega arith
+    let z = once_ends (attempts_of c.command) (job_state_of h c.job) place ev (ap is_schedule (k.of_command ∙ is)) in let o = once_some (job_state_of h c.job) open_yet in omega arith
 entry_less c h place job kept ev (Adopt claim status) is some open_yet may stands k s most =
-    let z = once_ends (attempts_of c.command) (stand_of h c.job) place ev (ap is_schedule (k.of_command ∙ is)) in let o = once_some (stand_of h c.job) open_yet in omega arith
+    let z = once_ends (attempts_of c.command) (job_state_of h c.job) place ev (ap is_schedule (k.of_command ∙ is)) in let o = once_some (job_state_of h c.job) open_yet in omega arith
 
 -- a snapshot, by the command
 waits_less : (s : State) (pod : Key) (attempts : ℕ) (kept made : Stage) (st : JobState) → tries attempts st ≡ true → waits made < waits kept → attempts_left s pod attempts made st < attempts_left s pod attempts kept st
-waits_less s pod attempts kept made stand.Fresh t less = omega arith
-waits_less s pod attempts kept made (stand.Reserved m) t less = absurd cc
-waits_less s pod attempts kept made (stand.Conflicted m) t less = absurd cc
-waits_less s pod attempts kept made (stand.Failed m) t less = omega arith
-waits_less s pod attempts kept made (stand.Ended m) t less = absurd cc
+waits_less s pod attempts kept made job_state.Fresh t less = omega arith
+waits_less s pod attempts kept made (job_state.Reserved m) t less = absurd cc
+waits_less s pod attempts kept made (job_state.Conflicted m) t less = absurd cc
+waits_less s pod attempts kept made (job_state.Failed m) t less = omega arith
+waits_less s pod attempts kept made (job_state.Ended m) t less = absurd cc
 
 tries_by : (b : Bool) (h : List Entry) → cond b (looked h) Ready ≡ looked h → b ≡ true
 tries_by true h e = refl
 tries_by false h e = absurd cc
 
-snapshot_less : MovesOn → (c : Run) (h : List Entry) (w : Work) (cmd : Command) (made : Stage) → w.command ≡ cmd → Legal h → Running c h w → is_ended (stand_of h w.job) ≡ false → move_of h w ≡ None → waits made < waits w.stage
-    → left_by (state_of h) made (stand_of h w.job) cmd < left_by (state_of h) w.stage (stand_of h w.job) cmd
+snapshot_less : MovesOn → (c : Run) (h : List Entry) (w : Work) (cmd : Command) (made : Stage) → w.command ≡ cmd → Legal h → Running c h w → is_ended (job_state_of h w.job) ≡ false → move_of h w ≡ None → waits made < waits w.stage
+    → left_by (state_of h) made (job_state_of h w.job) cmd < left_by (state_of h) w.stage (job_state_of h w.job) cmd
 snapshot_less m c h w (Apply object mode) made is legal r open_yet none less = same_kept h (after_none m c h w (Apply object mode) is legal r open_yet none)
 snapshot_less m c h w (Invalid error) made is legal r open_yet none less = same_kept h (after_none m c h w (Invalid error) is legal r open_yet none)
 snapshot_less m c h w (Delete target) made is legal r open_yet none less = same_kept h (after_none m c h w (Delete target) is legal r open_yet none)
 snapshot_less m c h w (Schedule pod attempts) made is legal r open_yet none less =
-    waits_less (state_of h) pod attempts w.stage made (stand_of h w.job) (tries_by (tries attempts (stand_of h w.job)) h (after_none m c h w (Schedule pod attempts) is legal r open_yet none)) less
+    waits_less (state_of h) pod attempts w.stage made (job_state_of h w.job) (tries_by (tries attempts (job_state_of h w.job)) h (after_none m c h w (Schedule pod attempts) is legal r open_yet none)) less
 snapshot_less m c h w (Release pod) made is legal r open_yet none less = same_kept h (after_none m c h w (Release pod) is legal r open_yet none)
 snapshot_less m c h w (Adopt claim status) made is legal r open_yet none less = same_kept h (after_none m c h w (Adopt claim status) is legal r open_yet none)
 
@@ -313,46 +313,46 @@ ready_stays budget (Release pod) made t = t
 ready_stays budget (Adopt claim status) made t = t
 
 -- an entry
-some_less : Turns → (budget : ℕ) (c : Run) (H H' : History) (w w' : Work) (ev : Event) → Legal H'.entries → Running c H.entries w → is_ended (stand_of H.entries w.job) ≡ false → OneTurn budget H H' w w' → move_of H.entries w ≡ Some ev
-    → left_by (state_of H'.entries) w'.stage (stand_of H'.entries w.job) w.command < left_by (state_of H.entries) w.stage (stand_of H.entries w.job) w.command
+some_less : Turns → (budget : ℕ) (c : Run) (H H' : History) (w w' : Work) (ev : Event) → Legal H'.entries → Running c H.entries w → is_ended (job_state_of H.entries w.job) ≡ false → OneTurn budget H H' w w' → move_of H.entries w ≡ Some ev
+    → left_by (state_of H'.entries) w'.stage (job_state_of H'.entries w.job) w.command < left_by (state_of H.entries) w.stage (job_state_of H.entries w.job) w.command
 some_less laws budget c H H' w w' ev legal r open_yet one some =
     let h : List Entry = H.entries in
     let e : Entry = record { job = w.job; event = ev } in
     let now : H'.entries ≡ h ++ e ∷ [] = ap (λ (x : History). x.entries) (one.moves ∙ ap (moved H w.job) some) in
     let step : Step h e = laws.step h e [] (subst Legal now legal) in
     let k : JobStep c h ev = step_is c h w ev r some in
-    let mine : stand_of h w.job ≡ stand_of h c.job = ap (stand_of h) r.job in
+    let mine : job_state_of h w.job ≡ job_state_of h c.job = ap (job_state_of h) r.job in
     let kept : w'.stage ≡ Ready = ready_stays budget w.command w'.stage
-    (subst (λ (x : Stage). Thought budget w.command x w'.stage) (ap (λ (o : Option Event). stage_by h (stand_of h w.job) w.command o) some ∙ staged_some h (stand_of h w.job) w.command ev) one.stage) in
+    (subst (λ (x : Stage). Thought budget w.command x w'.stage) (ap (λ (o : Option Event). stage_by h (job_state_of h w.job) w.command o) some ∙ staged_some h (job_state_of h w.job) w.command ev) one.stage) in
     let grown : state_of H'.entries ≡ after (length h + 1) w.job ev (state_of h) = ap state_of now ∙ laws.state h e in
-    let st : stand_of H'.entries w.job ≡ stand_after (stand_of h w.job) (length h + 1) ev = ap (λ (xs : List Entry). stand_of xs w.job) now ∙ stand_own laws.grows h e w.job refl in
+    let st : job_state_of H'.entries w.job ≡ job_state_after (job_state_of h w.job) (length h + 1) ev = ap (λ (xs : List Entry). job_state_of xs w.job) now ∙ job_state_own laws.grows h e w.job refl in
     let limits : ObjectsKept (after (length h + 1) w.job ev (state_of h)) = subst ObjectsKept grown (laws.limits H'.entries legal) in
     let less = entry_less c h (length h + 1) w.job w.stage ev c.command refl r.some (ap is_ended (sym mine) ∙ open_yet) (subst (λ (x : JobState). allows x ev ≡ true) mine step.allowed) step.stands k r.staged (λ pod. few (after (length h + 1) w.job ev (state_of h)) pod limits) in
-    let with_command : left_by (after (length h + 1) w.job ev (state_of h)) Ready (stand_after (stand_of h w.job) (length h + 1) ev) w.command < left_by (state_of h) w.stage (stand_of h w.job) w.command =
-    subst (λ (x : Command). left_by (after (length h + 1) w.job ev (state_of h)) Ready (stand_after (stand_of h w.job) (length h + 1) ev) x < left_by (state_of h) w.stage (stand_of h w.job) x) (sym r.command)
-    (subst (λ (x : JobState). left_by (after (length h + 1) w.job ev (state_of h)) Ready (stand_after x (length h + 1) ev) c.command < left_by (state_of h) w.stage x c.command) (sym mine) less) in
-    let eq : left_by (state_of H'.entries) w'.stage (stand_of H'.entries w.job) w.command ≡ left_by (after (length h + 1) w.job ev (state_of h)) Ready (stand_after (stand_of h w.job) (length h + 1) ev) w.command =
-    ap (λ (x : State). left_by x w'.stage (stand_of H'.entries w.job) w.command) grown
-    ∙ ap (λ (x : Stage). left_by (after (length h + 1) w.job ev (state_of h)) x (stand_of H'.entries w.job) w.command) kept
+    let with_command : left_by (after (length h + 1) w.job ev (state_of h)) Ready (job_state_after (job_state_of h w.job) (length h + 1) ev) w.command < left_by (state_of h) w.stage (job_state_of h w.job) w.command =
+    subst (λ (x : Command). left_by (after (length h + 1) w.job ev (state_of h)) Ready (job_state_after (job_state_of h w.job) (length h + 1) ev) x < left_by (state_of h) w.stage (job_state_of h w.job) x) (sym r.command)
+    (subst (λ (x : JobState). left_by (after (length h + 1) w.job ev (state_of h)) Ready (job_state_after x (length h + 1) ev) c.command < left_by (state_of h) w.stage x c.command) (sym mine) less) in
+    let eq : left_by (state_of H'.entries) w'.stage (job_state_of H'.entries w.job) w.command ≡ left_by (after (length h + 1) w.job ev (state_of h)) Ready (job_state_after (job_state_of h w.job) (length h + 1) ev) w.command =
+    ap (λ (x : State). left_by x w'.stage (job_state_of H'.entries w.job) w.command) grown
+    ∙ ap (λ (x : Stage). left_by (after (length h + 1) w.job ev (state_of h)) x (job_state_of H'.entries w.job) w.command) kept
     ∙ ap (λ (x : JobState). left_by (after (length h + 1) w.job ev (state_of h)) Ready x w.command) st in
-    subst (λ (n : ℕ). n < left_by (state_of h) w.stage (stand_of h w.job) w.command) (sym eq) with_command
+    subst (λ (n : ℕ). n < left_by (state_of h) w.stage (job_state_of h w.job) w.command) (sym eq) with_command
 
-same_work : (h : List Entry) (w w' : Work) → w'.job ≡ w.job → w'.command ≡ w.command → most_turns h w' ≡ left_by (state_of h) w'.stage (stand_of h w.job) w.command
-same_work h w w' job command = ap (λ (n : ℕ). left_by (state_of h) w'.stage (stand_of h n) w'.command) job ∙ ap (λ (x : Command). left_by (state_of h) w'.stage (stand_of h w.job) x) command
+same_work : (h : List Entry) (w w' : Work) → w'.job ≡ w.job → w'.command ≡ w.command → most_turns h w' ≡ left_by (state_of h) w'.stage (job_state_of h w.job) w.command
+same_work h w w' job command = ap (λ (n : ℕ). left_by (state_of h) w'.stage (job_state_of h n) w'.command) job ∙ ap (λ (x : Command). left_by (state_of h) w'.stage (job_state_of h w.job) x) command
 
-pub turn_less : Turns → (budget : ℕ) (c : Run) (H H' : History) (w w' : Work) → Legal H.entries → Legal H'.entries → Running c H.entries w → is_ended (stand_of H.entries w.job) ≡ false → OneTurn budget H H' w w' → most_turns H'.entries w' < most_turns H.entries w
+pub turn_less : Turns → (budget : ℕ) (c : Run) (H H' : History) (w w' : Work) → Legal H.entries → Legal H'.entries → Running c H.entries w → is_ended (job_state_of H.entries w.job) ≡ false → OneTurn budget H H' w w' → most_turns H'.entries w' < most_turns H.entries w
 turn_less laws budget c H H' w w' before legal r open_yet one =
     subst (λ (n : ℕ). n < most_turns H.entries w) (sym (same_work H'.entries w w' one.job one.command)) (by_move (move_of H.entries w) refl)
   where
-    by_move : (o : Option Event) → move_of H.entries w ≡ o → left_by (state_of H'.entries) w'.stage (stand_of H'.entries w.job) w.command < left_by (state_of H.entries) w.stage (stand_of H.entries w.job) w.command
+    by_move : (o : Option Event) → move_of H.entries w ≡ o → left_by (state_of H'.entries) w'.stage (job_state_of H'.entries w.job) w.command < left_by (state_of H.entries) w.stage (job_state_of H.entries w.job) w.command
     by_move None none =
         let same : H.entries ≡ H'.entries = sym (ap (λ (x : History). x.entries) (one.moves ∙ ap (moved H w.job) none)) in
         let less = less_none laws.moves budget c H.entries w w.command w'.stage refl before r open_yet none one.stage in
-        subst (λ (h : List Entry). left_by (state_of h) w'.stage (stand_of h w.job) w.command < left_by (state_of H.entries) w.stage (stand_of H.entries w.job) w.command) same
+        subst (λ (h : List Entry). left_by (state_of h) w'.stage (job_state_of h w.job) w.command < left_by (state_of H.entries) w.stage (job_state_of H.entries w.job) w.command) same
         (snapshot_less laws.moves c H.entries w w.command w'.stage refl before r open_yet none less)
     by_move (Some ev) some = some_less laws budget c H H' w w' ev legal r open_yet one some
 
-fresh_by : (s : State) (cmd : Command) → left_by s Ready stand.Fresh cmd ≤ 35 * attempts_of cmd + 1
+fresh_by : (s : State) (cmd : Command) → left_by s Ready job_state.Fresh cmd ≤ 35 * attempts_of cmd + 1
 fresh_by s (Apply object mode) = omega arith
 fresh_by s (Invalid error) = omega arith
 fresh_by s (Delete target) = omega arith
@@ -361,6 +361,6 @@ fresh_by s (Release pod) = omega arith
 fresh_by s (Adopt claim status) = omega arith
 
 -- a new work has at most 35 turns for each attempt, and one more
-pub fresh_few : (h : List Entry) (w : Work) → stand_of h w.job ≡ stand.Fresh → w.stage ≡ Ready → most_turns h w ≤ 35 * attempts_of w.command + 1
+pub fresh_few : (h : List Entry) (w : Work) → job_state_of h w.job ≡ job_state.Fresh → w.stage ≡ Ready → most_turns h w ≤ 35 * attempts_of w.command + 1
 fresh_few h w fresh ready =
-    subst (λ (n : ℕ). n ≤ 35 * attempts_of w.command + 1) (sym (ap (λ (x : Stage). left_by (state_of h) x (stand_of h w.job) w.command) ready ∙ ap (λ (x : JobState). left_by (state_of h) Ready x w.command) fresh)) (fresh_by (state_of h) w.command)
+    subst (λ (n : ℕ). n ≤ 35 * attempts_of w.command + 1) (sym (ap (λ (x : Stage). left_by (state_of h) x (job_state_of h w.job) w.command) ready ∙ ap (λ (x : JobState). left_by (state_of h) Ready x w.command) fresh)) (fresh_by (state_of h) w.command)

@@ -2,8 +2,8 @@
 use Rattle.std.proofs.Common.{ℕ, ◌≡◌, ◌∙◌, ◌+◌, ◌≤◌, ◌++◌, List, [], ◌∷◌, Bool, true, false, cond, eqb, length, sym, ap, subst, arith, append-nil, append_assoc, eq-eqb}
 use Rattle.std.proofs.lemmas.List.{take-append-le}
 use Rattle.cluster.specs.declared.entry.Entry.{Entry}
-use Rattle.cluster.specs.Events.{stand_after}
-use Rattle.cluster.specs.History.{state_at, state_of, stand_of, told}
+use Rattle.cluster.specs.Events.{job_state_after}
+use Rattle.cluster.specs.History.{state_at, state_of, job_state_of, told}
 use Rattle.sched_job.specs.Histories.{Each, last_place, next_last}
 
 pub each_more : (P : List Entry → Entry → Type 0) (before es : List Entry) (e : Entry) → Each P before es → P (before ++ es) e → Each P before (es ++ e ∷ [])
@@ -53,13 +53,13 @@ state_stays h es at le = ap state_of (take-append-le at h es le)
 
 -- what one entry more does to a job's state
 abbrev pub Grows : Type 0
-Grows = (h : List Entry) (e : Entry) (job : ℕ) → stand_of (h ++ e ∷ []) job ≡ cond (eqb e.job job) (stand_after (stand_of h job) (length h + 1) e.event) (stand_of h job)
+Grows = (h : List Entry) (e : Entry) (job : ℕ) → job_state_of (h ++ e ∷ []) job ≡ cond (eqb e.job job) (job_state_after (job_state_of h job) (length h + 1) e.event) (job_state_of h job)
 
-pub stand_other : Grows → (h : List Entry) (e : Entry) (job : ℕ) → eqb e.job job ≡ false → stand_of (h ++ e ∷ []) job ≡ stand_of h job
-stand_other g h e job other = g h e job ∙ ap (λ (b : Bool). cond b (stand_after (stand_of h job) (length h + 1) e.event) (stand_of h job)) other
+pub job_state_other : Grows → (h : List Entry) (e : Entry) (job : ℕ) → eqb e.job job ≡ false → job_state_of (h ++ e ∷ []) job ≡ job_state_of h job
+job_state_other g h e job other = g h e job ∙ ap (λ (b : Bool). cond b (job_state_after (job_state_of h job) (length h + 1) e.event) (job_state_of h job)) other
 
-pub stand_own : Grows → (h : List Entry) (e : Entry) (job : ℕ) → e.job ≡ job → stand_of (h ++ e ∷ []) job ≡ stand_after (stand_of h job) (length h + 1) e.event
-stand_own g h e job mine = g h e job ∙ ap (λ (b : Bool). cond b (stand_after (stand_of h job) (length h + 1) e.event) (stand_of h job)) (eq-eqb e.job job mine)
+pub job_state_own : Grows → (h : List Entry) (e : Entry) (job : ℕ) → e.job ≡ job → job_state_of (h ++ e ∷ []) job ≡ job_state_after (job_state_of h job) (length h + 1) e.event
+job_state_own g h e job mine = g h e job ∙ ap (λ (b : Bool). cond b (job_state_after (job_state_of h job) (length h + 1) e.event) (job_state_of h job)) (eq-eqb e.job job mine)
 
 pub last_other : (h : List Entry) (e : Entry) (job : ℕ) → eqb e.job job ≡ false → last_place (h ++ e ∷ []) job ≡ last_place h job
 last_other h e job other = last_more h e job ∙ ap (λ (b : Bool). cond b (length h + 1) (last_place h job)) other

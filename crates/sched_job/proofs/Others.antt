@@ -14,7 +14,7 @@ use Rattle.cluster.specs.declared.entry.Event.TheVariants.{Applied, Deleted, Res
 use Rattle.cluster.specs.declared.entry.Refusal.{Refusal}
 use Rattle.cluster.specs.declared.entry.Refusal.TheVariants as refusal
 use Rattle.cluster.specs.declared.entry.JobState.{JobState}
-use Rattle.cluster.specs.declared.entry.JobState.TheVariants as stand
+use Rattle.cluster.specs.declared.entry.JobState.TheVariants as job_state
 use Rattle.cluster.specs.declared.object.Object.TheVariants as object
 use Rattle.cluster.specs.declared.object.Target.{Target}
 use Rattle.cluster.specs.declared.object.Target.TheVariants as target
@@ -31,12 +31,12 @@ use Rattle.cluster.specs.Applied.{new_claim, new_pod, updated_claim, updated_pod
 use Rattle.cluster.specs.Denied.{first_refusal, has_user, is_busy, is_found, is_in_use, is_user, or_else, release_refusal, unbound_refusal, when}
 use Rattle.cluster.specs.Events.{after}
 use Rattle.cluster.specs.Freed.{claims_by, freed, freed_by, with_freed}
-use Rattle.cluster.specs.History.{state_at, state_of, stand_of}
+use Rattle.cluster.specs.History.{state_at, state_of, job_state_of}
 use Rattle.cluster.specs.Reserved.{joined_by, with_grant, with_grants, with_joins}
 use Rattle.cluster.specs.State.{claims_of, is_idle, is_written, use_in}
 use Rattle.cluster.specs.Tables.{changed_at, put_at}
 use Rattle.cluster.specs.Wrote.{written_by}
-use Rattle.ledger_core.specs.Legal.{Legal, MayStand, Step}
+use Rattle.ledger_core.specs.Legal.{Legal, MayFollow, Step}
 use Rattle.cluster.specs.JobState.{has_reserved}
 use Rattle.ledger_core.specs.Owners.{has_pod}
 use Rattle.ledger_core.specs.Wrote.{IsTaken}
@@ -47,7 +47,7 @@ use Rattle.sched_job.specs.declared.work.Work.{Work}
 use Rattle.sched_job.specs.Runs.{Run, JobKept, Running}
 use Rattle.sched_job.specs.Turns.{attempts_left, left_by, most_turns, unwritten, unwritten_among, unwritten_by}
 use Rattle.sched_job.proofs.Fewer.{unwritten_fewer}
-use Rattle.sched_job.proofs.Growing.{Grows, stand_other, state_stays}
+use Rattle.sched_job.proofs.Growing.{Grows, job_state_other, state_stays}
 use Rattle.sched_job.proofs.Runnings.{running_other}
 use Rattle.sched_job.proofs.Turning.{StaysTaken, of_pod}
 use Rattle.sched_job.proofs.Keys.{changed_other, changed_there, false_by, key_tie, at_tie, other_key, same_or_not}
@@ -225,7 +225,7 @@ not_in_use s t e = when_none (is_in_use s t) refusal.InUse (or_none (when (not (
 
 -- ---- an entry of another job
 
-stays_written : (h : List Entry) (place job other : ℕ) (pod : Key) (p : PodState) (ev : Event) → Held (state_of h) pod job p → (other ≡ job → ⊥) → MayStand h other ev → Stay pod (state_of h).claims (after place other ev (state_of h)).claims
+stays_written : (h : List Entry) (place job other : ℕ) (pod : Key) (p : PodState) (ev : Event) → Held (state_of h) pod job p → (other ≡ job → ⊥) → MayFollow h other ev → Stay pod (state_of h).claims (after place other ev (state_of h)).claims
 stays_written h place job other pod p (Applied (object.Node x) mode) held differ stands = stay_same pod (state_of h).claims
 stays_written h place job other pod p (Applied (object.Slice x) mode) held differ stands = stay_same pod (state_of h).claims
 stays_written h place job other pod p (Applied (object.Class x) mode) held differ stands = stay_same pod (state_of h).claims
@@ -269,7 +269,7 @@ uid_put pod j n f pods None p q is fine there now =
     let apart : pod ≡ j → ⊥ = λ same. none_some p (at_key pods j) (subst (λ (x : Key). at_key pods x ≡ Some p) same there) is in uid_same p q (sym there ∙ sym (insert_other j pod pods n apart) ∙ now)
 uid_put pod j n f pods (Some r) p q is fine there now = uid_changed pod j f pods p q fine there (ap (λ (t : Pods). at_key t pod) (some_put j n f pods r is) ∙ now)
 
-keeps_uid : (h : List Entry) (place job other : ℕ) (pod : Key) (p q : PodState) (ev : Event) → Held (state_of h) pod job p → MayStand h other ev → at_key (after place other ev (state_of h)).pods pod ≡ Some q → p.pod.uid ≡ q.pod.uid
+keeps_uid : (h : List Entry) (place job other : ℕ) (pod : Key) (p q : PodState) (ev : Event) → Held (state_of h) pod job p → MayFollow h other ev → at_key (after place other ev (state_of h)).pods pod ≡ Some q → p.pod.uid ≡ q.pod.uid
 keeps_uid h place job other pod p q (Applied (object.Node x) mode) held stands now = uid_same p q (sym held.there ∙ now)
 keeps_uid h place job other pod p q (Applied (object.Slice x) mode) held stands now = uid_same p q (sym held.there ∙ now)
 keeps_uid h place job other pod p q (Applied (object.Class x) mode) held stands now = uid_same p q (sym held.there ∙ now)
@@ -300,29 +300,29 @@ keeps_uid h place job other pod p q (Denied command refused) held stands now = u
 pub record Others : Type 0 where
   pub grows : Grows
   pub state : (h : List Entry) (e : Entry) → state_of (h ++ e ∷ []) ≡ after (length h + 1) e.job e.event (state_of h)
-  pub step : (front : List Entry) (e : Entry) (back : List Entry) → Legal (front ++ e ∷ back) → Step front e
-  pub front : (front back : List Entry) → Legal (front ++ back) → Legal front
+  pub step : (prefix : List Entry) (e : Entry) (back : List Entry) → Legal (prefix ++ e ∷ back) → Step prefix e
+  pub prefix : (prefix back : List Entry) → Legal (prefix ++ back) → Legal prefix
   pub stays : StaysTaken
   pub uids : (h : List Entry) (first second : ℕ) (key : Key) (p q : PodState) → Legal h → at_key (state_at h first).pods key ≡ Some p → at_key (state_at h second).pods key ≡ Some q → p.pod.uid ≡ q.pod.uid → claims_of p ≡ claims_of q
 
 has_pod_by : (st : JobState) → has_reserved st ≡ true → has_pod st ≡ true
-has_pod_by stand.Fresh e = absurd cc
-has_pod_by (stand.Reserved k) e = refl
-has_pod_by (stand.Conflicted k) e = absurd cc
-has_pod_by (stand.Failed k) e = absurd cc
-has_pod_by (stand.Ended p) e = absurd cc
+has_pod_by job_state.Fresh e = absurd cc
+has_pod_by (job_state.Reserved k) e = refl
+has_pod_by (job_state.Conflicted k) e = absurd cc
+has_pod_by (job_state.Failed k) e = absurd cc
+has_pod_by (job_state.Ended p) e = absurd cc
 
 all_of : (h : List Entry) → state_at h (length h) ≡ state_of h
 all_of h = ap state_of (take_all (length h) h (omega arith))
 
-unwritten_others : Others → (c : Run) (h : List Entry) (e : Entry) (pod : Key) (attempts : ℕ) → c.command ≡ Schedule pod attempts → Legal (h ++ e ∷ []) → JobKept c h → JobKept c (h ++ e ∷ []) → eqb e.job c.job ≡ false → has_reserved (stand_of h c.job) ≡ true
+unwritten_others : Others → (c : Run) (h : List Entry) (e : Entry) (pod : Key) (attempts : ℕ) → c.command ≡ Schedule pod attempts → Legal (h ++ e ∷ []) → JobKept c h → JobKept c (h ++ e ∷ []) → eqb e.job c.job ≡ false → has_reserved (job_state_of h c.job) ≡ true
     → unwritten (state_of (h ++ e ∷ [])) pod ≤ unwritten (state_of h) pod
 unwritten_others laws c h e pod attempts is legal kept kept' other reserved =
     let g : List Entry = h ++ e ∷ [] in
-    let before : Legal h = laws.front h (e ∷ []) legal in
-    let stand' : has_pod (stand_of g c.job) ≡ true = ap has_pod (stand_other laws.grows h e c.job other) ∙ has_pod_by (stand_of h c.job) reserved in
-    let t = laws.stays h c.job pod before (of_pod c h pod attempts is kept) (has_pod_by (stand_of h c.job) reserved) in
-    let t' = laws.stays g c.job pod legal (of_pod c g pod attempts is kept') stand' in
+    let before : Legal h = laws.prefix h (e ∷ []) legal in
+    let job_state' : has_pod (job_state_of g c.job) ≡ true = ap has_pod (job_state_other laws.grows h e c.job other) ∙ has_pod_by (job_state_of h c.job) reserved in
+    let t = laws.stays h c.job pod before (of_pod c h pod attempts is kept) (has_pod_by (job_state_of h c.job) reserved) in
+    let t' = laws.stays g c.job pod legal (of_pod c g pod attempts is kept') job_state' in
     let held : Held (state_of h) pod c.job t.0 = record { node = t.1.0; there = t.1.1.there; taken = t.1.1.taken } in
     let step : Step h e = laws.step h e [] legal in
     let grown : state_of g ≡ after (length h + 1) e.job e.event (state_of h) = laws.state h e in
@@ -339,11 +339,11 @@ unwritten_others laws c h e pod attempts is legal kept kept' other reserved =
     omega arith
 
 attempts_le : (s s' : State) (pod : Key) (attempts : ℕ) (kept : Stage) (st : JobState) → (has_reserved st ≡ true → unwritten s' pod ≤ unwritten s pod) → attempts_left s' pod attempts kept st ≤ attempts_left s pod attempts kept st
-attempts_le s s' pod attempts kept stand.Fresh le = omega arith
-attempts_le s s' pod attempts kept (stand.Reserved k) le = let l = le refl in omega arith
-attempts_le s s' pod attempts kept (stand.Conflicted k) le = omega arith
-attempts_le s s' pod attempts kept (stand.Failed k) le = omega arith
-attempts_le s s' pod attempts kept (stand.Ended p) le = omega arith
+attempts_le s s' pod attempts kept job_state.Fresh le = omega arith
+attempts_le s s' pod attempts kept (job_state.Reserved k) le = let l = le refl in omega arith
+attempts_le s s' pod attempts kept (job_state.Conflicted k) le = omega arith
+attempts_le s s' pod attempts kept (job_state.Failed k) le = omega arith
+attempts_le s s' pod attempts kept (job_state.Ended p) le = omega arith
 
 left_le : (s s' : State) (kept : Stage) (st : JobState) (cmd : Command) → ((pod : Key) (attempts : ℕ) → cmd ≡ Schedule pod attempts → has_reserved st ≡ true → unwritten s' pod ≤ unwritten s pod) → left_by s' kept st cmd ≤ left_by s kept st cmd
 left_le s s' kept st (Apply object mode) le = omega arith
@@ -358,7 +358,7 @@ pub others_less : Others → (c : Run) (h : List Entry) (w : Work) (e : Entry) �
 others_less laws c h w e legal r other =
     let r' = running_other laws.grows c h w e other r in
     let mine : eqb e.job w.job ≡ false = ap (eqb e.job) r.job ∙ other in
-    let st : stand_of (h ++ e ∷ []) w.job ≡ stand_of h w.job = stand_other laws.grows h e w.job mine in
-    let le = left_le (state_of h) (state_of (h ++ e ∷ [])) w.stage (stand_of h w.job) w.command
-    (λ pod attempts is reserved. unwritten_others laws c h e pod attempts (sym r.command ∙ is) legal r.kept r'.kept other (ap has_reserved (ap (stand_of h) (sym r.job)) ∙ reserved)) in
-    subst (λ (x : JobState). left_by (state_of (h ++ e ∷ [])) w.stage x w.command ≤ left_by (state_of h) w.stage (stand_of h w.job) w.command) (sym st) le
+    let st : job_state_of (h ++ e ∷ []) w.job ≡ job_state_of h w.job = job_state_other laws.grows h e w.job mine in
+    let le = left_le (state_of h) (state_of (h ++ e ∷ [])) w.stage (job_state_of h w.job) w.command
+    (λ pod attempts is reserved. unwritten_others laws c h e pod attempts (sym r.command ∙ is) legal r.kept r'.kept other (ap has_reserved (ap (job_state_of h) (sym r.job)) ∙ reserved)) in
+    subst (λ (x : JobState). left_by (state_of (h ++ e ∷ [])) w.stage x w.command ≤ left_by (state_of h) w.stage (job_state_of h w.job) w.command) (sym st) le

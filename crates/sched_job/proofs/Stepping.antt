@@ -9,9 +9,9 @@ use Rattle.cluster.specs.declared.entry.Entry.{Entry}
 use Rattle.cluster.specs.declared.entry.Event.{Event}
 use Rattle.cluster.specs.declared.entry.Event.TheVariants.{Applied, Deleted, Reserved, Refused, Wrote, Conflict, Unreserved, Bound, VerdictGiven, Contended, Released, Adopted, Denied}
 use Rattle.cluster.specs.declared.entry.JobState.{JobState}
-use Rattle.cluster.specs.declared.entry.JobState.TheVariants as stand
-use Rattle.cluster.specs.Events.{stand_after}
-use Rattle.cluster.specs.History.{next_stand, stand_of, told}
+use Rattle.cluster.specs.declared.entry.JobState.TheVariants as job_state
+use Rattle.cluster.specs.Events.{job_state_after}
+use Rattle.cluster.specs.History.{next_job_state, job_state_of, told}
 use Rattle.ledger_core.specs.Ledger.{History}
 use Rattle.commands.specs.declared.command.Command.{Command}
 use Rattle.commands.specs.declared.command.Command.TheVariants.{Apply, Invalid, Delete, Schedule, Release, Adopt}
@@ -31,7 +31,7 @@ use Rattle.sched_job.proofs.Runnings.{running_fits, running_ended, staged_ready,
 abbrev pub GoesOn : Type 0
 GoesOn = (c : Run) (h : List Entry) (w : Work) (e : Entry) → eqb e.job c.job ≡ false → Running c h w → Running c (h ++ e ∷ []) w
 
-not_fresh : (st : JobState) (place : ℕ) (ev : Event) → stand_after st place ev ≡ stand.Fresh → ⊥
+not_fresh : (st : JobState) (place : ℕ) (ev : Event) → job_state_after st place ev ≡ job_state.Fresh → ⊥
 not_fresh st place (Applied object mode) e = cc
 not_fresh st place (Deleted target) e = cc
 not_fresh st place (Reserved pod plan) e = cc
@@ -46,15 +46,15 @@ not_fresh st place (Released pod) e = cc
 not_fresh st place (Adopted claim status) e = cc
 not_fresh st place (Denied command refusal) e = cc
 
-fresh_pick : (b : Bool) (st : JobState) (place : ℕ) (ev : Event) → cond b (stand_after st place ev) st ≡ stand.Fresh → (st ≡ stand.Fresh) × (b ≡ true → ⊥)
+fresh_pick : (b : Bool) (st : JobState) (place : ℕ) (ev : Event) → cond b (job_state_after st place ev) st ≡ job_state.Fresh → (st ≡ job_state.Fresh) × (b ≡ true → ⊥)
 fresh_pick true st place ev e = absurd (not_fresh st place ev e)
 fresh_pick false st place ev e = (e, λ t. cc)
 
-fresh_from : (job : ℕ) (st : JobState) (n : ℕ) (before es : List Entry) → told (next_stand job) st n es ≡ stand.Fresh → (st ≡ stand.Fresh) × Each (λ b d. d.job ≡ job → ⊥) before es
+fresh_from : (job : ℕ) (st : JobState) (n : ℕ) (before es : List Entry) → told (next_job_state job) st n es ≡ job_state.Fresh → (st ≡ job_state.Fresh) × Each (λ b d. d.job ≡ job → ⊥) before es
 unfolding told Each
 fresh_from job st n before [] e = (e, tt)
 fresh_from job st n before (d ∷ ds) e =
-    let r = fresh_from job (next_stand job st (n + 1) d) (n + 1) (before ++ d ∷ []) ds e in
+    let r = fresh_from job (next_job_state job st (n + 1) d) (n + 1) (before ++ d ∷ []) ds e in
     let p = fresh_pick (eqb d.job job) st (n + 1) d.event r.0 in
     (p.0, (λ mine. p.1 (eq-eqb d.job job mine), r.1))
 
@@ -64,12 +64,12 @@ kept_from c before [] each = tt
 kept_from c before (e ∷ es) each = (λ mine. absurd (each.0 mine), kept_from c (before ++ e ∷ []) es each.1)
 
 -- a job without an entry has made none wrong
-kept_new : (c : Run) (h : List Entry) → stand_of h c.job ≡ stand.Fresh → JobKept c h
-unfolding stand_of
-kept_new c h fresh = kept_from c [] h (fresh_from c.job stand.Fresh 0 [] h fresh).1
+kept_new : (c : Run) (h : List Entry) → job_state_of h c.job ≡ job_state.Fresh → JobKept c h
+unfolding job_state_of
+kept_new c h fresh = kept_from c [] h (fresh_from c.job job_state.Fresh 0 [] h fresh).1
 
 -- a work that is new runs
-pub running_new : (budget : ℕ) (h : List Entry) (w : Work) → stand_of h w.job ≡ stand.Fresh → w.stage ≡ Ready → 0 < attempts_of w.command → Running (run_of (length h) budget w) h w
+pub running_new : (budget : ℕ) (h : List Entry) (w : Work) → job_state_of h w.job ≡ job_state.Fresh → w.stage ≡ Ready → 0 < attempts_of w.command → Running (run_of (length h) budget w) h w
 running_new budget h w fresh ready some = record {
   job = refl;
   command = refl;
@@ -248,11 +248,11 @@ thought_unseen budget (Release pod) (Chosen choice) e = refl
 thought_unseen budget (Adopt claim status) (Chosen choice) e = refl
 
 again_by : (st : JobState) (kept : Stage) → answer st kept ≡ next.Again → answer_by kept ≡ next.Again
-again_by stand.Fresh kept e = e
-again_by (stand.Reserved k) kept e = e
-again_by (stand.Conflicted k) kept e = e
-again_by (stand.Failed k) kept e = e
-again_by (stand.Ended p) kept e = absurd cc
+again_by job_state.Fresh kept e = e
+again_by (job_state.Reserved k) kept e = e
+again_by (job_state.Conflicted k) kept e = e
+again_by (job_state.Failed k) kept e = e
+again_by (job_state.Ended p) kept e = absurd cc
 
 not_ended_by : (kept : Stage) (p : ℕ) → answer_by kept ≡ next.Ended p → ⊥
 not_ended_by Ready p e = cc
@@ -260,32 +260,32 @@ not_ended_by (Seen seen) p e = cc
 not_ended_by (Chosen choice) p e = cc
 
 ended_by : (st : JobState) (kept : Stage) (p : ℕ) → answer st kept ≡ next.Ended p → is_ended st ≡ false → ⊥
-ended_by stand.Fresh kept p e open_yet = not_ended_by kept p e
-ended_by (stand.Reserved k) kept p e open_yet = not_ended_by kept p e
-ended_by (stand.Conflicted k) kept p e open_yet = not_ended_by kept p e
-ended_by (stand.Failed k) kept p e open_yet = not_ended_by kept p e
-ended_by (stand.Ended q) kept p e open_yet = cc
+ended_by job_state.Fresh kept p e open_yet = not_ended_by kept p e
+ended_by (job_state.Reserved k) kept p e open_yet = not_ended_by kept p e
+ended_by (job_state.Conflicted k) kept p e open_yet = not_ended_by kept p e
+ended_by (job_state.Failed k) kept p e open_yet = not_ended_by kept p e
+ended_by (job_state.Ended q) kept p e open_yet = cc
 
 -- where a turn is followed by another one, no search is next
 pub thought_again : (budget : ℕ) (st : JobState) (cmd : Command) (kept made : Stage) → answer st made ≡ next.Again → made ≡ kept → Thought budget cmd kept made
 thought_again budget st cmd kept made e is = subst (λ (x : Stage). Thought budget cmd x made) is (thought_unseen budget cmd made (again_by st made e))
 
 -- nor where the turn ended the job
-pub thought_ended : (budget : ℕ) (H H' : History) (w : Work) (made : Stage) (p : ℕ) (o : Option Event) → move_of H.entries w ≡ o → H' ≡ moved H w.job o → made ≡ stage_by H.entries (stand_of H.entries w.job) w.command o → is_ended (stand_of H.entries w.job) ≡ false
-    → answer (stand_of H'.entries w.job) made ≡ next.Ended p → Thought budget w.command (stage_after H.entries w) made
+pub thought_ended : (budget : ℕ) (H H' : History) (w : Work) (made : Stage) (p : ℕ) (o : Option Event) → move_of H.entries w ≡ o → H' ≡ moved H w.job o → made ≡ stage_by H.entries (job_state_of H.entries w.job) w.command o → is_ended (job_state_of H.entries w.job) ≡ false
+    → answer (job_state_of H'.entries w.job) made ≡ next.Ended p → Thought budget w.command (stage_after H.entries w) made
 thought_ended budget H H' w made p None is now kept open_yet e =
-    absurd (ended_by (stand_of H'.entries w.job) made p e (ap (λ (x : History). is_ended (stand_of x.entries w.job)) now ∙ open_yet))
+    absurd (ended_by (job_state_of H'.entries w.job) made p e (ap (λ (x : History). is_ended (job_state_of x.entries w.job)) now ∙ open_yet))
 thought_ended budget H H' w made p (Some ev) is now kept open_yet e =
-    let ready : stage_by H.entries (stand_of H.entries w.job) w.command (Some ev) ≡ Ready = staged_some H.entries (stand_of H.entries w.job) w.command ev in
-    let after : stage_after H.entries w ≡ Ready = ap (λ (o : Option Event). stage_by H.entries (stand_of H.entries w.job) w.command o) is ∙ ready in
+    let ready : stage_by H.entries (job_state_of H.entries w.job) w.command (Some ev) ≡ Ready = staged_some H.entries (job_state_of H.entries w.job) w.command ev in
+    let after : stage_after H.entries w ≡ Ready = ap (λ (o : Option Event). stage_by H.entries (job_state_of H.entries w.job) w.command o) is ∙ ready in
     subst (λ (x : Stage). Thought budget w.command x made) (sym after) (subst (λ (x : Stage). Thought budget w.command Ready x) (sym (kept ∙ ready)) (thought_ready budget w.command))
 
 think_by : (st : JobState) (kept : Stage) → answer st kept ≡ next.Think → is_ended st ≡ false
-think_by stand.Fresh kept e = refl
-think_by (stand.Reserved k) kept e = refl
-think_by (stand.Conflicted k) kept e = refl
-think_by (stand.Failed k) kept e = refl
-think_by (stand.Ended p) kept e = absurd cc
+think_by job_state.Fresh kept e = refl
+think_by (job_state.Reserved k) kept e = refl
+think_by (job_state.Conflicted k) kept e = refl
+think_by (job_state.Failed k) kept e = refl
+think_by (job_state.Ended p) kept e = absurd cc
 
 -- where a search is next, the job hasn't ended
 pub think_open : (st : JobState) (kept : Stage) → answer st kept ≡ next.Think → is_ended st ≡ false
@@ -298,8 +298,8 @@ not_both true a b = absurd cc
 not_both false a b = absurd cc
 
 -- a work whose job hasn't ended makes one turn
-pub went_turned : (budget : ℕ) (H H' : History) (w w' : Work) → is_ended (stand_of H.entries w.job) ≡ false → OneTurn budget H H' w w' → Went budget H H' w w' 1
-went_turned budget H H' w w' open_yet one = record { over = λ e. not_both (is_ended (stand_of H.entries w.job)) e open_yet; turned = λ _. (one, refl) }
+pub went_turned : (budget : ℕ) (H H' : History) (w w' : Work) → is_ended (job_state_of H.entries w.job) ≡ false → OneTurn budget H H' w w' → Went budget H H' w w' 1
+went_turned budget H H' w w' open_yet one = record { over = λ e. not_both (is_ended (job_state_of H.entries w.job)) e open_yet; turned = λ _. (one, refl) }
 
 pub moved_limit : (H H' : History) (j : ℕ) (o : Option Event) → H' ≡ moved H j o → H'.limit ≡ H.limit
 moved_limit H H' j None now = ap (λ (x : History). x.limit) now

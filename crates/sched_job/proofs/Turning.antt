@@ -9,13 +9,13 @@ use Rattle.cluster.specs.declared.entry.Event.{Event}
 use Rattle.cluster.specs.declared.entry.Event.TheVariants.{Applied, Deleted, Reserved, Refused, Wrote, Conflict, Unreserved, Bound, VerdictGiven, Contended, Released, Adopted, Denied}
 use Rattle.cluster.specs.declared.entry.Refusal.{Refusal}
 use Rattle.cluster.specs.declared.entry.JobState.{JobState}
-use Rattle.cluster.specs.declared.entry.JobState.TheVariants as stand
+use Rattle.cluster.specs.declared.entry.JobState.TheVariants as job_state
 use Rattle.cluster.specs.declared.state.Phase.{Phase}
 use Rattle.cluster.specs.declared.state.Phase.TheVariants as phase
 use Rattle.cluster.specs.declared.state.PodState.{PodState}
 use Rattle.cluster.specs.declared.state.State.{State}
 use Rattle.cluster.specs.Denied.{phase_refusal, schedule_refusal}
-use Rattle.cluster.specs.History.{state_of, stand_of}
+use Rattle.cluster.specs.History.{state_of, job_state_of}
 use Rattle.cluster.specs.JobState.{failures, is_fresh, may_try}
 use Rattle.cluster.specs.State.{is_idle}
 use Rattle.alloc_rules.specs.declared.decision.Decision.{Decision}
@@ -71,10 +71,10 @@ of_pod c h pod attempts is kept e other there mine named =
 
 -- what the ledger states about a job that has a pod
 abbrev pub StaysTaken : Type 0
-StaysTaken = (h : List Entry) (job : ℕ) (pod : Key) → Legal h → ((e : Entry) (other : Key) → Contains h e → e.job ≡ job → pod_in e.event ≡ Some other → other ≡ pod) → has_pod (stand_of h job) ≡ true → (state : PodState) × ((node : List ℕ) × IsTaken (state_of h) pod job node state)
+StaysTaken = (h : List Entry) (job : ℕ) (pod : Key) → Legal h → ((e : Entry) (other : Key) → Contains h e → e.job ≡ job → pod_in e.event ≡ Some other → other ≡ pod) → has_pod (job_state_of h job) ≡ true → (state : PodState) × ((node : List ℕ) × IsTaken (state_of h) pod job node state)
 
 -- the pod of a job that has one
-has_taken : StaysTaken → (c : Run) (h : List Entry) (pod : Key) (attempts : ℕ) → c.command ≡ Schedule pod attempts → Legal h → JobKept c h → has_pod (stand_of h c.job) ≡ true → taken_by c.job (at_key (state_of h).pods pod) ≡ true
+has_taken : StaysTaken → (c : Run) (h : List Entry) (pod : Key) (attempts : ℕ) → c.command ≡ Schedule pod attempts → Legal h → JobKept c h → has_pod (job_state_of h c.job) ≡ true → taken_by c.job (at_key (state_of h).pods pod) ≡ true
 has_taken stays c h pod attempts is legal kept has =
     let t = stays h c.job pod legal (of_pod c h pod attempts is kept) has in
     ap (taken_by c.job) t.1.1.there ∙ ap (is_taken_by c.job) t.1.1.taken ∙ eq-eqb c.job c.job refl
@@ -115,18 +115,18 @@ record Begins (attempts : ℕ) (s : State) (pod : Key) (kept : Stage) (st : JobS
   pub tries : tries attempts st ≡ true
   pub none : try_move s pod kept ≡ None
 
-begins : StaysTaken → (c : Run) (h : List Entry) (pod : Key) (attempts : ℕ) (kept : Stage) (st : JobState) → c.command ≡ Schedule pod attempts → Legal h → JobKept c h → stand_of h c.job ≡ st → is_ended st ≡ false
+begins : StaysTaken → (c : Run) (h : List Entry) (pod : Key) (attempts : ℕ) (kept : Stage) (st : JobState) → c.command ≡ Schedule pod attempts → Legal h → JobKept c h → job_state_of h c.job ≡ st → is_ended st ≡ false
     → schedule_move (state_of h) c.job pod attempts kept st ≡ None → Begins attempts (state_of h) pod kept st
-begins stays c h pod attempts kept stand.Fresh is legal jk st_is open_yet none = record { tries = refl; none = none }
-begins stays c h pod attempts kept (stand.Reserved k) is legal jk st_is open_yet none =
+begins stays c h pod attempts kept job_state.Fresh is legal jk st_is open_yet none = record { tries = refl; none = none }
+begins stays c h pod attempts kept (job_state.Reserved k) is legal jk st_is open_yet none =
     never (taken_by c.job (at_key (state_of h).pods pod)) (has_taken stays c h pod attempts is legal jk (ap has_pod st_is))
     (due_none (state_of h) c.job pod (at_key (state_of h).pods pod) (finish_none (state_of h) pod (due_of (state_of h) c.job pod) none))
-begins stays c h pod attempts kept (stand.Conflicted k) is legal jk st_is open_yet none =
+begins stays c h pod attempts kept (job_state.Conflicted k) is legal jk st_is open_yet none =
     never (taken_by c.job (at_key (state_of h).pods pod)) (has_taken stays c h pod attempts is legal jk (ap has_pod st_is)) (none_if (taken_by c.job (at_key (state_of h).pods pod)) (Unreserved pod) none)
-begins stays c h pod attempts kept (stand.Failed k) is legal jk st_is open_yet none =
+begins stays c h pod attempts kept (job_state.Failed k) is legal jk st_is open_yet none =
     let r = failed_none attempts k (Contended pod k) (try_move (state_of h) pod kept) (nat_le attempts k) none in
     record { tries = r.0; none = r.1 }
-begins stays c h pod attempts kept (stand.Ended p) is legal jk st_is open_yet none = absurd cc
+begins stays c h pod attempts kept (job_state.Ended p) is legal jk st_is open_yet none = absurd cc
 
 -- the pod is there and Idle where no refusal holds
 idle_phase : (ph : Phase) → phase_refusal ph ≡ None → is_idle ph ≡ true
@@ -149,57 +149,57 @@ try_idle s pod (Chosen choice) e = absurd cc
 
 -- a job that isn't to schedule a pod has no entry, or has ended
 counted_fresh : (cmd : Command) (st : JobState) → is_schedule cmd ≡ false → Counted cmd st → is_ended st ≡ false → is_fresh st ≡ true
-counted_fresh cmd stand.Fresh other count open_yet = refl
-counted_fresh cmd (stand.Reserved k) other count open_yet = never (is_schedule cmd) count.schedules other
-counted_fresh cmd (stand.Conflicted k) other count open_yet = never (is_schedule cmd) count.schedules other
-counted_fresh cmd (stand.Failed k) other count open_yet = never (is_schedule cmd) count.schedules other
-counted_fresh cmd (stand.Ended p) other count open_yet = absurd cc
+counted_fresh cmd job_state.Fresh other count open_yet = refl
+counted_fresh cmd (job_state.Reserved k) other count open_yet = never (is_schedule cmd) count.schedules other
+counted_fresh cmd (job_state.Conflicted k) other count open_yet = never (is_schedule cmd) count.schedules other
+counted_fresh cmd (job_state.Failed k) other count open_yet = never (is_schedule cmd) count.schedules other
+counted_fresh cmd (job_state.Ended p) other count open_yet = absurd cc
 
 once_some : {X : Type 0} (st : JobState) (x : Event) → is_fresh st ≡ true → once st x ≡ None → X
 once_some st x fresh none = never (is_fresh st) fresh (none_if (is_fresh st) x none)
 
 -- what is kept after a turn that appends nothing is a snapshot
-looked_after : StaysTaken → (c : Run) (h : List Entry) (cmd : Command) (kept : Stage) → c.command ≡ cmd → Legal h → JobKept c h → Counted cmd (stand_of h c.job) → is_ended (stand_of h c.job) ≡ false
-    → move_by (state_of h) c.job kept (stand_of h c.job) cmd ≡ None → stage_by h (stand_of h c.job) cmd None ≡ looked h
-looked_after stays c h (Apply object mode) kept is legal jk count open_yet none = once_some (stand_of h c.job) _ (counted_fresh (Apply object mode) (stand_of h c.job) refl count open_yet) none
-looked_after stays c h (Invalid error) kept is legal jk count open_yet none = once_some (stand_of h c.job) _ (counted_fresh (Invalid error) (stand_of h c.job) refl count open_yet) none
-looked_after stays c h (Delete target) kept is legal jk count open_yet none = once_some (stand_of h c.job) _ (counted_fresh (Delete target) (stand_of h c.job) refl count open_yet) none
+looked_after : StaysTaken → (c : Run) (h : List Entry) (cmd : Command) (kept : Stage) → c.command ≡ cmd → Legal h → JobKept c h → Counted cmd (job_state_of h c.job) → is_ended (job_state_of h c.job) ≡ false
+    → move_by (state_of h) c.job kept (job_state_of h c.job) cmd ≡ None → stage_by h (job_state_of h c.job) cmd None ≡ looked h
+looked_after stays c h (Apply object mode) kept is legal jk count open_yet none = once_some (job_state_of h c.job) _ (counted_fresh (Apply object mode) (job_state_of h c.job) refl count open_yet) none
+looked_after stays c h (Invalid error) kept is legal jk count open_yet none = once_some (job_state_of h c.job) _ (counted_fresh (Invalid error) (job_state_of h c.job) refl count open_yet) none
+looked_after stays c h (Delete target) kept is legal jk count open_yet none = once_some (job_state_of h c.job) _ (counted_fresh (Delete target) (job_state_of h c.job) refl count open_yet) none
 looked_after stays c h (Schedule pod attempts) kept is legal jk count open_yet none =
-    let b = begins stays c h pod attempts kept (stand_of h c.job) is legal jk refl open_yet none in
+    let b = begins stays c h pod attempts kept (job_state_of h c.job) is legal jk refl open_yet none in
     ap (λ (x : Bool). cond x (looked h) Ready) b.tries
-looked_after stays c h (Release pod) kept is legal jk count open_yet none = once_some (stand_of h c.job) _ (counted_fresh (Release pod) (stand_of h c.job) refl count open_yet) none
-looked_after stays c h (Adopt claim status) kept is legal jk count open_yet none = once_some (stand_of h c.job) _ (counted_fresh (Adopt claim status) (stand_of h c.job) refl count open_yet) none
+looked_after stays c h (Release pod) kept is legal jk count open_yet none = once_some (job_state_of h c.job) _ (counted_fresh (Release pod) (job_state_of h c.job) refl count open_yet) none
+looked_after stays c h (Adopt claim status) kept is legal jk count open_yet none = once_some (job_state_of h c.job) _ (counted_fresh (Adopt claim status) (job_state_of h c.job) refl count open_yet) none
 
 -- the move of a running work, with the job's own number and command
-move_is : (c : Run) (h : List Entry) (w : Work) → Running c h w → move_by (state_of h) c.job w.stage (stand_of h c.job) c.command ≡ move_of h w
-move_is c h w r = sym (ap (λ (n : ℕ). move_by (state_of h) n w.stage (stand_of h n) w.command) r.job ∙ ap (λ (x : Command). move_by (state_of h) c.job w.stage (stand_of h c.job) x) r.command)
+move_is : (c : Run) (h : List Entry) (w : Work) → Running c h w → move_by (state_of h) c.job w.stage (job_state_of h c.job) c.command ≡ move_of h w
+move_is c h w r = sym (ap (λ (n : ℕ). move_by (state_of h) n w.stage (job_state_of h n) w.command) r.job ∙ ap (λ (x : Command). move_by (state_of h) c.job w.stage (job_state_of h c.job) x) r.command)
 
-pub thinks : StaysTaken → (c : Run) (h : List Entry) (w : Work) → Legal h → Running c h w → is_ended (stand_of h w.job) ≡ false → move_of h w ≡ None → stage_after h w ≡ looked h
+pub thinks : StaysTaken → (c : Run) (h : List Entry) (w : Work) → Legal h → Running c h w → is_ended (job_state_of h w.job) ≡ false → move_of h w ≡ None → stage_after h w ≡ looked h
 thinks stays c h w legal r open_yet none =
-    let l = looked_after stays c h c.command w.stage refl legal r.kept r.count (sym (ap (λ (n : ℕ). is_ended (stand_of h n)) r.job) ∙ open_yet) (move_is c h w r ∙ none) in
-    ap (λ (o : Option Event). stage_by h (stand_of h w.job) w.command o) none ∙ ap (λ (n : ℕ). stage_by h (stand_of h n) w.command None) r.job ∙ ap (λ (x : Command). stage_by h (stand_of h c.job) x None) r.command ∙ l
+    let l = looked_after stays c h c.command w.stage refl legal r.kept r.count (sym (ap (λ (n : ℕ). is_ended (job_state_of h n)) r.job) ∙ open_yet) (move_is c h w r ∙ none) in
+    ap (λ (o : Option Event). stage_by h (job_state_of h w.job) w.command o) none ∙ ap (λ (n : ℕ). stage_by h (job_state_of h n) w.command None) r.job ∙ ap (λ (x : Command). stage_by h (job_state_of h c.job) x None) r.command ∙ l
 
-pub idles : StaysTaken → (c : Run) (h : List Entry) (w : Work) (pod : Key) (attempts : ℕ) → w.command ≡ Schedule pod attempts → Legal h → Running c h w → is_ended (stand_of h w.job) ≡ false → move_of h w ≡ None → is_idle_pod (state_of h) pod ≡ true
+pub idles : StaysTaken → (c : Run) (h : List Entry) (w : Work) (pod : Key) (attempts : ℕ) → w.command ≡ Schedule pod attempts → Legal h → Running c h w → is_ended (job_state_of h w.job) ≡ false → move_of h w ≡ None → is_idle_pod (state_of h) pod ≡ true
 idles stays c h w pod attempts is legal r open_yet none =
     let command : c.command ≡ Schedule pod attempts = sym r.command ∙ is in
-    let none' : schedule_move (state_of h) c.job pod attempts w.stage (stand_of h c.job) ≡ None = sym (ap (λ (x : Command). move_by (state_of h) c.job w.stage (stand_of h c.job) x) command) ∙ move_is c h w r ∙ none in
-    let b = begins stays c h pod attempts w.stage (stand_of h c.job) command legal r.kept refl (sym (ap (λ (n : ℕ). is_ended (stand_of h n)) r.job) ∙ open_yet) none' in
+    let none' : schedule_move (state_of h) c.job pod attempts w.stage (job_state_of h c.job) ≡ None = sym (ap (λ (x : Command). move_by (state_of h) c.job w.stage (job_state_of h c.job) x) command) ∙ move_is c h w r ∙ none in
+    let b = begins stays c h pod attempts w.stage (job_state_of h c.job) command legal r.kept refl (sym (ap (λ (n : ℕ). is_ended (job_state_of h n)) r.job) ∙ open_yet) none' in
     try_idle (state_of h) pod w.stage b.none
 
 seen_thinks : (st : JobState) (h : List Entry) → is_ended st ≡ false → answer st (looked h) ≡ next.Think
-seen_thinks stand.Fresh h e = refl
-seen_thinks (stand.Reserved k) h e = refl
-seen_thinks (stand.Conflicted k) h e = refl
-seen_thinks (stand.Failed k) h e = refl
-seen_thinks (stand.Ended p) h e = absurd cc
+seen_thinks job_state.Fresh h e = refl
+seen_thinks (job_state.Reserved k) h e = refl
+seen_thinks (job_state.Conflicted k) h e = refl
+seen_thinks (job_state.Failed k) h e = refl
+seen_thinks (job_state.Ended p) h e = absurd cc
 
 -- a turn that appends nothing says that a search is next
-pub answers : StaysTaken → (c : Run) (h : List Entry) (w : Work) → Legal h → Running c h w → is_ended (stand_of h w.job) ≡ false → move_of h w ≡ None → answer (stand_of h w.job) (stage_after h w) ≡ next.Think
-answers stays c h w legal r open_yet none = ap (answer (stand_of h w.job)) (thinks stays c h w legal r open_yet none) ∙ seen_thinks (stand_of h w.job) h open_yet
+pub answers : StaysTaken → (c : Run) (h : List Entry) (w : Work) → Legal h → Running c h w → is_ended (job_state_of h w.job) ≡ false → move_of h w ≡ None → answer (job_state_of h w.job) (stage_after h w) ≡ next.Think
+answers stays c h w legal r open_yet none = ap (answer (job_state_of h w.job)) (thinks stays c h w legal r open_yet none) ∙ seen_thinks (job_state_of h w.job) h open_yet
 
 -- ---- the turn after a search
 
-chosen_try : (c : Run) (h : List Entry) (pod : Key) (choice : Decision) → IsTrying c h pod (Chosen choice) → (may_try (stand_of h c.job) ≡ true) × (failures (stand_of h c.job) < attempts_of c.command)
+chosen_try : (c : Run) (h : List Entry) (pod : Key) (choice : Decision) → IsTrying c h pod (Chosen choice) → (may_try (job_state_of h c.job) ≡ true) × (failures (job_state_of h c.job) < attempts_of c.command)
 chosen_try c h pod (Reserve plan) s = (s.tried.try.may, s.tried.try.left)
 chosen_try c h pod (Judge verdict) s = (s.tried.try.may, s.tried.try.left)
 
@@ -208,17 +208,17 @@ more_left attempts k x o true t lt = absurd (let le = leb-true attempts k t in o
 more_left attempts k x o false t lt = refl
 
 chosen_moves : (s : State) (job : ℕ) (pod : Key) (attempts : ℕ) (choice : Decision) (st : JobState) → may_try st ≡ true → failures st < attempts → schedule_move s job pod attempts (Chosen choice) st ≡ Some (chosen_event s pod choice)
-chosen_moves s job pod attempts choice stand.Fresh may left = refl
-chosen_moves s job pod attempts choice (stand.Reserved k) may left = absurd cc
-chosen_moves s job pod attempts choice (stand.Conflicted k) may left = absurd cc
-chosen_moves s job pod attempts choice (stand.Failed k) may left = more_left attempts k (Contended pod k) (Some (chosen_event s pod choice)) (nat_le attempts k) refl left
-chosen_moves s job pod attempts choice (stand.Ended p) may left = absurd cc
+chosen_moves s job pod attempts choice job_state.Fresh may left = refl
+chosen_moves s job pod attempts choice (job_state.Reserved k) may left = absurd cc
+chosen_moves s job pod attempts choice (job_state.Conflicted k) may left = absurd cc
+chosen_moves s job pod attempts choice (job_state.Failed k) may left = more_left attempts k (Contended pod k) (Some (chosen_event s pod choice)) (nat_le attempts k) refl left
+chosen_moves s job pod attempts choice (job_state.Ended p) may left = absurd cc
 
 pub acts : (c : Run) (h : List Entry) (w : Work) (pod : Key) (attempts : ℕ) (choice : Decision) → w.command ≡ Schedule pod attempts → w.stage ≡ Chosen choice → Running c h w → move_of h w ≡ Some (chosen_event (state_of h) pod choice)
 acts c h w pod attempts choice is chosen r =
     let command : c.command ≡ Schedule pod attempts = sym r.command ∙ is in
     let staged : IsTrying c h pod (Chosen choice) = subst (λ (x : Stage). IsTrying c h pod x) chosen (subst (λ (x : Command). IsStaged c h x w.stage) command r.staged) in
     let t = chosen_try c h pod choice staged in
-    let left : failures (stand_of h c.job) < attempts = subst (λ (n : ℕ). failures (stand_of h c.job) < n) (ap attempts_of command) t.1 in
-    sym (move_is c h w r) ∙ ap (λ (x : Command). move_by (state_of h) c.job w.stage (stand_of h c.job) x) command ∙ ap (λ (x : Stage). schedule_move (state_of h) c.job pod attempts x (stand_of h c.job)) chosen
-    ∙ chosen_moves (state_of h) c.job pod attempts choice (stand_of h c.job) t.0 left
+    let left : failures (job_state_of h c.job) < attempts = subst (λ (n : ℕ). failures (job_state_of h c.job) < n) (ap attempts_of command) t.1 in
+    sym (move_is c h w r) ∙ ap (λ (x : Command). move_by (state_of h) c.job w.stage (job_state_of h c.job) x) command ∙ ap (λ (x : Stage). schedule_move (state_of h) c.job pod attempts x (job_state_of h c.job)) chosen
+    ∙ chosen_moves (state_of h) c.job pod attempts choice (job_state_of h c.job) t.0 left

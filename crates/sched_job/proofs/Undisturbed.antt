@@ -9,21 +9,21 @@ use Rattle.cluster.specs.declared.entry.Entry.{Entry}
 use Rattle.cluster.specs.declared.entry.Event.{Event}
 use Rattle.cluster.specs.declared.entry.Event.TheVariants.{Applied, Deleted, Reserved, Refused, Wrote, Conflict, Unreserved, Bound, VerdictGiven, Contended, Released, Adopted, Denied}
 use Rattle.cluster.specs.declared.entry.JobState.{JobState}
-use Rattle.cluster.specs.declared.entry.JobState.TheVariants as stand
+use Rattle.cluster.specs.declared.entry.JobState.TheVariants as job_state
 use Rattle.cluster.specs.declared.failure.Failure.{Failure}
 use Rattle.cluster.specs.declared.plan.Plan.{Plan}
 use Rattle.cluster.specs.declared.state.Phase.{Phase}
 use Rattle.cluster.specs.declared.state.State.{State}
 use Rattle.cluster.specs.Denied.{is_busy, is_user}
-use Rattle.cluster.specs.Events.{after, allows, stand_after}
-use Rattle.cluster.specs.History.{state_at, state_of, stand_of}
+use Rattle.cluster.specs.Events.{after, allows, job_state_after}
+use Rattle.cluster.specs.History.{state_at, state_of, job_state_of}
 use Rattle.cluster.specs.Reserved.{with_reserved}
 use Rattle.cluster.specs.JobState.{has_reserved}
 use Rattle.cluster.specs.State.{is_idle, version_of}
 use Rattle.cluster.specs.Wrote.{with_written}
 use Rattle.alloc_rules.specs.Plans.{PlanTrue}
 use Rattle.plan_check.specs.Failing.{failing}
-use Rattle.ledger_core.specs.Legal.{Legal, MayStand, Step}
+use Rattle.ledger_core.specs.Legal.{Legal, MayFollow, Step}
 use Rattle.commands.specs.declared.command.Command.{Command}
 use Rattle.commands.specs.declared.command.Command.TheVariants.{Apply, Invalid, Delete, Schedule, Release, Adopt}
 use Rattle.sched_job.specs.Alone.{Alone, NeverSetBack, is_setback}
@@ -37,24 +37,24 @@ use Rattle.sched_job.proofs.Steadying.{Steady, steady_reserved, steady_unused, s
 pub record Laws : Type 0 where
   pub grows : Grows
   pub state : (h : List Entry) (e : Entry) → state_of (h ++ e ∷ []) ≡ after (length h + 1) e.job e.event (state_of h)
-  pub fresh : (job : ℕ) → stand_of [] job ≡ stand.Fresh
-  pub step : (front : List Entry) (e : Entry) (back : List Entry) → Legal (front ++ e ∷ back) → Step front e
-  pub front : (front back : List Entry) → Legal (front ++ back) → Legal front
+  pub fresh : (job : ℕ) → job_state_of [] job ≡ job_state.Fresh
+  pub step : (prefix : List Entry) (e : Entry) (back : List Entry) → Legal (prefix ++ e ∷ back) → Step prefix e
+  pub prefix : (prefix back : List Entry) → Legal (prefix ++ back) → Legal prefix
   pub idle : (h : List Entry) (pod : Key) → Legal h → is_busy (at_key (state_of h).pods pod) ≡ false → is_user (state_of h) pod ≡ false
   pub holds : (h : List Entry) (pod : Key) (plan : Plan) → Legal h → PlanTrue (state_of h) pod plan → failing (state_of h) pod plan ≡ None
 
 abbrev calm : JobState → Bool
-calm stand.Fresh = true
-calm (stand.Reserved k) = true
-calm (stand.Conflicted k) = false
-calm (stand.Failed k) = false
-calm (stand.Ended place) = true
+calm job_state.Fresh = true
+calm (job_state.Reserved k) = true
+calm (job_state.Conflicted k) = false
+calm (job_state.Failed k) = false
+calm (job_state.Ended place) = true
 
 record Calm (c : Run) (pod : Key) (h : List Entry) : Type 0 where
-  early : length h ≤ c.from → stand_of h c.job ≡ stand.Fresh
+  early : length h ≤ c.from → job_state_of h c.job ≡ job_state.Fresh
   last : c.from < length h → last_place h c.job ≡ length h
-  stands : calm (stand_of h c.job) ≡ true
-  steady : has_reserved (stand_of h c.job) ≡ true → Steady pod (state_of h).claims
+  stands : calm (job_state_of h c.job) ≡ true
+  steady : has_reserved (job_state_of h c.job) ≡ true → Steady pod (state_of h).claims
 
 -- all that is said of an entry
 record All (c : Run) (before : List Entry) (e : Entry) : Type 0 where
@@ -79,18 +79,18 @@ state_here : (h : List Entry) (n : ℕ) → n ≡ length h → state_at h n ≡ 
 state_here h n is = ap (λ (k : ℕ). state_at h k) is ∙ ap state_of (take_all (length h) h (omega arith))
 
 not_conflicted : (st : JobState) (pod : Key) → calm st ≡ true → allows st (Unreserved pod) ≡ true → ⊥
-not_conflicted stand.Fresh pod is may = cc
-not_conflicted (stand.Reserved k) pod is may = cc
-not_conflicted (stand.Conflicted k) pod is may = cc
-not_conflicted (stand.Failed k) pod is may = cc
-not_conflicted (stand.Ended p) pod is may = cc
+not_conflicted job_state.Fresh pod is may = cc
+not_conflicted (job_state.Reserved k) pod is may = cc
+not_conflicted (job_state.Conflicted k) pod is may = cc
+not_conflicted (job_state.Failed k) pod is may = cc
+not_conflicted (job_state.Ended p) pod is may = cc
 
 not_failed : (st : JobState) (pod : Key) (n : ℕ) → calm st ≡ true → allows st (Contended pod n) ≡ true → ⊥
-not_failed stand.Fresh pod n is may = cc
-not_failed (stand.Reserved k) pod n is may = cc
-not_failed (stand.Conflicted k) pod n is may = cc
-not_failed (stand.Failed k) pod n is may = cc
-not_failed (stand.Ended p) pod n is may = cc
+not_failed job_state.Fresh pod n is may = cc
+not_failed (job_state.Reserved k) pod n is may = cc
+not_failed (job_state.Conflicted k) pod n is may = cc
+not_failed (job_state.Failed k) pod n is may = cc
+not_failed (job_state.Ended p) pod n is may = cc
 
 -- what an entry of the job leaves
 record After (pod : Key) (s' : State) (st' : JobState) (ev : Event) : Type 0 where
@@ -101,8 +101,8 @@ record After (pod : Key) (s' : State) (st' : JobState) (ev : Event) : Type 0 whe
 pod_is : (p pod : Key) (a b : ℕ) → Schedule p a ≡ Schedule pod b → p ≡ pod
 pod_is p pod a b e = cc
 
-own_after : Laws → (c : Run) (pod : Key) (attempts : ℕ) (h : List Entry) (st : JobState) (place job : ℕ) (ev : Event) → c.command ≡ Schedule pod attempts → Legal h → Calm c pod h → c.from ≤ length h → stand_of h c.job ≡ st
-    → allows st ev ≡ true → MayStand h job ev → JobStep c h ev → After pod (after place job ev (state_of h)) (stand_after st place ev) ev
+own_after : Laws → (c : Run) (pod : Key) (attempts : ℕ) (h : List Entry) (st : JobState) (place job : ℕ) (ev : Event) → c.command ≡ Schedule pod attempts → Legal h → Calm c pod h → c.from ≤ length h → job_state_of h c.job ≡ st
+    → allows st ev ≡ true → MayFollow h job ev → JobStep c h ev → After pod (after place job ev (state_of h)) (job_state_after st place ev) ev
 own_after laws c pod attempts h st place job (Applied object mode) cmd legal q le sd may stands k = record { fine = refl; stands = refl; steady = λ held. absurd cc }
 own_after laws c pod attempts h st place job (Deleted target) cmd legal q le sd may stands k = record { fine = refl; stands = refl; steady = λ held. absurd cc }
 own_after laws c pod attempts h st place job (Reserved p plan) cmd legal q le sd may stands k =
@@ -139,9 +139,9 @@ own_after laws c pod attempts h st place job (Denied command refusal) cmd legal 
 own_step : Laws → (c : Run) (pod : Key) (attempts : ℕ) (h : List Entry) (e : Entry) → c.command ≡ Schedule pod attempts → Calm c pod h → All c h e → e.job ≡ c.job → (is_setback e.event ≡ false) × Calm c pod (h ++ e ∷ [])
 own_step laws c pod attempts h e cmd q a mine =
     let k = a.kept mine in
-    let may : allows (stand_of h c.job) e.event ≡ true = subst (λ (n : ℕ). allows (stand_of h n) e.event ≡ true) mine a.step.allowed in
-    let r = own_after laws c pod attempts h (stand_of h c.job) (length h + 1) e.job e.event cmd a.legal q k.after refl may a.step.stands k in
-    let st : stand_of (h ++ e ∷ []) c.job ≡ stand_after (stand_of h c.job) (length h + 1) e.event = laws.grows h e c.job ∙ ap (λ (b : Bool). cond b (stand_after (stand_of h c.job) (length h + 1) e.event) (stand_of h c.job)) (eq-eqb e.job c.job mine) in
+    let may : allows (job_state_of h c.job) e.event ≡ true = subst (λ (n : ℕ). allows (job_state_of h n) e.event ≡ true) mine a.step.allowed in
+    let r = own_after laws c pod attempts h (job_state_of h c.job) (length h + 1) e.job e.event cmd a.legal q k.after refl may a.step.stands k in
+    let st : job_state_of (h ++ e ∷ []) c.job ≡ job_state_after (job_state_of h c.job) (length h + 1) e.event = laws.grows h e c.job ∙ ap (λ (b : Bool). cond b (job_state_after (job_state_of h c.job) (length h + 1) e.event) (job_state_of h c.job)) (eq-eqb e.job c.job mine) in
     let ls : last_place (h ++ e ∷ []) c.job ≡ length h + 1 = last_more h e c.job ∙ ap (λ (b : Bool). cond b (length h + 1) (last_place h c.job)) (eq-eqb e.job c.job mine) in
     let len : length (h ++ e ∷ []) ≡ length h + 1 = omega (arith, length-append h (e ∷ [])) in
     let le = k.after in (
@@ -164,8 +164,8 @@ eqb_cases a b differ = pick (eqb a b) refl
 -- before the job begins, others leave it Fresh
 other_step : Laws → (c : Run) (pod : Key) (h : List Entry) (e : Entry) → Calm c pod h → length h < c.from → (e.job ≡ c.job → ⊥) → Calm c pod (h ++ e ∷ [])
 other_step laws c pod h e q small differ =
-    let st : stand_of (h ++ e ∷ []) c.job ≡ stand_of h c.job = laws.grows h e c.job ∙ ap (λ (b : Bool). cond b (stand_after (stand_of h c.job) (length h + 1) e.event) (stand_of h c.job)) (eqb_cases e.job c.job differ) in
-    let fresh : stand_of (h ++ e ∷ []) c.job ≡ stand.Fresh = st ∙ q.early (omega arith) in
+    let st : job_state_of (h ++ e ∷ []) c.job ≡ job_state_of h c.job = laws.grows h e c.job ∙ ap (λ (b : Bool). cond b (job_state_after (job_state_of h c.job) (length h + 1) e.event) (job_state_of h c.job)) (eqb_cases e.job c.job differ) in
+    let fresh : job_state_of (h ++ e ∷ []) c.job ≡ job_state.Fresh = st ∙ q.early (omega arith) in
     let len : length (h ++ e ∷ []) ≡ length h + 1 = omega (arith, length-append h (e ∷ [])) in
     record {
       early = λ le. fresh;
@@ -191,7 +191,7 @@ alone_from : Laws → (c : Run) (pod : Key) (attempts : ℕ) (before es : List E
 unfolding Each
 alone_from laws c pod attempts before [] cmd q legal kept alone = tt
 alone_from laws c pod attempts before (e ∷ es) cmd q legal kept alone =
-    let r = by_place laws c pod attempts before e cmd q (record { legal = laws.front before (e ∷ es) legal; step = laws.step before e es legal; kept = kept.0; alone = alone.0 }) in
+    let r = by_place laws c pod attempts before e cmd q (record { legal = laws.prefix before (e ∷ es) legal; step = laws.step before e es legal; kept = kept.0; alone = alone.0 }) in
     (r.0, alone_from laws c pod attempts (before ++ e ∷ []) es cmd r.1 (subst Legal (sym (append_assoc before (e ∷ []) es)) legal) kept.1 alone.1)
 
 calm_start : Laws → (c : Run) (pod : Key) → Calm c pod []
@@ -250,14 +250,14 @@ unfolding Each
 alone_added job from before [] of = tt
 alone_added job from before (e ∷ es) of = ((λ le. eqb-true e.job job (or_is (eqb e.job job) of.0)), alone_added job from (before ++ e ∷ []) es of.1)
 
-alone_front : (job from : ℕ) (before es added : List Entry) → length before + length es ≡ from → AllOf (job ∷ []) added → Each (λ b e. from ≤ length b → e.job ≡ job) before (es ++ added)
+alone_prefix : (job from : ℕ) (before es added : List Entry) → length before + length es ≡ from → AllOf (job ∷ []) added → Each (λ b e. from ≤ length b → e.job ≡ job) before (es ++ added)
 unfolding Each
-alone_front job from before [] added len of = alone_added job from before added of
-alone_front job from before (e ∷ es) added len of = (
+alone_prefix job from before [] added len of = alone_added job from before added of
+alone_prefix job from before (e ∷ es) added len of = (
   (λ le. absurd (omega arith)),
-  alone_front job from (before ++ e ∷ []) es added (omega (arith, length-append before (e ∷ []))) of,
+  alone_prefix job from (before ++ e ∷ []) es added (omega (arith, length-append before (e ∷ []))) of,
 )
 
 -- a history that one job alone extends
 pub alone_extends : (job : ℕ) (h h' : List Entry) → Extends (job ∷ []) h h' → Alone job (length h) h'
-alone_extends job h h' ext = subst (λ (xs : List Entry). Each (λ b e. length h ≤ length b → e.job ≡ job) [] xs) (sym ext.now) (alone_front job (length h) [] h ext.added (omega arith) ext.of_jobs)
+alone_extends job h h' ext = subst (λ (xs : List Entry). Each (λ b e. length h ≤ length b → e.job ≡ job) [] xs) (sym ext.now) (alone_prefix job (length h) [] h ext.added (omega arith) ext.of_jobs)

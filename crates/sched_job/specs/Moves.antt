@@ -9,13 +9,13 @@ use Rattle.cluster.specs.declared.entry.Event.TheVariants.{Unreserved, Bound, Ve
 use Rattle.cluster.specs.declared.entry.Refusal.{Refusal}
 use Rattle.cluster.specs.declared.entry.Refusal.TheVariants as refusal
 use Rattle.cluster.specs.declared.entry.JobState.{JobState}
-use Rattle.cluster.specs.declared.entry.JobState.TheVariants as stand
+use Rattle.cluster.specs.declared.entry.JobState.TheVariants as job_state
 use Rattle.cluster.specs.declared.state.Phase.{Phase}
 use Rattle.cluster.specs.declared.state.Phase.TheVariants as phase
 use Rattle.cluster.specs.declared.state.PodState.{PodState}
 use Rattle.cluster.specs.declared.state.State.{State}
 use Rattle.cluster.specs.Denied.{first_refusal}
-use Rattle.cluster.specs.History.{state_of, stand_of}
+use Rattle.cluster.specs.History.{state_of, job_state_of}
 use Rattle.cluster.specs.JobState.{is_fresh}
 use Rattle.cluster.specs.State.{claims_of, has_written, taken_node}
 use Rattle.alloc_rules.specs.declared.decision.Decision.{Decision}
@@ -109,11 +109,11 @@ try_move s pod (stage.Chosen choice) = Some (chosen_event s pod choice)
 -- ---- a turn
 
 abbrev pub schedule_move : State → ℕ → Key → ℕ → Stage → JobState → Option Event
-schedule_move s job pod attempts stage stand.Fresh = try_move s pod stage
-schedule_move s job pod attempts stage (stand.Reserved failed) = finish_move s job pod
-schedule_move s job pod attempts stage (stand.Conflicted failed) = give_up_move s job pod
-schedule_move s job pod attempts stage (stand.Failed failed) = if nat_le attempts failed then Some (Contended pod failed) else try_move s pod stage
-schedule_move s job pod attempts stage (stand.Ended place) = None
+schedule_move s job pod attempts stage job_state.Fresh = try_move s pod stage
+schedule_move s job pod attempts stage (job_state.Reserved failed) = finish_move s job pod
+schedule_move s job pod attempts stage (job_state.Conflicted failed) = give_up_move s job pod
+schedule_move s job pod attempts stage (job_state.Failed failed) = if nat_le attempts failed then Some (Contended pod failed) else try_move s pod stage
+schedule_move s job pod attempts stage (job_state.Ended place) = None
 
 -- the one event of a job that isn't to schedule a pod
 abbrev pub once : JobState → Event → Option Event
@@ -129,7 +129,7 @@ move_by s job stage st (command.Adopt claim status) = once st (adoption s claim 
 
 -- the event that the work's next turn appends, or none
 abbrev pub move_of : List Entry → Work → Option Event
-move_of h w = move_by (state_of h) w.job w.stage (stand_of h w.job) w.command
+move_of h w = move_by (state_of h) w.job w.stage (job_state_of h w.job) w.command
 
 -- ---- what is kept between two turns
 
@@ -144,11 +144,11 @@ tried h (Some event) = stage.Ready
 
 -- the job has attempts left, and none is under way
 abbrev pub tries : ℕ → JobState → Bool
-tries attempts stand.Fresh = true
-tries attempts (stand.Reserved failed) = false
-tries attempts (stand.Conflicted failed) = false
-tries attempts (stand.Failed failed) = if nat_le attempts failed then false else true
-tries attempts (stand.Ended place) = false
+tries attempts job_state.Fresh = true
+tries attempts (job_state.Reserved failed) = false
+tries attempts (job_state.Conflicted failed) = false
+tries attempts (job_state.Failed failed) = if nat_le attempts failed then false else true
+tries attempts (job_state.Ended place) = false
 
 abbrev pub schedule_stage : List Entry → JobState → ℕ → Option Event → Stage
 schedule_stage h st attempts None = if tries attempts st then looked h else stage.Ready
@@ -164,7 +164,7 @@ stage_by h st (command.Adopt claim status) event = stage.Ready
 
 -- what the work keeps after its next turn
 abbrev pub stage_after : List Entry → Work → Stage
-stage_after h w = stage_by h (stand_of h w.job) w.command (move_of h w)
+stage_after h w = stage_by h (job_state_of h w.job) w.command (move_of h w)
 
 abbrev pub answer_by : Stage → Next
 answer_by stage.Ready = next.Again
@@ -173,11 +173,11 @@ answer_by (stage.Chosen choice) = next.Again
 
 -- how a job goes on that has come so far
 abbrev pub answer : JobState → Stage → Next
-answer stand.Fresh stage = answer_by stage
-answer (stand.Reserved failed) stage = answer_by stage
-answer (stand.Conflicted failed) stage = answer_by stage
-answer (stand.Failed failed) stage = answer_by stage
-answer (stand.Ended place) stage = next.Ended place
+answer job_state.Fresh stage = answer_by stage
+answer (job_state.Reserved failed) stage = answer_by stage
+answer (job_state.Conflicted failed) stage = answer_by stage
+answer (job_state.Failed failed) stage = answer_by stage
+answer (job_state.Ended place) stage = next.Ended place
 
 -- ---- the condition of a turn
 

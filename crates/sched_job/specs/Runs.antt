@@ -7,10 +7,10 @@ use Rattle.cluster.specs.declared.entry.Entry.{Entry}
 use Rattle.cluster.specs.declared.entry.Event.{Event}
 use Rattle.cluster.specs.declared.entry.Event.TheVariants.{Applied, Deleted, Reserved, Refused, Wrote, Conflict, Unreserved, Bound, VerdictGiven, Contended, Released, Adopted, Denied}
 use Rattle.cluster.specs.declared.entry.JobState.{JobState}
-use Rattle.cluster.specs.declared.entry.JobState.TheVariants as stand
+use Rattle.cluster.specs.declared.entry.JobState.TheVariants as job_state
 use Rattle.cluster.specs.declared.plan.Plan.{Plan}
 use Rattle.cluster.specs.declared.plan.Verdict.{Verdict}
-use Rattle.cluster.specs.History.{state_at, stand_of}
+use Rattle.cluster.specs.History.{state_at, job_state_of}
 use Rattle.cluster.specs.JobState.{failures, may_try}
 use Rattle.alloc_rules.specs.declared.decision.Decision.{Decision}
 use Rattle.alloc_rules.specs.declared.decision.Decision.TheVariants.{Reserve, Judge}
@@ -81,8 +81,8 @@ pub record IsTry (c : Run) (before : List Entry) (at : ℕ) : Type 0 where
   pub from : c.from ≤ at
   pub last : last_place before c.job ≤ at
   pub within : at ≤ length before
-  pub may : may_try (stand_of before c.job) ≡ true
-  pub left : failures (stand_of before c.job) < attempts_of c.command
+  pub may : may_try (job_state_of before c.job) ≡ true
+  pub left : failures (job_state_of before c.job) < attempts_of c.command
 
 -- the plan is what searches within the budget find at its index
 pub record TriedPlan (c : Run) (before : List Entry) (pod : Key) (plan : Plan) : Type 0 where
@@ -107,7 +107,7 @@ Timed c before (VerdictGiven pod verdict) = TriedVerdict c before pod verdict
 Timed c before (Contended pod failed) = failed ≡ attempts_of c.command
 Timed c before (Released pod) = Unit {0}
 Timed c before (Adopted claim status) = Unit {0}
-Timed c before (Denied command refusal) = failures (stand_of before c.job) < attempts_of c.command
+Timed c before (Denied command refusal) = failures (job_state_of before c.job) < attempts_of c.command
 
 -- an entry of the job: it comes after the job began, is of the command, and states what searches within the budget find
 pub record JobStep (c : Run) (before : List Entry) (event : Event) : Type 0 where
@@ -123,19 +123,19 @@ JobKept c h = Each (λ before e. e.job ≡ c.job → JobStep c before e.event) [
 pub record JobRun (c : Run) (h : List Entry) : Type 0 where
   pub kept : JobKept c h
   pub place : ℕ
-  pub ended : stand_of h c.job ≡ stand.Ended place
+  pub ended : job_state_of h c.job ≡ job_state.Ended place
 
 abbrev pub is_ended : JobState → Bool
-is_ended stand.Fresh = false
-is_ended (stand.Reserved failed) = false
-is_ended (stand.Conflicted failed) = false
-is_ended (stand.Failed failed) = false
-is_ended (stand.Ended place) = true
+is_ended job_state.Fresh = false
+is_ended (job_state.Reserved failed) = false
+is_ended (job_state.Conflicted failed) = false
+is_ended (job_state.Failed failed) = false
+is_ended (job_state.Ended place) = true
 
 -- the job isn't ended, and its entries are a part of its run
 pub record JobBegun (c : Run) (h : List Entry) : Type 0 where
   pub kept : JobKept c h
-  pub open_yet : is_ended (stand_of h c.job) ≡ false
+  pub open_yet : is_ended (job_state_of h c.job) ≡ false
 
 -- ---- a work of the job
 
@@ -151,11 +151,11 @@ pub record HasFailed (c : Command) (failed : ℕ) : Type 0 where
 
 -- how far a job may have come
 abbrev pub Counted : Command → JobState → Type 0
-Counted c stand.Fresh = Unit {0}
-Counted c (stand.Reserved failed) = IsUnderWay c failed
-Counted c (stand.Conflicted failed) = IsUnderWay c failed
-Counted c (stand.Failed failed) = HasFailed c failed
-Counted c (stand.Ended place) = Unit {0}
+Counted c job_state.Fresh = Unit {0}
+Counted c (job_state.Reserved failed) = IsUnderWay c failed
+Counted c (job_state.Conflicted failed) = IsUnderWay c failed
+Counted c (job_state.Failed failed) = HasFailed c failed
+Counted c (job_state.Ended place) = Unit {0}
 
 -- the snapshot is of the state at its index, at which an attempt may be made
 pub record IsSeen (c : Run) (h : List Entry) (seen : Snapshot) : Type 0 where
@@ -197,5 +197,5 @@ pub record Running (c : Run) (h : List Entry) (w : Work) : Type 0 where
   pub some : 0 < attempts_of c.command
   pub began : c.from ≤ length h
   pub kept : JobKept c h
-  pub count : Counted c.command (stand_of h c.job)
+  pub count : Counted c.command (job_state_of h c.job)
   pub staged : IsStaged c h c.command w.stage

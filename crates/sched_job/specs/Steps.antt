@@ -3,8 +3,8 @@ use Rattle.std.specs.Prelude.{Some, slice_get, slice_set, ◌+◌, ℕ, ◌≡�
 use Rattle.std.specs.List.{list_any}
 use Rattle.object_fields.specs.declared.key.Key.{Key}
 use Rattle.cluster.specs.declared.entry.Entry.{Entry}
-use Rattle.cluster.specs.declared.entry.JobState.TheVariants as stand
-use Rattle.cluster.specs.History.{stand_of}
+use Rattle.cluster.specs.declared.entry.JobState.TheVariants as job_state
+use Rattle.cluster.specs.History.{job_state_of}
 use Rattle.alloc_rules.specs.declared.decision.Decision.{Decision}
 use Rattle.alloc_rules.specs.Decisions.{IsDecision, is_idle_pod}
 use Rattle.ledger_core.specs.Ledger.{History}
@@ -55,8 +55,8 @@ pub record OneTurn (budget : ℕ) (H H' : History) (w w' : Work) : Type 0 where
 
 -- a work whose job is ended is passed over, and another makes one turn
 pub record Went (budget : ℕ) (H H' : History) (w w' : Work) (turns : ℕ) : Type 0 where
-  pub over : is_ended (stand_of H.entries w.job) ≡ true → (H' ≡ H) × (w' ≡ w) × (turns ≡ 0)
-  pub turned : is_ended (stand_of H.entries w.job) ≡ false → OneTurn budget H H' w w' × (turns ≡ 1)
+  pub over : is_ended (job_state_of H.entries w.job) ≡ true → (H' ≡ H) × (w' ≡ w) × (turns ≡ 0)
+  pub turned : is_ended (job_state_of H.entries w.job) ≡ false → OneTurn budget H H' w w' × (turns ≡ 1)
 
 -- the work at an index goes, and the others stay as they are
 pub record WentAt (budget : ℕ) (H H' : History) (ws ws' : List Work) (at turns : ℕ) : Type 0 where
@@ -100,7 +100,7 @@ pub record Extends (jobs : List ℕ) (h h' : List Entry) : Type 0 where
 -- the jobs of the works have no entry yet, and at least one attempt
 abbrev pub AllNew : List Entry → List Work → Type 0
 AllNew h [] = Unit {0}
-AllNew h (w ∷ ws) = (stand_of h w.job ≡ stand.Fresh) × (w.stage ≡ Ready) × (0 < attempts_of w.command) × AllNew h ws
+AllNew h (w ∷ ws) = (job_state_of h w.job ≡ job_state.Fresh) × (w.stage ≡ Ready) × (0 < attempts_of w.command) × AllNew h ws
 
 abbrev pub AllFit : List Entry → List Work → Type 0
 AllFit h [] = Unit {0}
@@ -113,7 +113,7 @@ AllRunning from budget h (w ∷ ws) = Running (run_of from budget w) h w × AllR
 -- each job that is ended was run to its end, and each other one was begun
 abbrev pub AllEnds : ℕ → ℕ → List Entry → List Work → Type 0
 AllEnds from budget h [] = Unit {0}
-AllEnds from budget h (w ∷ ws) = ((place : ℕ) → stand_of h w.job ≡ stand.Ended place → JobRun (run_of from budget w) h) × (is_ended (stand_of h w.job) ≡ false → JobBegun (run_of from budget w) h) × AllEnds from budget h ws
+AllEnds from budget h (w ∷ ws) = ((place : ℕ) → job_state_of h w.job ≡ job_state.Ended place → JobRun (run_of from budget w) h) × (is_ended (job_state_of h w.job) ≡ false → JobBegun (run_of from budget w) h) × AllEnds from budget h ws
 
 -- What some steps did: the history extends the old one by entries of the jobs, and each work has made all of its job's.
 pub record Ran (from budget : ℕ) (jobs : List ℕ) (h h' : List Entry) (ws : List Work) : Type 0 where

@@ -4,10 +4,10 @@ use Rattle.object_fields.specs.declared.key.Key.{Key}
 use Rattle.pool_view.specs.Names.{at_key}
 use Rattle.cluster.specs.declared.entry.Entry.{Entry}
 use Rattle.cluster.specs.declared.entry.JobState.{JobState}
-use Rattle.cluster.specs.declared.entry.JobState.TheVariants as stand
+use Rattle.cluster.specs.declared.entry.JobState.TheVariants as job_state
 use Rattle.cluster.specs.declared.state.PodState.{PodState}
 use Rattle.cluster.specs.declared.state.State.{State}
-use Rattle.cluster.specs.History.{state_of, stand_of}
+use Rattle.cluster.specs.History.{state_of, job_state_of}
 use Rattle.cluster.specs.State.{claims_of, has_written}
 use Rattle.commands.specs.declared.command.Command.{Command}
 use Rattle.commands.specs.declared.command.Command.TheVariants.{Apply, Invalid, Delete, Schedule, Release, Adopt}
@@ -40,19 +40,19 @@ waits (Seen seen) = 1
 waits (Chosen choice) = 0
 
 abbrev pub attempts_left : State → Key → ℕ → Stage → JobState → ℕ
-attempts_left s pod attempts kept stand.Fresh = attempt_turns * attempts + waits kept
-attempts_left s pod attempts kept (stand.Reserved failed) = attempt_turns * (attempts - failed - 1) + 2 + unwritten s pod
-attempts_left s pod attempts kept (stand.Conflicted failed) = attempt_turns * (attempts - failed - 1) + 2
-attempts_left s pod attempts kept (stand.Failed failed) = attempt_turns * (attempts - failed) + waits kept
-attempts_left s pod attempts kept (stand.Ended place) = 0
+attempts_left s pod attempts kept job_state.Fresh = attempt_turns * attempts + waits kept
+attempts_left s pod attempts kept (job_state.Reserved failed) = attempt_turns * (attempts - failed - 1) + 2 + unwritten s pod
+attempts_left s pod attempts kept (job_state.Conflicted failed) = attempt_turns * (attempts - failed - 1) + 2
+attempts_left s pod attempts kept (job_state.Failed failed) = attempt_turns * (attempts - failed) + waits kept
+attempts_left s pod attempts kept (job_state.Ended place) = 0
 
 -- a job that isn't to schedule a pod makes one entry
 abbrev pub once_left : JobState → ℕ
-once_left stand.Fresh = 1
-once_left (stand.Reserved failed) = 1
-once_left (stand.Conflicted failed) = 1
-once_left (stand.Failed failed) = 1
-once_left (stand.Ended place) = 0
+once_left job_state.Fresh = 1
+once_left (job_state.Reserved failed) = 1
+once_left (job_state.Conflicted failed) = 1
+once_left (job_state.Failed failed) = 1
+once_left (job_state.Ended place) = 0
 
 abbrev pub left_by : State → Stage → JobState → Command → ℕ
 left_by s kept st (Apply object mode) = once_left st
@@ -64,4 +64,4 @@ left_by s kept st (Adopt claim status) = once_left st
 
 -- the most turns that the work has left
 abbrev pub most_turns : List Entry → Work → ℕ
-most_turns h w = left_by (state_of h) w.stage (stand_of h w.job) w.command
+most_turns h w = left_by (state_of h) w.stage (job_state_of h w.job) w.command

@@ -1,6 +1,6 @@
 ghost use Rattle.std.specs.Prelude.{◌≡◌, ◌≤◌, ◌<◌, ◌+◌, ◌*◌, ◌∷◌, [], ℕ, length, IfOk, OnOk, OnErr, IsErrOf};
 ghost use Rattle.cluster.specs.declared.entry.JobState.TheVariants.{Ended, Fresh};
-ghost use Rattle.cluster.specs.History.{stand_of};
+ghost use Rattle.cluster.specs.History.{job_state_of};
 ghost use Rattle.ledger_core.specs.Legal.{Legal};
 ghost use Rattle.sched_job.specs.Alone.{NeverSetBack};
 ghost use Rattle.sched_job.specs.Runs.{JobBegun, JobRun, attempts_of};
@@ -26,11 +26,11 @@ pub fn run_alone(
     command: Command,
     budget: u64,
 ) -> Result<u64, LedgerError>
-    requires fresh { stand_of ledger.old.entries job ≡ Fresh }
+    requires fresh { job_state_of ledger.old.entries job ≡ Fresh }
     requires attempts { 0 < attempts_of command }
     ensures extends { Extends (job ∷ []) ledger.old.entries ledger.new.entries }
     ensures run { OnOk result (JobRun (record { job = job; command = command; from = length ledger.old.entries; budget = budget }) ledger.new.entries) }
-    ensures place { IfOk result (λ place. stand_of ledger.new.entries job ≡ Ended place) }
+    ensures place { IfOk result (λ place. job_state_of ledger.new.entries job ≡ Ended place) }
     ensures begun { OnErr result (JobBegun (record { job = job; command = command; from = length ledger.old.entries; budget = budget }) ledger.new.entries) }
     ensures full { (n : ℕ) → IsErrOf result (LedgerError.Full n) → (length ledger.new.entries ≡ n) × (ledger.new.limit ≤ n) }
     ensures limit { ledger.new.limit ≡ ledger.old.limit }
@@ -49,12 +49,12 @@ fn run_work(
     work: &mut Work,
     budget: u64,
 ) -> Result<u64, LedgerError>
-    requires fresh { stand_of ledger.old.entries work.old.job ≡ Fresh }
+    requires fresh { job_state_of ledger.old.entries work.old.job ≡ Fresh }
     requires ready { work.old.stage ≡ Ready }
     requires attempts { 0 < attempts_of work.old.command }
     ensures extends { Extends (work.old.job ∷ []) ledger.old.entries ledger.new.entries }
     ensures run { OnOk result (JobRun (run_of (length ledger.old.entries) budget work.old) ledger.new.entries) }
-    ensures place { IfOk result (λ place. stand_of ledger.new.entries work.old.job ≡ Ended place) }
+    ensures place { IfOk result (λ place. job_state_of ledger.new.entries work.old.job ≡ Ended place) }
     ensures begun { OnErr result (JobBegun (run_of (length ledger.old.entries) budget work.old) ledger.new.entries) }
     ensures full { (n : ℕ) → IsErrOf result (LedgerError.Full n) → (length ledger.new.entries ≡ n) × (ledger.new.limit ≤ n) }
     ensures limit { ledger.new.limit ≡ ledger.old.limit }
@@ -66,7 +66,7 @@ fn run_work(
     turns_are_few();
     let _len = ledger.len();
     'turns: loop {
-        if let JobState::Ended(place) = ledger.stand(work.job) {
+        if let JobState::Ended(place) = ledger.job_state(work.job) {
             return Ok(place);
         }
         go(alloc, ledger, work, budget)?;

@@ -1,7 +1,7 @@
 ghost use Rattle.std.specs.Prelude.{◌≡◌, ◌≤◌, ◌<◌, ◌+◌, ◌*◌, ◌++◌, ◌∷◌, [], ℕ, List, length, true, false, ◌==◌, None, Some};
 ghost use Rattle.object_fields.specs.declared.key.Key.{Key};
 ghost use Rattle.cluster.specs.declared.entry.Entry.{Entry};
-ghost use Rattle.cluster.specs.History.{state_of, stand_of};
+ghost use Rattle.cluster.specs.History.{state_of, job_state_of};
 ghost use Rattle.alloc_rules.specs.Decisions.{is_idle_pod};
 ghost use Rattle.alloc_rules.specs.declared.decision.Decision.{Decision};
 ghost use Rattle.ledger_core.specs.Legal.{Legal};
@@ -36,9 +36,9 @@ pub fn runs_go_on()
 /// Which turns append nothing: those of a job that has ended, and those that take a snapshot, in which
 /// the pod is there and Idle, and return `Next::Think`. The turn after a search appends what was chosen.
 pub fn turns_move_on()
-    ensures thinks { (c : Run) (h : List Entry) (w : Work) → Legal h → Running c h w → is_ended (stand_of h w.job) ≡ false → move_of h w ≡ None → stage_after h w ≡ looked h }
-    ensures answers { (c : Run) (h : List Entry) (w : Work) → Legal h → Running c h w → is_ended (stand_of h w.job) ≡ false → move_of h w ≡ None → answer (stand_of h w.job) (stage_after h w) ≡ Next.Think }
-    ensures idle { (c : Run) (h : List Entry) (w : Work) (pod : Key) (attempts : ℕ) → w.command ≡ Command.Schedule pod attempts → Legal h → Running c h w → is_ended (stand_of h w.job) ≡ false → move_of h w ≡ None → is_idle_pod (state_of h) pod ≡ true }
+    ensures thinks { (c : Run) (h : List Entry) (w : Work) → Legal h → Running c h w → is_ended (job_state_of h w.job) ≡ false → move_of h w ≡ None → stage_after h w ≡ looked h }
+    ensures answers { (c : Run) (h : List Entry) (w : Work) → Legal h → Running c h w → is_ended (job_state_of h w.job) ≡ false → move_of h w ≡ None → answer (job_state_of h w.job) (stage_after h w) ≡ Next.Think }
+    ensures idle { (c : Run) (h : List Entry) (w : Work) (pod : Key) (attempts : ℕ) → w.command ≡ Command.Schedule pod attempts → Legal h → Running c h w → is_ended (job_state_of h w.job) ≡ false → move_of h w ≡ None → is_idle_pod (state_of h) pod ≡ true }
     ensures acts { (c : Run) (h : List Entry) (w : Work) (pod : Key) (attempts : ℕ) (choice : Decision) → w.command ≡ Command.Schedule pod attempts → w.stage ≡ Stage.Chosen choice → Running c h w → move_of h w ≡ Some (chosen_event (state_of h) pod choice) }
 {
     pods_stay_taken();
@@ -63,8 +63,8 @@ pub fn alone_is_undisturbed()
 /// entry of another job leaves it no more, and a new work has at most 35 for each attempt and one more:
 /// so a job whose entries are all made by one work ends within these, whatever other jobs do.
 pub fn turns_are_few()
-    ensures first { (h : List Entry) (w : Work) → stand_of h w.job ≡ JobState.Fresh → w.stage ≡ Stage.Ready → most_turns h w ≤ 35 * attempts_of w.command + 1 }
-    ensures fewer { (budget : ℕ) (c : Run) (H H' : History) (w w' : Work) → Legal H.entries → Legal H'.entries → Running c H.entries w → is_ended (stand_of H.entries w.job) ≡ false → OneTurn budget H H' w w' →
+    ensures first { (h : List Entry) (w : Work) → job_state_of h w.job ≡ JobState.Fresh → w.stage ≡ Stage.Ready → most_turns h w ≤ 35 * attempts_of w.command + 1 }
+    ensures fewer { (budget : ℕ) (c : Run) (H H' : History) (w w' : Work) → Legal H.entries → Legal H'.entries → Running c H.entries w → is_ended (job_state_of H.entries w.job) ≡ false → OneTurn budget H H' w w' →
         most_turns H'.entries w' < most_turns H.entries w }
     ensures others { (c : Run) (h : List Entry) (w : Work) (e : Entry) → Legal (h ++ e ∷ []) → Running c h w → (e.job == c.job) ≡ false → most_turns (h ++ e ∷ []) w ≤ most_turns h w }
 {

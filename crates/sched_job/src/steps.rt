@@ -1,6 +1,6 @@
 ghost use Rattle.std.specs.Prelude.{◌≡◌, ◌≤◌, ◌<◌, ◌∷◌, [], ℕ, List, length, slice_index, false, IfOk, OnErr, IsErrOf};
 ghost use Rattle.cluster.specs.declared.entry.Entry.{Entry};
-ghost use Rattle.cluster.specs.History.{stand_of};
+ghost use Rattle.cluster.specs.History.{job_state_of};
 ghost use Rattle.ledger_core.specs.Legal.{Legal};
 ghost use Rattle.sched_job.specs.Moves.{Fits};
 ghost use Rattle.sched_job.specs.Runs.{Run, Running, is_ended};
@@ -11,10 +11,10 @@ use cluster::JobState;
 use ledger_core::{Ledger, LedgerError};
 use std::alloc::Global;
 
-fn is_ended(stand: JobState) -> bool
-    ensures { result ≡ is_ended stand }
+fn is_ended(job_state: JobState) -> bool
+    ensures { result ≡ is_ended job_state }
 {
-    match stand {
+    match job_state {
         JobState::Ended(_) => true,
         JobState::Fresh | JobState::Reserved(_) | JobState::Conflicted(_) | JobState::Failed(_) =>
             false,
@@ -38,12 +38,12 @@ pub fn go(
     ensures job { work.new.job ≡ work.old.job }
     ensures command { work.new.command ≡ work.old.command }
     ensures running { (c : Run) → c.budget ≡ budget → Running c ledger.old.entries work.old → Running c ledger.new.entries work.new }
-    ensures begun { OnErr result (is_ended (stand_of ledger.new.entries work.old.job) ≡ false) }
+    ensures begun { OnErr result (is_ended (job_state_of ledger.new.entries work.old.job) ≡ false) }
     ensures within { length ledger.new.entries ≤ ledger.new.limit }
     ensures legal { Legal ledger.new.entries }
 {
     let _len = ledger.len();
-    if is_ended(ledger.stand(work.job)) {
+    if is_ended(ledger.job_state(work.job)) {
         return Ok(0);
     }
     match work.turn(alloc, ledger)? {

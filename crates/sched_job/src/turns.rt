@@ -2,7 +2,7 @@ ghost use Rattle.std.specs.Prelude.{◌≡◌, ◌≤◌, ℕ, length, true, IfO
 ghost use Rattle.cluster.specs.declared.entry.Command.TheVariants.{Invalid};
 ghost use Rattle.cluster.specs.declared.entry.Event.TheVariants.{Denied};
 ghost use Rattle.cluster.specs.declared.entry.Refusal.TheVariants as refusal;
-ghost use Rattle.cluster.specs.History.{state_of, stand_of};
+ghost use Rattle.cluster.specs.History.{state_of, job_state_of};
 ghost use Rattle.cluster.specs.JobState.{has_reserved, is_conflicted, is_fresh, may_try};
 ghost use Rattle.ledger_core.specs.Adopted.{adoption};
 ghost use Rattle.ledger_core.specs.Applied.{application};
@@ -60,10 +60,10 @@ pub fn step(
     }
 }
 
-fn is_fresh(stand: JobState) -> bool
-    ensures { result ≡ is_fresh stand }
+fn is_fresh(job_state: JobState) -> bool
+    ensures { result ≡ is_fresh job_state }
 {
-    match stand {
+    match job_state {
         JobState::Fresh => true,
         JobState::Reserved(_)
         | JobState::Conflicted(_)
@@ -79,11 +79,11 @@ fn apply(
     ready: &Ready,
     mode: Mode,
 ) -> Result<(), LedgerError>
-    ensures ok { OnOk result (ledger.new ≡ moved ledger.old job (once (stand_of ledger.old.entries job) (application (state_of ledger.old.entries) ready.now mode))) }
+    ensures ok { OnOk result (ledger.new ≡ moved ledger.old job (once (job_state_of ledger.old.entries job) (application (state_of ledger.old.entries) ready.now mode))) }
     ensures full { (n : ℕ) → IsErrOf result (LedgerError.Full n) → (length ledger.old.entries ≡ n) × (ledger.old.limit ≤ n) }
     ensures err { OnErr result (ledger.new ≡ ledger.old) }
 {
-    if is_fresh(ledger.stand(job)) {
+    if is_fresh(ledger.job_state(job)) {
         let ready = ready.share()?;
         ledger.apply(alloc, job, ready, mode)?;
     }
@@ -91,11 +91,11 @@ fn apply(
 }
 
 fn deny(alloc: Global, ledger: &mut Ledger, job: u64, error: &FieldError) -> Result<(), LedgerError>
-    ensures ok { OnOk result (ledger.new ≡ moved ledger.old job (once (stand_of ledger.old.entries job) (Denied (Invalid error.now) refusal.Invalid))) }
+    ensures ok { OnOk result (ledger.new ≡ moved ledger.old job (once (job_state_of ledger.old.entries job) (Denied (Invalid error.now) refusal.Invalid))) }
     ensures full { (n : ℕ) → IsErrOf result (LedgerError.Full n) → (length ledger.old.entries ≡ n) × (ledger.old.limit ≤ n) }
     ensures err { OnErr result (ledger.new ≡ ledger.old) }
 {
-    match ledger.stand(job) {
+    match ledger.job_state(job) {
         JobState::Fresh => {
             let error = error.copy(alloc)?;
             ledger.deny(job, error)?;
@@ -109,22 +109,22 @@ fn deny(alloc: Global, ledger: &mut Ledger, job: u64, error: &FieldError) -> Res
 }
 
 fn delete(alloc: Global, ledger: &mut Ledger, job: u64, target: &Target) -> Result<(), LedgerError>
-    ensures ok { OnOk result (ledger.new ≡ moved ledger.old job (once (stand_of ledger.old.entries job) (deletion (state_of ledger.old.entries) target.now))) }
+    ensures ok { OnOk result (ledger.new ≡ moved ledger.old job (once (job_state_of ledger.old.entries job) (deletion (state_of ledger.old.entries) target.now))) }
     ensures full { (n : ℕ) → IsErrOf result (LedgerError.Full n) → (length ledger.old.entries ≡ n) × (ledger.old.limit ≤ n) }
     ensures err { OnErr result (ledger.new ≡ ledger.old) }
 {
-    if is_fresh(ledger.stand(job)) {
+    if is_fresh(ledger.job_state(job)) {
         ledger.delete(alloc, job, target)?;
     }
     Ok(())
 }
 
 fn release(alloc: Global, ledger: &mut Ledger, job: u64, pod: &Key) -> Result<(), LedgerError>
-    ensures ok { OnOk result (ledger.new ≡ moved ledger.old job (once (stand_of ledger.old.entries job) (release_of (state_of ledger.old.entries) pod.now))) }
+    ensures ok { OnOk result (ledger.new ≡ moved ledger.old job (once (job_state_of ledger.old.entries job) (release_of (state_of ledger.old.entries) pod.now))) }
     ensures full { (n : ℕ) → IsErrOf result (LedgerError.Full n) → (length ledger.old.entries ≡ n) × (ledger.old.limit ≤ n) }
     ensures err { OnErr result (ledger.new ≡ ledger.old) }
 {
-    if is_fresh(ledger.stand(job)) {
+    if is_fresh(ledger.job_state(job)) {
         ledger.release(alloc, job, pod)?;
     }
     Ok(())
@@ -137,11 +137,11 @@ fn adopt(
     claim: &Key,
     status: &ClaimStatus,
 ) -> Result<(), LedgerError>
-    ensures ok { OnOk result (ledger.new ≡ moved ledger.old job (once (stand_of ledger.old.entries job) (adoption (state_of ledger.old.entries) claim.now status.now))) }
+    ensures ok { OnOk result (ledger.new ≡ moved ledger.old job (once (job_state_of ledger.old.entries job) (adoption (state_of ledger.old.entries) claim.now status.now))) }
     ensures full { (n : ℕ) → IsErrOf result (LedgerError.Full n) → (length ledger.old.entries ≡ n) × (ledger.old.limit ≤ n) }
     ensures err { OnErr result (ledger.new ≡ ledger.old) }
 {
-    if is_fresh(ledger.stand(job)) {
+    if is_fresh(ledger.job_state(job)) {
         let status = status.copy(alloc)?;
         ledger.adopt(alloc, job, claim, status)?;
     }
@@ -162,7 +162,7 @@ fn schedule(
     ensures full { (n : ℕ) → IsErrOf result (LedgerError.Full n) → (length ledger.old.entries ≡ n) × (ledger.old.limit ≤ n) }
     ensures err { OnErr result (ledger.new ≡ ledger.old) }
 {
-    match ledger.stand(job) {
+    match ledger.job_state(job) {
         JobState::Ended(_) => Ok(Stage::Ready),
         JobState::Reserved(_) => {
             finish(alloc, ledger, job, pod)?;
@@ -186,7 +186,7 @@ fn schedule(
 
 /// Writes the next use of a pod that the job has reserved, or binds the pod.
 fn finish(alloc: Global, ledger: &mut Ledger, job: u64, pod: &Key) -> Result<(), LedgerError>
-    requires { has_reserved (stand_of ledger.old.entries job) ≡ true }
+    requires { has_reserved (job_state_of ledger.old.entries job) ≡ true }
     ensures ok { OnOk result (ledger.new ≡ moved ledger.old job (finish_move (state_of ledger.old.entries) job pod.now)) }
     ensures full { (n : ℕ) → IsErrOf result (LedgerError.Full n) → (length ledger.old.entries ≡ n) × (ledger.old.limit ≤ n) }
     ensures err { OnErr result (ledger.new ≡ ledger.old) }
@@ -208,7 +208,7 @@ fn finish(alloc: Global, ledger: &mut Ledger, job: u64, pod: &Key) -> Result<(),
 
 /// Gives up what the job has reserved, after a conflict.
 fn give_up(alloc: Global, ledger: &mut Ledger, job: u64, pod: &Key) -> Result<(), LedgerError>
-    requires { is_conflicted (stand_of ledger.old.entries job) ≡ true }
+    requires { is_conflicted (job_state_of ledger.old.entries job) ≡ true }
     ensures ok { OnOk result (ledger.new ≡ moved ledger.old job (give_up_move (state_of ledger.old.entries) job pod.now)) }
     ensures full { (n : ℕ) → IsErrOf result (LedgerError.Full n) → (length ledger.old.entries ≡ n) × (ledger.old.limit ≤ n) }
     ensures err { OnErr result (ledger.new ≡ ledger.old) }
@@ -227,7 +227,7 @@ fn attempt(
     pod: &Key,
     stage: &Stage,
 ) -> Result<Stage, LedgerError>
-    requires stand { may_try (stand_of ledger.old.entries job) ≡ true }
+    requires job_state { may_try (job_state_of ledger.old.entries job) ≡ true }
     requires fits { FitsStage ledger.old.entries pod.now stage.now }
     ensures ok { OnOk result (ledger.new ≡ moved ledger.old job (try_move (state_of ledger.old.entries) pod.now stage.now)) }
     ensures stage { IfOk result (λ made. made ≡ tried ledger.old.entries (try_move (state_of ledger.old.entries) pod.now stage.now)) }
@@ -250,7 +250,7 @@ fn carry_out(
     pod: &Key,
     choice: &Decision,
 ) -> Result<Done, LedgerError>
-    requires stand { may_try (stand_of ledger.old.entries job) ≡ true }
+    requires job_state { may_try (job_state_of ledger.old.entries job) ≡ true }
     requires fits { FitsChoice ledger.old.entries pod.now choice.now }
     ensures ok { OnOk result (ledger.new ≡ appended ledger.old job (chosen_event (state_of ledger.old.entries) pod.now choice.now)) }
     ensures full { (n : ℕ) → IsErrOf result (LedgerError.Full n) → (length ledger.old.entries ≡ n) × (ledger.old.limit ≤ n) }
@@ -267,7 +267,7 @@ fn carry_out(
 
 /// Begins an attempt: it is denied, or a snapshot is taken.
 fn begin(alloc: Global, ledger: &mut Ledger, job: u64, pod: &Key) -> Result<Stage, LedgerError>
-    requires { may_try (stand_of ledger.old.entries job) ≡ true }
+    requires { may_try (job_state_of ledger.old.entries job) ≡ true }
     ensures ok { OnOk result (ledger.new ≡ moved ledger.old job (begin_move (state_of ledger.old.entries) pod.now)) }
     ensures stage { IfOk result (λ made. made ≡ tried ledger.old.entries (begin_move (state_of ledger.old.entries) pod.now)) }
     ensures full { (n : ℕ) → IsErrOf result (LedgerError.Full n) → (length ledger.old.entries ≡ n) × (ledger.old.limit ≤ n) }

@@ -1,6 +1,6 @@
 ghost use Rattle.std.specs.Prelude.{◌≡◌, ◌≤◌, ℕ, List, length, IfOk, OnOk, OnErr, IsErrOf};
 ghost use Rattle.cluster.specs.declared.entry.Entry.{Entry};
-ghost use Rattle.cluster.specs.History.{stand_of};
+ghost use Rattle.cluster.specs.History.{job_state_of};
 ghost use Rattle.ledger_core.specs.Legal.{Legal};
 ghost use Rattle.sched_job.specs.Moves.{answer, moved, move_of, stage_after, Fits};
 ghost use Rattle.sched_job.specs.Runs.{Run, Running, IsStaged};
@@ -67,7 +67,7 @@ impl Work {
         ensures job { self.new.job ≡ self.old.job }
         ensures command { self.new.command ≡ self.old.command }
         ensures stage { OnOk result (self.new.stage ≡ stage_after ledger.old.entries self.old) }
-        ensures answer { IfOk result (λ next. next ≡ answer (stand_of ledger.new.entries self.old.job) self.new.stage) }
+        ensures answer { IfOk result (λ next. next ≡ answer (job_state_of ledger.new.entries self.old.job) self.new.stage) }
         ensures full { (n : ℕ) → IsErrOf result (LedgerError.Full n) → (length ledger.old.entries ≡ n) × (ledger.old.limit ≤ n) }
         ensures err { OnErr result (ledger.new ≡ ledger.old) }
         ensures err_work { OnErr result (self.new ≡ self.old) }
@@ -80,7 +80,7 @@ impl Work {
         let _before = ledger.len();
         self.stage = step(alloc, ledger, self.job, &self.command, &self.stage)?;
         let _len = ledger.len();
-        Ok(answer(ledger.stand(self.job), &self.stage))
+        Ok(answer(ledger.job_state(self.job), &self.stage))
     }
 
     /// Makes the search that is next over a snapshot, in which each search of a node looks at no more items
@@ -98,10 +98,10 @@ impl Work {
     }
 }
 
-fn answer(stand: JobState, stage: &Stage) -> Next
-    ensures { result ≡ answer stand stage.now }
+fn answer(job_state: JobState, stage: &Stage) -> Next
+    ensures { result ≡ answer job_state stage.now }
 {
-    match stand {
+    match job_state {
         JobState::Ended(place) => Next::Ended(place),
         JobState::Fresh | JobState::Reserved(_) | JobState::Conflicted(_) | JobState::Failed(_) =>
             match stage {

@@ -1,7 +1,7 @@
 use Rattle.std.proofs.Common.{Bor, ℕ, ◌≡◌, ◌≢◌, List, Some, None, ◌-◌, ◌∷◌, take, length-append, get_or, drop, ap, sym, subst, ◌∙◌, arith, length, length-drop, [], ◌++◌}
 use Rattle.std.proofs.lemmas.List.{take_rest}
 use Rattle.std.specs.List.{AllByRecursion}
-use Rattle.ckpt_journal.specs.Format.{Fits, block, front}
+use Rattle.ckpt_journal.specs.Format.{Fits, block, prefix}
 use Rattle.ckpt_journal.proofs.Taken.{header_only, starts, goes_on, fault_at, next_taken, no_record, read_is}
 use Rattle.ckpt_journal.proofs.Crash.{one_more}
 use Rattle.ckpt_journal.proofs.Fits.{all_read_back}
@@ -16,7 +16,7 @@ pub loop-rest-init : goal.loop-rest-init
 loop-rest-init c =
     let none : c.new-records.result.items ≡ [] = c.new-records.ensures.items in
     record {
-      parts = starts c.args.bytes.now _ c.requires (take_rest c.args.bytes.now 16) ∙ ap (λ (es : List Record). front es ++ take (length c.args.bytes.now - 16) (drop 16 c.args.bytes.now)) (sym none);
+      parts = starts c.args.bytes.now _ c.requires (take_rest c.args.bytes.now 16) ∙ ap (λ (es : List Record). prefix es ++ take (length c.args.bytes.now - 16) (drop 16 c.args.bytes.now)) (sym none);
       more = omega (arith, ap length (take_rest c.args.bytes.now 16), length-drop 16 c.args.bytes.now, c.if-bytes-le16.false);
       fits = subst (AllByRecursion Fits) (sym none) tt;
     }
@@ -39,7 +39,7 @@ loop-rest-preserved c =
     let more : es ++ e ∷ [] ≡ c.push.new.self.items = sym c.in_ok-push-in-Ok.ensures.items in
     let open_gate : get_or rest 0 0 ≡ 90 = c.loop-rest-test.true in
     record {
-      parts = goes_on es e c.args.bytes.now rest c.in-Ok.after.now c.loop-rest.invariant.parts c.loop-rest.invariant.more open_gate taken ∙ ap (λ (fs : List Record). front fs ++ c.in-Ok.after.now) more;
+      parts = goes_on es e c.args.bytes.now rest c.in-Ok.after.now c.loop-rest.invariant.parts c.loop-rest.invariant.more open_gate taken ∙ ap (λ (fs : List Record). prefix fs ++ c.in-Ok.after.now) more;
       more = taken.more;
       fits = subst (AllByRecursion Fits) more (one_more Fits es e c.loop-rest.invariant.fits taken.fits);
     }

@@ -1,11 +1,11 @@
 use Rattle.std.proofs.Common.{◌≡◌, ◌<◌, ◌++◌, length}
 use Rattle.std.specs.List.{AllByRecursion}
-use Rattle.ckpt_journal.specs.Format.{front, Fits}
+use Rattle.ckpt_journal.specs.Format.{prefix, Fits}
 use Rattle.ckpt_journal.proofs.reading.read_blocks.Given as goal
 
 abbrev pub invariant-loop-rest : goal.invariant-loop-rest
 invariant-loop-rest l = record {
-  parts : l.bytes ≡ front l.records.items ++ l.rest;
+  parts : l.bytes ≡ prefix l.records.items ++ l.rest;
   more : 0 < length l.rest;
   fits : AllByRecursion Fits l.records.items;
 }

@@ -29,23 +29,23 @@ use Rattle.dra_cli.proofs.Told.{asks, verdict_names}
 use Rattle.dra_cli.proofs.program.run.Goals as goal
 
 GrantLaw : Type 0
-GrantLaw = (front back : List Entry) (job : ℕ) (pod : Key) (plan : Plan) → Legal (front ++ record { job = job; event = Reserved pod plan } ∷ back) → IsGrantOf front pod plan
+GrantLaw = (prefix back : List Entry) (job : ℕ) (pod : Key) (plan : Plan) → Legal (prefix ++ record { job = job; event = Reserved pod plan } ∷ back) → IsGrantOf prefix pod plan
 
 VerdictLaw : Type 0
-VerdictLaw = (front back : List Entry) (job : ℕ) (pod : Key) (verdict : Verdict) → Legal (front ++ record { job = job; event = VerdictGiven pod verdict } ∷ back) → IsVerdictOf front pod verdict
+VerdictLaw = (prefix back : List Entry) (job : ℕ) (pod : Key) (verdict : Verdict) → Legal (prefix ++ record { job = job; event = VerdictGiven pod verdict } ∷ back) → IsVerdictOf prefix pod verdict
 
 BudgetLaw : Type 0
-BudgetLaw = (budget : ℕ) (commands : List Given) (front back : List Entry) (job : ℕ) (pod : Key) (verdict : Verdict) → RunOf budget commands (front ++ record { job = job; event = VerdictGiven pod verdict } ∷ back)
-    → VerdictBy (state_at front verdict.at) pod budget verdict
+BudgetLaw = (budget : ℕ) (commands : List Given) (prefix back : List Entry) (job : ℕ) (pod : Key) (verdict : Verdict) → RunOf budget commands (prefix ++ record { job = job; event = VerdictGiven pod verdict } ∷ back)
+    → VerdictBy (state_at prefix verdict.at) pod budget verdict
 
 DenialLaw : Type 0
-DenialLaw = (front back : List Entry) (job : ℕ) (command : Command) (refusal : Refusal) → Legal (front ++ record { job = job; event = Denied command refusal } ∷ back) → MayDeny (state_of front) command refusal
+DenialLaw = (prefix back : List Entry) (job : ℕ) (command : Command) (refusal : Refusal) → Legal (prefix ++ record { job = job; event = Denied command refusal } ∷ back) → MayDeny (state_of prefix) command refusal
 
 AdoptionLaw : Type 0
-AdoptionLaw = (front back : List Entry) (job : ℕ) (claim : Key) (status : ClaimStatus) → Legal (front ++ record { job = job; event = Adopted claim status } ∷ back) → IsAdoptionOf front claim status
+AdoptionLaw = (prefix back : List Entry) (job : ℕ) (claim : Key) (status : ClaimStatus) → Legal (prefix ++ record { job = job; event = Adopted claim status } ∷ back) → IsAdoptionOf prefix claim status
 
 StepLaw : Type 0
-StepLaw = (front : List Entry) (e : Entry) (back : List Entry) → Legal (front ++ e ∷ back) → Step front e
+StepLaw = (prefix : List Entry) (e : Entry) (back : List Entry) → Legal (prefix ++ e ∷ back) → Step prefix e
 
 HolderLaw : Type 0
 HolderLaw = (h : List Entry) (place : ℕ) → Legal h → HeldOnce (state_at h place)
@@ -60,28 +60,28 @@ UseLaw : Type 0
 UseLaw = (h : List Entry) (place : ℕ) → Legal h → PodsUseClaims (state_at h place)
 
 CompleteLaw : Type 0
-CompleteLaw = (budget : ℕ) (front back : List Given) (pod : Key) (attempts : ℕ) (h : List Entry) → Legal h → RunOf budget (front ++ One (Schedule pod attempts) ∷ back) h → Scheduled budget front pod attempts h
+CompleteLaw = (budget : ℕ) (prefix back : List Given) (pod : Key) (attempts : ℕ) (h : List Entry) → Legal h → RunOf budget (prefix ++ One (Schedule pod attempts) ∷ back) h → Scheduled budget prefix pod attempts h
 
 replayed : (options : ReplayOptions) (left before after : Option (List ℕ)) → GrantLaw → VerdictLaw → BudgetLaw → StepLaw → AdoptionLaw → DenialLaw → HolderLaw → LimitLaw → UserLaw → UseLaw → CompleteLaw → EndsDone options left before after → Replayed options left before after
 unfolding GrantLaw VerdictLaw BudgetLaw StepLaw AdoptionLaw DenialLaw HolderLaw LimitLaw UserLaw UseLaw CompleteLaw
 replayed options left before after grants verdicts budgets steps adoptions denials holders limits users uses complete d = record {
   ends = d;
   history = record {
-    grants = λ front back job pod plan e. grants front back job pod plan (subst (λ (h : List Entry). Legal h) e d.run.legal);
-    verdicts = λ front back job pod verdict e. verdicts front back job pod verdict (subst (λ (h : List Entry). Legal h) e d.run.legal);
-    budgets = λ front back job pod verdict e.
-        verdict_names (state_at front verdict.at) pod options.budget verdict
-        (budgets options.budget (commands_of d.done) front back job pod verdict (subst (λ (h : List Entry). RunOf options.budget (commands_of d.done) h) e d.run.run));
-    refusals = λ front back job pod plan why e. (steps front (record { job = job; event = Refused pod plan why }) back (subst (λ (h : List Entry). Legal h) e d.run.legal)).stands;
-    adoptions = λ front back job claim status e. adoptions front back job claim status (subst (λ (h : List Entry). Legal h) e d.run.legal);
-    denials = λ front back job command refusal e. denials front back job command refusal (subst (λ (h : List Entry). Legal h) e d.run.legal);
+    grants = λ prefix back job pod plan e. grants prefix back job pod plan (subst (λ (h : List Entry). Legal h) e d.run.legal);
+    verdicts = λ prefix back job pod verdict e. verdicts prefix back job pod verdict (subst (λ (h : List Entry). Legal h) e d.run.legal);
+    budgets = λ prefix back job pod verdict e.
+        verdict_names (state_at prefix verdict.at) pod options.budget verdict
+        (budgets options.budget (commands_of d.done) prefix back job pod verdict (subst (λ (h : List Entry). RunOf options.budget (commands_of d.done) h) e d.run.run));
+    refusals = λ prefix back job pod plan why e. (steps prefix (record { job = job; event = Refused pod plan why }) back (subst (λ (h : List Entry). Legal h) e d.run.legal)).stands;
+    adoptions = λ prefix back job claim status e. adoptions prefix back job claim status (subst (λ (h : List Entry). Legal h) e d.run.legal);
+    denials = λ prefix back job command refusal e. denials prefix back job command refusal (subst (λ (h : List Entry). Legal h) e d.run.legal);
     holders = λ place. holders d.history place d.run.legal;
     limits = λ place. limits d.history place d.run.legal;
     users = λ place. users d.history place d.run.legal;
     uses = λ place. uses d.history place d.run.legal;
   };
-  schedules = λ front back pod attempts e.
-      complete options.budget front back pod attempts d.history d.run.legal (subst (λ (cs : List Given). RunOf options.budget cs d.history) e d.run.run);
+  schedules = λ prefix back pod attempts e.
+      complete options.budget prefix back pod attempts d.history d.run.legal (subst (λ (cs : List Given). RunOf options.budget cs d.history) e d.run.run);
 }
 
 pub returns-in-Some-clause-done : goal.returns-in-Some-clause-done

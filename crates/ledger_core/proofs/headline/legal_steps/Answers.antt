@@ -1,8 +1,8 @@
-use Rattle.ledger_core.proofs.Headlines.{step_at, front_legal}
+use Rattle.ledger_core.proofs.Headlines.{step_at, prefix_legal}
 use Rattle.ledger_core.proofs.headline.legal_steps.Goals as goal
 
 pub returns-clause-step : goal.returns-clause-step
 returns-clause-step c = step_at
 
-pub returns-clause-front : goal.returns-clause-front
-returns-clause-front c = front_legal
+pub returns-clause-prefix : goal.returns-clause-prefix
+returns-clause-prefix c = prefix_legal

@@ -6,11 +6,11 @@ use Rattle.replay_core.proofs.Searched.{entry_tells}
 use Rattle.replay_core.proofs.laws.runs_search_within.Goals as goal
 
 pub returns-clause-plans : goal.returns-clause-plans
-returns-clause-plans c = λ budget commands front back job pod plan run.
-    let tells = entry_tells budget commands front (record { job = job; event = Reserved pod plan }) back run in
-    subst (λ b. PlanBy (state_at front plan.at) pod b plan) tells.1 tells.2.by
+returns-clause-plans c = λ budget commands prefix back job pod plan run.
+    let tells = entry_tells budget commands prefix (record { job = job; event = Reserved pod plan }) back run in
+    subst (λ b. PlanBy (state_at prefix plan.at) pod b plan) tells.1 tells.2.by
 
 pub returns-clause-verdicts : goal.returns-clause-verdicts
-returns-clause-verdicts c = λ budget commands front back job pod verdict run.
-    let tells = entry_tells budget commands front (record { job = job; event = VerdictGiven pod verdict }) back run in
-    subst (λ b. VerdictBy (state_at front verdict.at) pod b verdict) tells.1 tells.2.by
+returns-clause-verdicts c = λ budget commands prefix back job pod verdict run.
+    let tells = entry_tells budget commands prefix (record { job = job; event = VerdictGiven pod verdict }) back run in
+    subst (λ b. VerdictBy (state_at prefix verdict.at) pod b verdict) tells.1 tells.2.by

@@ -6,7 +6,7 @@ use Rattle.replay_core.proofs.work.do_all.Goals as goal
 
 pub loop-command-init : goal.loop-command-init
 loop-command-init g c = record {
-  front = [];
+  prefix = [];
   are = sym c.into_iter-command-iterator.ensures.into_iter_gives.0;
   may_try = subst AllMayTry (sym c.into_iter-command-iterator.ensures.into_iter_gives.0) c.requires.attempts;
   done = stands_first c.args.options c.args.work.now (g.K.Sink.written c.args.output.now);
@@ -17,14 +17,14 @@ loop-command-init g c = record {
 
 pub loop-command-preserved : goal.loop-command-preserved
 loop-command-preserved g c = record {
-  front = c.loop-command.invariant.front ++ c.in-Some.command ∷ [];
+  prefix = c.loop-command.invariant.prefix ++ c.in-Some.command ∷ [];
   are = c.loop-command.invariant.are
-      ∙ ap (λ (l : List Given). c.loop-command.invariant.front ++ l) c.in-Some.ensures.steps.0
-      ∙ sym (append_assoc c.loop-command.invariant.front (c.in-Some.command ∷ []) c.next.new.self.rest.items);
+      ∙ ap (λ (l : List Given). c.loop-command.invariant.prefix ++ l) c.in-Some.ensures.steps.0
+      ∙ sym (append_assoc c.loop-command.invariant.prefix (c.in-Some.command ∷ []) c.next.new.self.rest.items);
   may_try = (subst AllMayTry c.in-Some.ensures.steps.0 c.loop-command.invariant.may_try).1;
-  done = stands_more c.histories_grow.ensures.stand c.lines_of_more.ensures c.args.options c.args.at c.loop-command.invariant.front c.in-Some.command c.args.work.now c.loop-command.work c.do_next.new.work
+  done = stands_more c.histories_grow.ensures.job_state c.lines_of_more.ensures c.args.options c.args.at c.loop-command.invariant.prefix c.in-Some.command c.args.work.now c.loop-command.work c.do_next.new.work
       (g.K.Sink.written c.args.output.now) (g.K.Sink.written c.loop-command.output) (g.K.Sink.written c.do_next.new.output) c.loop-command.invariant.done c.in_ok-do_next.ensures.did c.in_ok-do_next.ensures.sound;
-  ready = ready_more c.histories_grow.ensures.stand c.args.options c.in-Some.command c.loop-command.work c.do_next.new.work (g.K.Sink.written c.loop-command.output) (g.K.Sink.written c.do_next.new.output) c.loop-command.invariant.ready c.in_ok-do_next.ensures.did;
+  ready = ready_more c.histories_grow.ensures.job_state c.args.options c.in-Some.command c.loop-command.work c.do_next.new.work (g.K.Sink.written c.loop-command.output) (g.K.Sink.written c.do_next.new.output) c.loop-command.invariant.ready c.in_ok-do_next.ensures.did;
   sound = c.in_ok-do_next.ensures.sound;
   faultless = c.in_ok-do_next.ensures.ok_faultless ∙ c.loop-command.invariant.faultless;
 }

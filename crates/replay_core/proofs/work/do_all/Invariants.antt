@@ -9,10 +9,10 @@ use Rattle.replay_core.proofs.work.do_all.Given as goal
 -- those that were done, and those that are left
 abbrev pub invariant-loop-command : goal.invariant-loop-command
 invariant-loop-command g l = record {
-  front : List Given;
-  are : l.fn.commands.items ≡ front ++ l.command-iterator.rest.items;
+  prefix : List Given;
+  are : l.fn.commands.items ≡ prefix ++ l.command-iterator.rest.items;
   may_try : AllMayTry l.command-iterator.rest.items;
-  done : StandsOn l.options (at_each l.at front) l.fn.work l.work (g.K.Sink.written l.fn.output) (g.K.Sink.written l.output);
+  done : StandsOn l.options (at_each l.at prefix) l.fn.work l.work (g.K.Sink.written l.fn.output) (g.K.Sink.written l.output);
   ready : IsReady l.work;
   sound : IsSound l.work.ledger;
   faultless : g.K.Sink.faults l.output ≡ g.K.Sink.faults l.fn.output;

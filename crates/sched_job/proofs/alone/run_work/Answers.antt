@@ -1,5 +1,5 @@
 use Rattle.std.proofs.Common.{◌≡◌, ◌∙◌, ℕ, [], ◌∷◌, length, refl, sym, ap, subst, append-nil, false, arith}
-use Rattle.cluster.specs.History.{stand_of}
+use Rattle.cluster.specs.History.{job_state_of}
 use Rattle.sched_job.specs.Runs.{JobBegun, Run, is_ended}
 use Rattle.sched_job.specs.Steps.{Extends, run_of}
 use Rattle.sched_job.proofs.Stepping.{running_new}
@@ -20,13 +20,13 @@ turns-init c =
 pub turns-smaller : goal.turns-smaller
 turns-smaller c =
     let run : Run = run_of (length c.args.ledger.now.entries) c.args.budget c.args.work.now in
-    let open_yet : is_ended (stand_of c.turns.ledger.entries c.turns.work.job) ≡ false = ap is_ended (sym c.stand.ensures) ∙ open_by c.stand.result c.in_default.not-Ended in
+    let open_yet : is_ended (job_state_of c.turns.ledger.entries c.turns.work.job) ≡ false = ap is_ended (sym c.job_state.ensures) ∙ open_by c.job_state.result c.in_default.not-Ended in
     c.turns_are_few.ensures.fewer c.args.budget run c.turns.ledger c.go.new.ledger c.turns.work c.go.new.work c.turns.invariant.2 c.go.ensures.legal c.turns.invariant.0 open_yet (c.in_ok-go.ensures.went.turned open_yet).0
 
 pub turns-preserved : goal.turns-preserved
 turns-preserved c =
     let run : Run = run_of (length c.args.ledger.now.entries) c.args.budget c.args.work.now in
-    let open_yet : is_ended (stand_of c.turns.ledger.entries c.turns.work.job) ≡ false = ap is_ended (sym c.stand.ensures) ∙ open_by c.stand.result c.in_default.not-Ended in
+    let open_yet : is_ended (job_state_of c.turns.ledger.entries c.turns.work.job) ≡ false = ap is_ended (sym c.job_state.ensures) ∙ open_by c.job_state.result c.in_default.not-Ended in
     let one = (c.in_ok-go.ensures.went.turned open_yet).0 in
     let less = c.turns_are_few.ensures.fewer c.args.budget run c.turns.ledger c.go.new.ledger c.turns.work c.go.new.work c.turns.invariant.2 c.go.ensures.legal c.turns.invariant.0 open_yet one in
     let longer = moved_length c.turns.ledger c.go.new.ledger c.turns.work.job (move_of c.turns.ledger.entries c.turns.work) one.moves in
@@ -47,7 +47,7 @@ returns-in_err-go-clause-begun c =
     let run : Run = run_of (length c.args.ledger.now.entries) c.args.budget c.args.work.now in
     let begun : JobBegun run c.go.new.ledger.entries = record {
       kept = (c.go.ensures.running run refl c.turns.invariant.0).kept;
-      open_yet = subst (λ (n : ℕ). is_ended (stand_of c.go.new.ledger.entries n) ≡ false) c.turns.invariant.0.job c.in_err-go.ensures.begun;
+      open_yet = subst (λ (n : ℕ). is_ended (job_state_of c.go.new.ledger.entries n) ≡ false) c.turns.invariant.0.job c.in_err-go.ensures.begun;
     } in
     on_err c.from_residual.result begun
 

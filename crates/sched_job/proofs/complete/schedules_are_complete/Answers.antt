@@ -6,7 +6,7 @@ use Rattle.sched_job.proofs.complete.schedules_are_complete.Goals as goal
 pub returns : goal.returns
 returns c =
     let laws : Laws = record {
-      grows = c.histories_grow.ensures.stand;
+      grows = c.histories_grow.ensures.job_state;
       state = c.histories_grow.ensures.state;
       fresh = c.histories_grow.ensures.start;
       goes = c.reserved_goes_on.ensures;

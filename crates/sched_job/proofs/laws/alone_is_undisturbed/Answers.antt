@@ -6,11 +6,11 @@ pub returns-clause-undisturbed : goal.returns-clause-undisturbed
 returns-clause-undisturbed c =
     let checks : Checks = record { holds = c.plan_holds.ensures; fits = c.fitting_is_of_pod.ensures.fits; passes = c.allocations_pass.ensures.plan; limits = c.objects_keep_limits.ensures.now } in
     let laws : Laws = record {
-      grows = c.histories_grow.ensures.stand;
+      grows = c.histories_grow.ensures.job_state;
       state = c.histories_grow.ensures.state;
       fresh = c.histories_grow.ensures.start;
       step = c.legal_steps.ensures.step;
-      front = c.legal_steps.ensures.front;
+      prefix = c.legal_steps.ensures.prefix;
       idle = c.users_are_busy.ensures.idle;
       holds = unfailing checks;
     } in never_set_back laws

@@ -10,7 +10,7 @@ pub returns-clause-fewer : goal.returns-clause-fewer
 returns-clause-fewer c =
     let moves : MovesOn = record { thinks = c.turns_move_on.ensures.thinks; idle = c.turns_move_on.ensures.idle; acts = c.turns_move_on.ensures.acts } in
     let laws : Turns = record {
-      grows = c.histories_grow.ensures.stand;
+      grows = c.histories_grow.ensures.job_state;
       state = c.histories_grow.ensures.state;
       step = c.legal_steps.ensures.step;
       limits = c.objects_keep_limits.ensures.now;
@@ -20,10 +20,10 @@ returns-clause-fewer c =
 pub returns-clause-others : goal.returns-clause-others
 returns-clause-others c =
     let laws : Others = record {
-      grows = c.histories_grow.ensures.stand;
+      grows = c.histories_grow.ensures.job_state;
       state = c.histories_grow.ensures.state;
       step = c.legal_steps.ensures.step;
-      front = c.legal_steps.ensures.front;
+      prefix = c.legal_steps.ensures.prefix;
       stays = c.pods_stay_taken.ensures;
       uids = c.uids_keep_claims.ensures;
     } in others_less laws

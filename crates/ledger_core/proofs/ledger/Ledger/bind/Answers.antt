@@ -23,7 +23,7 @@ invariant_of-self-2 c =
     let e : Entry = record { job = c.args.job; event = Bound pod n } in
     let step =
     subst (λ (h : History). Step h.entries (record { job = c.args.job; event = Bound pod (taken_node (state_of h.entries) pod) })) (sym c.self.view_is)
-    (record { allowed = c.requires.stand; stands = c.requires.step }) in
+    (record { allowed = c.requires.job_state; stands = c.requires.step }) in
     let bound = c.in_ok-pod.ensures in
     let node : taken_node c.self.inside.state pod ≡ n = ap (λ (s : State). taken_node s pod) kept.state_is in
     let made : c.bind.new.state ≡ after (length c.self.inside.entries.items + 1) c.args.job (Bound pod n) c.self.inside.state =

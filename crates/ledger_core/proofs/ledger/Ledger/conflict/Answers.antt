@@ -11,7 +11,7 @@ invariant_of-self-2 c =
     let kept = c.self.invariant in
     let room = c.in_ok-place.ensures in
     let e : Entry = record { job = c.args.job; event = Conflict c.args.pod.now c.args.claim.now c.args.had c.args.now } in
-    let step = subst (λ (h : History). Step h.entries e) (sym c.self.view_is) (record { allowed = c.requires.stand; stands = c.requires.differ }) in
+    let step = subst (λ (h : History). Step h.entries e) (sym c.self.view_is) (record { allowed = c.requires.job_state; stands = c.requires.differ }) in
     rw (c.append.ensures.entries, room.entries, c.in_ok-pod.ensures, c.in_ok-claim.ensures) (kept_more _ e _ _ _ _ _ _ _ _ kept step room.within refl kept.holders_are room.stands c.append.ensures.stands)
 
 pub returns-clause-legal : goal.returns-clause-legal

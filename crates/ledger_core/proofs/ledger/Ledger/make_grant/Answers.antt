@@ -17,7 +17,7 @@ invariant_of-self-2 c =
     let kept = c.self.invariant in
     let room = c.in_ok-place.ensures in
     let e : Entry = record { job = c.args.job; event = Adopted c.args.claim.now c.args.status } in
-    let step = subst (λ (h : History). Step h.entries e) (sym c.self.view_is) (record { allowed = c.requires.stand; stands = c.requires.adopted }) in
+    let step = subst (λ (h : History). Step h.entries e) (sym c.self.view_is) (record { allowed = c.requires.job_state; stands = c.requires.adopted }) in
     let grant = c.in_ok-claim.ensures in
     let made : c.adopt.new.state ≡ after (length c.self.inside.entries.items + 1) c.args.job (Adopted c.args.claim.now c.args.status) c.self.inside.state =
     grant.ok ∙ ap (λ (n : ℕ). with_adopted n c.args.claim.now c.args.status c.self.inside.state) room.place in
@@ -34,5 +34,5 @@ append-requires-clause-tries c = few_tries _ _ _ _ _ _ c.args.job c.self.invaria
 pub adopt-requires : goal.adopt-requires
 adopt-requires c =
     let e : Entry = record { job = c.args.job; event = Adopted c.args.claim.now c.args.status } in
-    let step = subst (λ (h : History). Step h.entries e) (sym c.self.view_is) (record { allowed = c.requires.stand; stands = c.requires.adopted }) in
+    let step = subst (λ (h : History). Step h.entries e) (sym c.self.view_is) (record { allowed = c.requires.job_state; stands = c.requires.adopted }) in
     (adopting c.one_holder.ensures.now _ _ _ _ _ c.self.invariant c.args.job c.args.claim.now c.args.status step).free _ c.self.invariant.holders_are

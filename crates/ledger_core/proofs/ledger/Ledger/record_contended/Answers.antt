@@ -2,7 +2,7 @@ use Rattle.std.proofs.Common.{◌≡◌, ◌∙◌, ap, refl, sym, subst}
 use Rattle.cluster.specs.declared.entry.Entry.{Entry}
 use Rattle.cluster.specs.declared.entry.Event.TheVariants.{Contended}
 use Rattle.cluster.specs.declared.entry.JobState.{JobState}
-use Rattle.cluster.specs.History.{stand_of}
+use Rattle.cluster.specs.History.{job_state_of}
 use Rattle.cluster.specs.JobState.{failures}
 use Rattle.ledger_core.specs.Ledger.{History}
 use Rattle.ledger_core.specs.Legal.{Step}
@@ -13,12 +13,12 @@ pub invariant_of-self-2 : goal.invariant_of-self-2
 invariant_of-self-2 c =
     let kept = c.self.invariant in
     let room = c.in_ok-place.ensures in
-    let e : Entry = record { job = c.args.job; event = Contended c.args.pod.now (failures (stand_of c.self.inside.entries.items c.args.job)) } in
+    let e : Entry = record { job = c.args.job; event = Contended c.args.pod.now (failures (job_state_of c.self.inside.entries.items c.args.job)) } in
     let step =
-    subst (λ (h : History). Step h.entries (record { job = c.args.job; event = Contended c.args.pod.now (failures (stand_of h.entries c.args.job)) })) (sym c.self.view_is)
-    (record { allowed = may_contend (stand_of c.args.self.now.entries c.args.job) c.args.pod.now c.requires.stand; stands = tt }) in
-    let attempts : c.failures-attempts.result ≡ failures (stand_of c.self.inside.entries.items c.args.job) =
-    c.failures-attempts.ensures ∙ ap (λ (st : JobState). failures st) c.stand.ensures ∙ ap (λ (h : History). failures (stand_of h.entries c.args.job)) (sym c.self.view_is) in
+    subst (λ (h : History). Step h.entries (record { job = c.args.job; event = Contended c.args.pod.now (failures (job_state_of h.entries c.args.job)) })) (sym c.self.view_is)
+    (record { allowed = may_contend (job_state_of c.args.self.now.entries c.args.job) c.args.pod.now c.requires.job_state; stands = tt }) in
+    let attempts : c.failures-attempts.result ≡ failures (job_state_of c.self.inside.entries.items c.args.job) =
+    c.failures-attempts.ensures ∙ ap (λ (st : JobState). failures st) c.job_state.ensures ∙ ap (λ (h : History). failures (job_state_of h.entries c.args.job)) (sym c.self.view_is) in
     rw (c.append.ensures.entries, room.entries, c.in_ok-pod.ensures, attempts) (kept_more _ e _ _ _ _ _ _ _ _ kept step room.within refl kept.holders_are room.stands (rw room.entries at c.append.ensures.stands))
 
 pub returns-clause-legal : goal.returns-clause-legal

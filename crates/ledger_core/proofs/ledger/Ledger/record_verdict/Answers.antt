@@ -11,7 +11,7 @@ invariant_of-self-2 c =
     let kept = c.self.invariant in
     let room = c.in_ok-place.ensures in
     let e : Entry = record { job = c.args.job; event = VerdictGiven c.args.pod.now c.args.verdict } in
-    let step = subst (λ (h : History). Step h.entries e) (sym c.self.view_is) (record { allowed = c.requires.stand; stands = c.requires.verdict }) in
+    let step = subst (λ (h : History). Step h.entries e) (sym c.self.view_is) (record { allowed = c.requires.job_state; stands = c.requires.verdict }) in
     rw (c.append.ensures.entries, room.entries, c.in_ok-pod.ensures) (kept_more _ e _ _ _ _ _ _ _ _ kept step room.within refl kept.holders_are room.stands (rw room.entries at c.append.ensures.stands))
 
 pub returns-clause-legal : goal.returns-clause-legal

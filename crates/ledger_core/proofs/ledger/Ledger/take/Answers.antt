@@ -15,7 +15,7 @@ invariant_of-self-2 c =
     let kept = c.self.invariant in
     let room = c.in_ok-place.ensures in
     let e : Entry = record { job = c.args.job; event = Reserved c.args.pod.now c.args.plan.now } in
-    let step = subst (λ (h : History). Step h.entries e) (sym c.self.view_is) (record { allowed = c.requires.stand; stands = c.requires.reserved }) in
+    let step = subst (λ (h : History). Step h.entries e) (sym c.self.view_is) (record { allowed = c.requires.job_state; stands = c.requires.reserved }) in
     let made = c.in_ok-pod.ensures in
     let holds = (taking c.one_holder.ensures.now _ _ _ _ _ kept c.args.job c.args.pod.now c.args.plan.now step).given _ _ kept.holders_are made.given in
     let holders = subst (λ (s : State). AreHeld c.reserve.new.holders (held s)) (sym made.ok) holds in
@@ -30,5 +30,5 @@ append-requires-clause-tries c = few_tries _ _ _ _ _ _ c.args.job c.self.invaria
 pub reserve-requires : goal.reserve-requires
 reserve-requires c =
     let e : Entry = record { job = c.args.job; event = Reserved c.args.pod.now c.args.plan.now } in
-    let step = subst (λ (h : History). Step h.entries e) (sym c.self.view_is) (record { allowed = c.requires.stand; stands = c.requires.reserved }) in
+    let step = subst (λ (h : History). Step h.entries e) (sym c.self.view_is) (record { allowed = c.requires.job_state; stands = c.requires.reserved }) in
     (taking c.one_holder.ensures.now _ _ _ _ _ c.self.invariant c.args.job c.args.pod.now c.args.plan.now step).free _ c.self.invariant.holders_are

@@ -15,7 +15,7 @@ invariant_of-self-2 c =
     let kept = c.self.invariant in
     let room = c.in_ok-place.ensures in
     let e : Entry = record { job = c.args.job; event = Deleted c.args.target.now } in
-    let step = subst (λ (h : History). Step h.entries e) (sym c.self.view_is) (record { allowed = c.requires.stand; stands = c.requires.deleted }) in
+    let step = subst (λ (h : History). Step h.entries e) (sym c.self.view_is) (record { allowed = c.requires.job_state; stands = c.requires.deleted }) in
     let made = c.in_ok-target.ensures in
     let holds = removed_held c.self.inside.state c.args.target.now _ _ (once_now c.one_holder.ensures.now _ _ _ _ _ kept) kept.holders_are made.left in
     let holders = subst (λ (s : State). AreHeld c.remove.new.holders (held s)) (sym made.ok) holds in

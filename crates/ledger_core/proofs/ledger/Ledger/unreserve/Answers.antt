@@ -17,7 +17,7 @@ invariant_of-self-2 c =
     let kept = c.self.invariant in
     let room = c.in_ok-place.ensures in
     let e : Entry = record { job = c.args.job; event = Unreserved c.args.pod.now } in
-    let step = subst (λ (h : History). Step h.entries e) (sym c.self.view_is) (record { allowed = c.requires.stand; stands = c.requires.step }) in
+    let step = subst (λ (h : History). Step h.entries e) (sym c.self.view_is) (record { allowed = c.requires.job_state; stands = c.requires.step }) in
     let freed = c.in_ok-pod.ensures in
     let made : c.free.new.state ≡ after (length c.self.inside.entries.items + 1) c.args.job (Unreserved c.args.pod.now) c.self.inside.state =
     freed.ok ∙ ap (λ (n : ℕ). without_uses n c.args.pod.now c.self.inside.state) room.place in

@@ -24,7 +24,7 @@ invariant_of-self-2 c =
     let e : Entry = record { job = c.args.job; event = Wrote pod claim n } in
     let step =
     subst (λ (h : History). Step h.entries (record { job = c.args.job; event = Wrote pod claim (version_of (state_of h.entries) claim) })) (sym c.self.view_is)
-    (record { allowed = c.requires.stand; stands = c.requires.step }) in
+    (record { allowed = c.requires.job_state; stands = c.requires.step }) in
     let seen : c.version-seen.result ≡ n = c.version-seen.ensures ∙ ap (λ (s : State). version_of s claim) kept.state_is in
     let made : c.write.new.self ≡ after (length c.self.inside.entries.items + 1) c.args.job (Wrote pod claim n) c.self.inside.state =
     c.in_ok-write.ensures.ok ∙ ap (λ (k : ℕ). with_written k pod claim c.self.inside.state) room.place in

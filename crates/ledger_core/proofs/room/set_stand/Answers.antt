@@ -1,6 +1,0 @@
-use Rattle.std.proofs.Common.{sym}
-use Rattle.ledger_core.proofs.Standing.{row_set}
-use Rattle.ledger_core.proofs.room.set_stand.Goals as goal
-
-pub returns-in-Some : goal.returns-in-Some
-returns-in-Some c = λ j. row_set c.args.stands.now c.args.job c.in-Some.row.now c.args.stand j (sym c.in-Some.ensures.value)
