@@ -110,7 +110,7 @@ reserve_is s pod p budget at passed taken law may order t =
     let names = keys_of s.inventory.nodes in
     let o : IsStrictlySortedBy text_cmp (nodes_of passed ++ taken.node ∷ t.rest) = subst (λ (l : List (List ℕ)). IsStrictlySortedBy text_cmp l) (sym t.names_are) order in
     record {
-      place = refl;
+      index = refl;
       holds = record {
         state = p;
         may_search = may;
@@ -139,7 +139,7 @@ reserve_is s pod p budget at passed taken law may order t =
 judge_is : (s : State) (pod : Key) (p : PodState) (budget at : ℕ) (passed : List Passed) → Unsats → MaySearch s pod p → AllPassed s p.pod.object budget (keys_of s.inventory.nodes) passed
     → IsJudge s pod budget at (record { at = at; reason = reason.Nodes passed })
 judge_is s pod p budget at passed law may a = record {
-  place = refl;
+  index = refl;
   holds = record {
     state = p;
     idle = may.idle;
@@ -160,13 +160,13 @@ unready_judge : (s : State) (pod : Key) (p : PodState) (budget at : ℕ) (missin
     → unready_by missing full ≡ Some why → IsJudge s pod budget at (record { at = at; reason = why })
 unready_judge s pod p budget at (Some k) full (reason.Missing claim) idle m f e =
     let same : k ≡ claim = cc in
-    record { place = refl; holds = record { state = p; idle = idle; reason = m ∙ ap (λ l. Some l) same }; found = record { state = p; there = idle.there; reason = tt } }
+    record { index = refl; holds = record { state = p; idle = idle; reason = m ∙ ap (λ l. Some l) same }; found = record { state = p; there = idle.there; reason = tt } }
 unready_judge s pod p budget at (Some k) full (reason.Users claim) idle m f e = absurd (cc)
 unready_judge s pod p budget at (Some k) full (reason.Nodes nodes) idle m f e = absurd (cc)
 unready_judge s pod p budget at None (Some k) (reason.Missing claim) idle m f e = absurd (cc)
 unready_judge s pod p budget at None (Some k) (reason.Users claim) idle m f e =
     let same : k ≡ claim = cc in
-    record { place = refl; holds = record { state = p; idle = idle; reason = record { there = m; full = f ∙ ap (λ l. Some l) same } }; found = record { state = p; there = idle.there; reason = tt } }
+    record { index = refl; holds = record { state = p; idle = idle; reason = record { there = m; full = f ∙ ap (λ l. Some l) same } }; found = record { state = p; there = idle.there; reason = tt } }
 unready_judge s pod p budget at None (Some k) (reason.Nodes nodes) idle m f e = absurd (cc)
 unready_judge s pod p budget at None None why idle m f e = absurd (cc)
 

@@ -21,13 +21,13 @@ is_idle_pod s pod = is_idle_by (at_key s.pods pod)
 
 -- the plan is made at the index, is true there, and is what searches within the budget find
 pub record IsReserve (s : State) (pod : Key) (budget at : ℕ) (plan : Plan) : Type 0 where
-  pub place : plan.at ≡ at
+  pub index : plan.at ≡ at
   pub holds : PlanTrue s pod plan
   pub found : PlanBy s pod budget plan
 
 -- the verdict, likewise
 pub record IsJudge (s : State) (pod : Key) (budget at : ℕ) (verdict : Verdict) : Type 0 where
-  pub place : verdict.at ≡ at
+  pub index : verdict.at ≡ at
   pub holds : VerdictTrue s pod verdict
   pub found : VerdictBy s pod budget verdict
 

@@ -19,10 +19,10 @@ use allocations::{changes_hold_once, grants_hold_once};
 /// change that reserves keeps it if the plan holds, however many claims the plan grants or joins.
 pub fn one_holder_is_kept()
     ensures empty { HeldOnce empty_state }
-    ensures applied { (place : ℕ) (object : Object) (s : State) → HeldOnce s → HeldOnce (with_object place object s) }
+    ensures applied { (index : ℕ) (object : Object) (s : State) → HeldOnce s → HeldOnce (with_object index object s) }
     ensures deleted { (target : Target) (s : State) → HeldOnce s → HeldOnce (without_object target s) }
     ensures reserved { (s : State) (job : ℕ) (pod : Key) (plan : Plan) → Holds s pod plan → HeldOnce s → HeldOnce (with_reserved job pod plan s) }
-    ensures written { (place : ℕ) (pod claim : Key) (s : State) → HeldOnce s → HeldOnce (with_written place pod claim s) }
+    ensures written { (index : ℕ) (pod claim : Key) (s : State) → HeldOnce s → HeldOnce (with_written index pod claim s) }
     ensures bound { (pod : Key) (node : List ℕ) (s : State) → HeldOnce s → HeldOnce (with_bound pod node s) }
 {
     changes_hold_once();

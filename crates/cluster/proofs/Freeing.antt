@@ -132,32 +132,32 @@ again_by k t (Some c) is = ap (λ o. option_map_or (λ x. set_value (is_at (key_
 again : (k : Key) (t : Claims) → left_at k (at_key t k) t ≡ t
 again k t = again_by k t (at_key t k) refl
 
-module _ (place : ℕ) (pod : Key) (old : Claims) where
-  put_by : (seen : List Key) (k : Key) (ks : List Key) (t : Claims) (b : Bool) → in_seen seen k ≡ b → Changed (freed place pod) old seen t
-      → ((u : Claims) → Changed (freed place pod) old seen u → left (map (leaving_at place pod old) ks) u ≡ with_freed place pod (first_places seen ks) u)
-      → ((u : Claims) → Changed (freed place pod) old (k ∷ seen) u → left (map (leaving_at place pod old) ks) u ≡ with_freed place pod (first_places (k ∷ seen) ks) u)
-      → left (map (leaving_at place pod old) ks) (left_at k (option_map (freed place pod) (at_key old k)) t) ≡ with_freed place pod (cond b (first_places seen ks) (k ∷ first_places (k ∷ seen) ks)) t
+module _ (index : ℕ) (pod : Key) (old : Claims) where
+  put_by : (seen : List Key) (k : Key) (ks : List Key) (t : Claims) (b : Bool) → in_seen seen k ≡ b → Changed (freed index pod) old seen t
+      → ((u : Claims) → Changed (freed index pod) old seen u → left (map (leaving_at index pod old) ks) u ≡ with_freed index pod (first_places seen ks) u)
+      → ((u : Claims) → Changed (freed index pod) old (k ∷ seen) u → left (map (leaving_at index pod old) ks) u ≡ with_freed index pod (first_places (k ∷ seen) ks) u)
+      → left (map (leaving_at index pod old) ks) (left_at k (option_map (freed index pod) (at_key old k)) t) ≡ with_freed index pod (cond b (first_places seen ks) (k ∷ first_places (k ∷ seen) ks)) t
   put_by seen k ks t true is changed here later =
-      let there : at_key t k ≡ option_map (freed place pod) (at_key old k) = changed k ∙ ap (λ b. cond b (option_map (freed place pod) (at_key old k)) (at_key old k)) is in
-      ap (λ o. left (map (leaving_at place pod old) ks) (left_at k o t)) (sym there) ∙ ap (λ u. left (map (leaving_at place pod old) ks) u) (again k t) ∙ here t changed
+      let there : at_key t k ≡ option_map (freed index pod) (at_key old k) = changed k ∙ ap (λ b. cond b (option_map (freed index pod) (at_key old k)) (at_key old k)) is in
+      ap (λ o. left (map (leaving_at index pod old) ks) (left_at k o t)) (sym there) ∙ ap (λ u. left (map (leaving_at index pod old) ks) u) (again k t) ∙ here t changed
   put_by seen k ks t false is changed here later =
-      let there : at_key t k ≡ at_key old k = changed k ∙ ap (λ b. cond b (option_map (freed place pod) (at_key old k)) (at_key old k)) is in
-      ap (λ o. left (map (leaving_at place pod old) ks) (left_at k (option_map (freed place pod) o) t)) (sym there)
-      ∙ ap (λ u. left (map (leaving_at place pod old) ks) u) (first k (freed place pod) t)
-      ∙ later (changed_at k (freed place pod) t) (more (freed place pod) old seen k t is changed)
+      let there : at_key t k ≡ at_key old k = changed k ∙ ap (λ b. cond b (option_map (freed index pod) (at_key old k)) (at_key old k)) is in
+      ap (λ o. left (map (leaving_at index pod old) ks) (left_at k (option_map (freed index pod) o) t)) (sym there)
+      ∙ ap (λ u. left (map (leaving_at index pod old) ks) u) (first k (freed index pod) t)
+      ∙ later (changed_at k (freed index pod) t) (more (freed index pod) old seen k t is changed)
 
-  put_each : (ks seen : List Key) (t : Claims) → Changed (freed place pod) old seen t → left (map (leaving_at place pod old) ks) t ≡ with_freed place pod (first_places seen ks) t
+  put_each : (ks seen : List Key) (t : Claims) → Changed (freed index pod) old seen t → left (map (leaving_at index pod old) ks) t ≡ with_freed index pod (first_places seen ks) t
   put_each [] seen t changed = refl
   put_each (k ∷ ks) seen t changed =
       put_by seen k ks t (in_seen seen k) refl changed (λ u h. put_each ks seen u h) (λ u h. put_each ks (k ∷ seen) u h)
 
-  named : (namespace : List ℕ) (cs : List PodResourceClaim) → map (leaving place pod old namespace) cs ≡ map (leaving_at place pod old) (map (λ c. record { namespace = namespace; name = c.claim }) cs)
+  named : (namespace : List ℕ) (cs : List PodResourceClaim) → map (leaving index pod old namespace) cs ≡ map (leaving_at index pod old) (map (λ c. record { namespace = namespace; name = c.claim }) cs)
   named namespace [] = refl
-  named namespace (c ∷ cs) = ap (λ ls. leaving place pod old namespace c ∷ ls) (named namespace cs)
+  named namespace (c ∷ cs) = ap (λ ls. leaving index pod old namespace c ∷ ls) (named namespace cs)
 
-  left_each : (p : Pod) → left (leaving_each place pod old p) old ≡ with_freed place pod (first_places [] (claim_keys p)) old
+  left_each : (p : Pod) → left (leaving_each index pod old p) old ≡ with_freed index pod (first_places [] (claim_keys p)) old
   left_each p = ap (λ ls. left ls old) (named p.key.namespace p.claims) ∙ put_each (claim_keys p) [] old (λ k. refl)
 
-  pub left_is : (o : Option PodState) → left (leaving_by place pod old o) old ≡ with_freed place pod (claims_by o) old
+  pub left_is : (o : Option PodState) → left (leaving_by index pod old o) old ≡ with_freed index pod (claims_by o) old
   left_is None = refl
   left_is (Some p) = left_each p.pod.object

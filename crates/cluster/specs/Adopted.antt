@@ -20,11 +20,11 @@ status_grant status = record { node = status.node; results = map result_of statu
 
 -- the claim with this grant
 abbrev pub adopted_by : ℕ → ClaimStatus → ClaimState → ClaimState
-adopted_by place status c = record c { claim = record c.claim { version = place }; grant = Some (status_grant status) }
+adopted_by index status c = record c { claim = record c.claim { version = index }; grant = Some (status_grant status) }
 
 abbrev pub with_adopted : ℕ → Key → ClaimStatus → State → State
-with_adopted place claim status s = record s { claims = changed_at claim (adopted_by place status) s.claims }
+with_adopted index claim status s = record s { claims = changed_at claim (adopted_by index status) s.claims }
 
 -- its job is ended
 abbrev pub adopted_leaves : ℕ → JobState
-adopted_leaves place = job_state.Ended place
+adopted_leaves index = job_state.Ended index

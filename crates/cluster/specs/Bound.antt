@@ -12,4 +12,4 @@ with_bound pod node s = record s { pods = with_phase pod (phase.Bound node) s.po
 
 -- its job is ended
 abbrev pub bound_leaves : ℕ → JobState
-bound_leaves place = job_state.Ended place
+bound_leaves index = job_state.Ended index

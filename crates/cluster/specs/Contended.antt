@@ -10,4 +10,4 @@ with_contention s = s
 
 -- its job is ended
 abbrev pub contended_leaves : ℕ → JobState
-contended_leaves place = job_state.Ended place
+contended_leaves index = job_state.Ended index

@@ -20,4 +20,4 @@ without_object (target.Pod key) s = record s { pods = remove_entry (is_at (key_c
 
 -- its job is ended
 abbrev pub deleted_leaves : ℕ → JobState
-deleted_leaves place = job_state.Ended place
+deleted_leaves index = job_state.Ended index

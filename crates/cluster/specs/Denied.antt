@@ -169,4 +169,4 @@ with_denial s = s
 
 -- its job is ended
 abbrev pub denied_leaves : ℕ → JobState
-denied_leaves place = job_state.Ended place
+denied_leaves index = job_state.Ended index

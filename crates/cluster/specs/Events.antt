@@ -23,35 +23,35 @@ use Rattle.cluster.specs.Denied.{with_denial, denied_leaves}
 
 -- the state after an entry of a job at an index
 abbrev pub after : ℕ → ℕ → Event → State → State
-after place job (Applied object mode) s = with_object place object s
-after place job (Deleted target) s = without_object target s
-after place job (Reserved pod plan) s = with_reserved job pod plan s
-after place job (Refused pod plan why) s = with_refusal s
-after place job (Wrote pod claim seen) s = with_written place pod claim s
-after place job (Conflict pod claim had now) s = with_conflict s
-after place job (Unreserved pod) s = with_unreserved place pod s
-after place job (Bound pod node) s = with_bound pod node s
-after place job (VerdictGiven pod verdict) s = with_verdict s
-after place job (Contended pod attempts) s = with_contention s
-after place job (Released pod) s = with_released place pod s
-after place job (Adopted claim status) s = with_adopted place claim status s
-after place job (Denied command refusal) s = with_denial s
+after index job (Applied object mode) s = with_object index object s
+after index job (Deleted target) s = without_object target s
+after index job (Reserved pod plan) s = with_reserved job pod plan s
+after index job (Refused pod plan why) s = with_refusal s
+after index job (Wrote pod claim seen) s = with_written index pod claim s
+after index job (Conflict pod claim had now) s = with_conflict s
+after index job (Unreserved pod) s = with_unreserved index pod s
+after index job (Bound pod node) s = with_bound pod node s
+after index job (VerdictGiven pod verdict) s = with_verdict s
+after index job (Contended pod attempts) s = with_contention s
+after index job (Released pod) s = with_released index pod s
+after index job (Adopted claim status) s = with_adopted index claim status s
+after index job (Denied command refusal) s = with_denial s
 
 -- the job's state after its entry at an index
 abbrev pub job_state_after : JobState → ℕ → Event → JobState
-job_state_after st place (Applied object mode) = applied_leaves place
-job_state_after st place (Deleted target) = deleted_leaves place
-job_state_after st place (Reserved pod plan) = reserved_leaves st
-job_state_after st place (Refused pod plan why) = refused_leaves st
-job_state_after st place (Wrote pod claim seen) = wrote_leaves st
-job_state_after st place (Conflict pod claim had now) = conflict_leaves st
-job_state_after st place (Unreserved pod) = unreserved_leaves st
-job_state_after st place (Bound pod node) = bound_leaves place
-job_state_after st place (VerdictGiven pod verdict) = judged_leaves place
-job_state_after st place (Contended pod attempts) = contended_leaves place
-job_state_after st place (Released pod) = released_leaves place
-job_state_after st place (Adopted claim status) = adopted_leaves place
-job_state_after st place (Denied command refusal) = denied_leaves place
+job_state_after st index (Applied object mode) = applied_leaves index
+job_state_after st index (Deleted target) = deleted_leaves index
+job_state_after st index (Reserved pod plan) = reserved_leaves st
+job_state_after st index (Refused pod plan why) = refused_leaves st
+job_state_after st index (Wrote pod claim seen) = wrote_leaves st
+job_state_after st index (Conflict pod claim had now) = conflict_leaves st
+job_state_after st index (Unreserved pod) = unreserved_leaves st
+job_state_after st index (Bound pod node) = bound_leaves index
+job_state_after st index (VerdictGiven pod verdict) = judged_leaves index
+job_state_after st index (Contended pod attempts) = contended_leaves index
+job_state_after st index (Released pod) = released_leaves index
+job_state_after st index (Adopted claim status) = adopted_leaves index
+job_state_after st index (Denied command refusal) = denied_leaves index
 
 -- a job in this state may make the entry
 abbrev pub allows : JobState → Event → Bool

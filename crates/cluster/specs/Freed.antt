@@ -16,8 +16,8 @@ use Rattle.cluster.specs.Tables.{changed_at, with_phase}
 
 -- a claim whose written use goes gets the index as its version
 abbrev pub freed_version : ℕ → Use → ℕ → ℕ
-freed_version place (Assumed seen) version = version
-freed_version place Written version = place
+freed_version index (Assumed seen) version = version
+freed_version index Written version = index
 
 -- a claim without users loses its grant
 abbrev pub grant_left : List (Key × Use) → Option Granted → Option Granted
@@ -28,18 +28,18 @@ abbrev pub without_user : Key → List (Key × Use) → List (Key × Use)
 without_user pod users = remove_entry (is_at (key_cmp pod)) users
 
 abbrev pub freed_by : ℕ → Key → Option Use → ClaimState → ClaimState
-freed_by place pod None c = c
-freed_by place pod (Some use_of) c =
-    record c { claim = record c.claim { version = freed_version place use_of c.claim.version }; grant = grant_left (without_user pod c.users) c.grant; users = without_user pod c.users }
+freed_by index pod None c = c
+freed_by index pod (Some use_of) c =
+    record c { claim = record c.claim { version = freed_version index use_of c.claim.version }; grant = grant_left (without_user pod c.users) c.grant; users = without_user pod c.users }
 
 -- the claim without the pod's use, if it has one
 abbrev pub freed : ℕ → Key → ClaimState → ClaimState
-freed place pod c = freed_by place pod (at_key c.users pod) c
+freed index pod c = freed_by index pod (at_key c.users pod) c
 
 -- each of these claims without the pod's use
 abbrev pub with_freed : ℕ → Key → List Key → List (Key × ClaimState) → List (Key × ClaimState)
-with_freed place pod [] claims = claims
-with_freed place pod (k ∷ ks) claims = with_freed place pod ks (changed_at k (freed place pod) claims)
+with_freed index pod [] claims = claims
+with_freed index pod (k ∷ ks) claims = with_freed index pod ks (changed_at k (freed index pod) claims)
 
 abbrev pub claims_by : Option PodState → List Key
 claims_by None = []
@@ -47,4 +47,4 @@ claims_by (Some p) = claims_of p
 
 -- the state without the pod's uses, in which the pod is Idle
 abbrev pub without_uses : ℕ → Key → State → State
-without_uses place pod s = record s { claims = with_freed place pod (claims_by (at_key s.pods pod)) s.claims; pods = with_phase pod Idle s.pods }
+without_uses index pod s = record s { claims = with_freed index pod (claims_by (at_key s.pods pod)) s.claims; pods = with_phase pod Idle s.pods }

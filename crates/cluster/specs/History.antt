@@ -14,7 +14,7 @@ told step a n [] = a
 told step a n (e ∷ es) = told step (step a (n + 1) e) (n + 1) es
 
 abbrev pub next_state : State → ℕ → Entry → State
-next_state s place e = after place e.job e.event s
+next_state s index e = after index e.job e.event s
 
 -- the state after a history
 unfoldable pub state_of : List Entry → State
@@ -22,14 +22,14 @@ state_of h = told next_state empty_state 0 h
 
 -- the state after the first entries
 abbrev pub state_at : List Entry → ℕ → State
-state_at h place = state_of (take place h)
+state_at h index = state_of (take index h)
 
 -- the entry at an index, from 1
 abbrev pub entry_at : List Entry → ℕ → Option Entry
-entry_at h place = if place == 0 then None else slice_get h (place - 1)
+entry_at h index = if index == 0 then None else slice_get h (index - 1)
 
 abbrev pub next_job_state : ℕ → JobState → ℕ → Entry → JobState
-next_job_state job st place e = if e.job == job then job_state_after st place e.event else st
+next_job_state job st index e = if e.job == job then job_state_after st index e.event else st
 
 -- what the job's entries in a history leave
 unfoldable pub job_state_of : List Entry → ℕ → JobState

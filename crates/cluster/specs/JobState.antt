@@ -9,7 +9,7 @@ failures job_state.Fresh = 0
 failures (job_state.Reserved k) = k
 failures (job_state.Conflicted k) = k
 failures (job_state.Failed k) = k
-failures (job_state.Ended place) = 0
+failures (job_state.Ended index) = 0
 
 -- it has no entry
 abbrev pub is_fresh : JobState → Bool
@@ -17,7 +17,7 @@ is_fresh job_state.Fresh = true
 is_fresh (job_state.Reserved k) = false
 is_fresh (job_state.Conflicted k) = false
 is_fresh (job_state.Failed k) = false
-is_fresh (job_state.Ended place) = false
+is_fresh (job_state.Ended index) = false
 
 -- an attempt may begin
 abbrev pub may_try : JobState → Bool
@@ -25,7 +25,7 @@ may_try job_state.Fresh = true
 may_try (job_state.Reserved k) = false
 may_try (job_state.Conflicted k) = false
 may_try (job_state.Failed k) = true
-may_try (job_state.Ended place) = false
+may_try (job_state.Ended index) = false
 
 -- its last attempt has failed
 abbrev pub has_failed : JobState → Bool
@@ -33,7 +33,7 @@ has_failed job_state.Fresh = false
 has_failed (job_state.Reserved k) = false
 has_failed (job_state.Conflicted k) = false
 has_failed (job_state.Failed k) = true
-has_failed (job_state.Ended place) = false
+has_failed (job_state.Ended index) = false
 
 -- it has found another version of a claim
 abbrev pub is_conflicted : JobState → Bool
@@ -41,11 +41,11 @@ is_conflicted job_state.Fresh = false
 is_conflicted (job_state.Reserved k) = false
 is_conflicted (job_state.Conflicted k) = true
 is_conflicted (job_state.Failed k) = false
-is_conflicted (job_state.Ended place) = false
+is_conflicted (job_state.Ended index) = false
 
 abbrev pub has_reserved : JobState → Bool
 has_reserved job_state.Fresh = false
 has_reserved (job_state.Reserved k) = true
 has_reserved (job_state.Conflicted k) = false
 has_reserved (job_state.Failed k) = false
-has_reserved (job_state.Ended place) = false
+has_reserved (job_state.Ended index) = false

@@ -12,19 +12,19 @@ use Rattle.cluster.specs.Tables.{changed_at}
 
 -- a claim without the pod's use, if it is there
 abbrev pub leaving_at : ℕ → Key → List (Key × ClaimState) → Key → Leaving
-leaving_at place pod claims k = record { claim = k; state = option_map (freed place pod) (at_key claims k) }
+leaving_at index pod claims k = record { claim = k; state = option_map (freed index pod) (at_key claims k) }
 
 -- the same of a claim that a pod names
 abbrev pub leaving : ℕ → Key → List (Key × ClaimState) → List ℕ → PodResourceClaim → Leaving
-leaving place pod claims namespace c = leaving_at place pod claims (record { namespace = namespace; name = c.claim })
+leaving index pod claims namespace c = leaving_at index pod claims (record { namespace = namespace; name = c.claim })
 
 -- the same of each claim that the pod names
 abbrev pub leaving_each : ℕ → Key → List (Key × ClaimState) → Pod → List Leaving
-leaving_each place pod claims p = map (leaving place pod claims p.key.namespace) p.claims
+leaving_each index pod claims p = map (leaving index pod claims p.key.namespace) p.claims
 
 abbrev pub leaving_by : ℕ → Key → List (Key × ClaimState) → Option PodState → List Leaving
-leaving_by place pod claims None = []
-leaving_by place pod claims (Some p) = leaving_each place pod claims p.pod.object
+leaving_by index pod claims None = []
+leaving_by index pod claims (Some p) = leaving_each index pod claims p.pod.object
 
 abbrev pub left_at : Key → Option ClaimState → List (Key × ClaimState) → List (Key × ClaimState)
 left_at k None claims = claims

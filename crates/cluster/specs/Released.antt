@@ -8,8 +8,8 @@ use Rattle.cluster.specs.Freed.{without_uses}
 
 -- the pod's uses, which are all written, are taken away, and it is Idle
 abbrev pub with_released : ℕ → Key → State → State
-with_released place pod s = without_uses place pod s
+with_released index pod s = without_uses index pod s
 
 -- its job is ended
 abbrev pub released_leaves : ℕ → JobState
-released_leaves place = job_state.Ended place
+released_leaves index = job_state.Ended index

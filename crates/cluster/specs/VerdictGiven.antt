@@ -14,7 +14,7 @@ with_verdict s = s
 
 -- its job is ended
 abbrev pub judged_leaves : ℕ → JobState
-judged_leaves place = job_state.Ended place
+judged_leaves index = job_state.Ended index
 
 abbrev pub is_fault : Cause → Bool
 is_fault cause.Unsat = false

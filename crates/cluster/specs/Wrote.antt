@@ -16,11 +16,11 @@ as_published g = record g { published = true }
 
 -- the claim with the pod's use written, and its grant published
 abbrev pub written_by : ℕ → Key → ClaimState → ClaimState
-written_by place pod c =
-    record c { claim = record c.claim { version = place }; grant = option_map as_published c.grant; users = changed_at pod (λ _. Written) c.users }
+written_by index pod c =
+    record c { claim = record c.claim { version = index }; grant = option_map as_published c.grant; users = changed_at pod (λ _. Written) c.users }
 
 abbrev pub with_written : ℕ → Key → Key → State → State
-with_written place pod claim s = record s { claims = changed_at claim (written_by place pod) s.claims }
+with_written index pod claim s = record s { claims = changed_at claim (written_by index pod) s.claims }
 
 -- its job has reserved still
 abbrev pub wrote_leaves : JobState → JobState

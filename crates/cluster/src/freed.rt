@@ -24,30 +24,30 @@ pub struct Leaving {
 pub fn prepare_free(
     alloc: Global,
     claims: &Table<Key, ClaimState>,
-    place: u64,
+    index: u64,
     pod: &Key,
     state: Option<&PodState>,
 ) -> Result<Vec<Leaving>, AllocError>
-    ensures { IfOk result (λ claims_left. claims_left.items ≡ leaving_by place pod.now claims.now (option_copied state.entry)) }
+    ensures { IfOk result (λ claims_left. claims_left.items ≡ leaving_by index pod.now claims.now (option_copied state.entry)) }
 {
     match state {
         None => Ok(Vec::new(alloc)),
-        Some(state) => prepare_each(alloc, claims, place, pod, &state.pod.object),
+        Some(state) => prepare_each(alloc, claims, index, pod, &state.pod.object),
     }
 }
 
 fn prepare_each(
     alloc: Global,
     claims: &Table<Key, ClaimState>,
-    place: u64,
+    index: u64,
     pod: &Key,
     named: &Pod,
 ) -> Result<Vec<Leaving>, AllocError>
-    ensures { IfOk result (λ claims_left. claims_left.items ≡ leaving_each place pod.now claims.now named.now) }
+    ensures { IfOk result (λ claims_left. claims_left.items ≡ leaving_each index pod.now claims.now named.now) }
 {
     let mut claims_left = Vec::new(alloc);
     for claim in named.claims.as_slice() {
-        claims_left.push(prepare_leaving(alloc, claims, place, pod, &named.key.namespace, claim)?)?;
+        claims_left.push(prepare_leaving(alloc, claims, index, pod, &named.key.namespace, claim)?)?;
     }
     Ok(claims_left)
 }
@@ -55,56 +55,56 @@ fn prepare_each(
 fn prepare_leaving(
     alloc: Global,
     claims: &Table<Key, ClaimState>,
-    place: u64,
+    index: u64,
     pod: &Key,
     namespace: &Text,
     claim: &PodResourceClaim,
 ) -> Result<Leaving, AllocError>
-    ensures { IfOk result (λ l. l ≡ leaving place pod.now claims.now namespace.now claim.now) }
+    ensures { IfOk result (λ l. l ≡ leaving index pod.now claims.now namespace.now claim.now) }
 {
     let claim = Key {
         namespace: namespace.copy(alloc)?,
         name: claim.claim.copy(alloc)?,
     };
-    let state = freed_at(alloc, place, pod, claims.get(&claim))?;
+    let state = freed_at(alloc, index, pod, claims.get(&claim))?;
     Ok(Leaving { claim, state })
 }
 
 fn freed_at(
     alloc: Global,
-    place: u64,
+    index: u64,
     pod: &Key,
     state: Option<&ClaimState>,
 ) -> Result<Option<ClaimState>, AllocError>
-    ensures { IfOk result (λ s. s ≡ option_map (freed place pod.now) (option_copied state.entry)) }
+    ensures { IfOk result (λ s. s ≡ option_map (freed index pod.now) (option_copied state.entry)) }
 {
     match state {
         None => Ok(None),
-        Some(state) => Ok(Some(freed(alloc, place, pod, state)?)),
+        Some(state) => Ok(Some(freed(alloc, index, pod, state)?)),
     }
 }
 
 /// The claim without the pod's use, if it has one.
-fn freed(alloc: Global, place: u64, pod: &Key, state: &ClaimState) -> Result<ClaimState, AllocError>
-    ensures { IfOk result (λ s. s ≡ freed place pod.now state.now) }
+fn freed(alloc: Global, index: u64, pod: &Key, state: &ClaimState) -> Result<ClaimState, AllocError>
+    ensures { IfOk result (λ s. s ≡ freed index pod.now state.now) }
 {
     match state.users.get(pod) {
         None => state.duplicate(alloc),
-        Some(how) => without_use(alloc, place, pod, how, state),
+        Some(how) => without_use(alloc, index, pod, how, state),
     }
 }
 
 /// The claim without the pod's use, which it has.
 fn without_use(
     alloc: Global,
-    place: u64,
+    index: u64,
     pod: &Key,
     how: &Use,
     state: &ClaimState,
 ) -> Result<ClaimState, AllocError>
-    ensures { IfOk result (λ s. s ≡ freed_by place pod.now (Some how.now) state.now) }
+    ensures { IfOk result (λ s. s ≡ freed_by index pod.now (Some how.now) state.now) }
 {
-    let claim = freed_claim(alloc, place, how, &state.claim)?;
+    let claim = freed_claim(alloc, index, how, &state.claim)?;
     let users = without_user(alloc, pod, &state.users)?;
     let grant = grant_left(alloc, &users, &state.grant)?;
     Ok(ClaimState {
@@ -116,23 +116,23 @@ fn without_use(
 
 fn freed_claim(
     alloc: Global,
-    place: u64,
+    index: u64,
     how: &Use,
     claim: &Stored<Shared<ReadyClaim>>,
 ) -> Result<Stored<Shared<ReadyClaim>>, AllocError>
-    ensures { IfOk result (λ c. c ≡ record claim.now { version = freed_version place how.now claim.now.version }) }
+    ensures { IfOk result (λ c. c ≡ record claim.now { version = freed_version index how.now claim.now.version }) }
 {
     let mut freed = claim.duplicate(alloc)?;
-    freed.version = freed_version(place, how, claim.version);
+    freed.version = freed_version(index, how, claim.version);
     Ok(freed)
 }
 
-fn freed_version(place: u64, how: &Use, version: u64) -> u64
-    ensures { result ≡ freed_version place how.now version }
+fn freed_version(index: u64, how: &Use, version: u64) -> u64
+    ensures { result ≡ freed_version index how.now version }
 {
     match how {
         Use::Assumed(_) => version,
-        Use::Written => place,
+        Use::Written => index,
     }
 }
 

@@ -149,25 +149,25 @@ impl State {
     /// keeps its uid if one of its kind and name is there, and else it is created. A claim that is
     /// updated keeps its grant and its users, and a pod how far it has come. `AllocError` is returned only
     /// if memory runs out, and then nothing changed.
-    pub fn put(&mut self, alloc: Global, place: u64, kept: Kept) -> Result<(), AllocError>
+    pub fn put(&mut self, alloc: Global, index: u64, kept: Kept) -> Result<(), AllocError>
         requires { has_room self.old (object_of kept) ≡ true }
-        ensures ok { OnOk result (self.new ≡ with_object place (object_of kept) self.old) }
+        ensures ok { OnOk result (self.new ≡ with_object index (object_of kept) self.old) }
         ensures err { OnErr result (self.new ≡ self.old) }
     {
         match kept {
-            Kept::Node(node) => self.inventory.change(alloc)?.put_node(alloc, place, node),
-            Kept::Slice(slice) => self.inventory.change(alloc)?.put_slice(alloc, place, slice),
+            Kept::Node(node) => self.inventory.change(alloc)?.put_node(alloc, index, node),
+            Kept::Slice(slice) => self.inventory.change(alloc)?.put_slice(alloc, index, slice),
             Kept::Class(class) => {
                 let name = class.class().name.copy(alloc)?;
-                put_named(self.classes.change(alloc)?, place, name, class)
+                put_named(self.classes.change(alloc)?, index, name, class)
             }
             Kept::Claim(claim) => {
                 let key = claim.claim().key.copy(alloc)?;
-                put_claim(alloc, self.claims.change(alloc)?, place, key, claim)
+                put_claim(alloc, self.claims.change(alloc)?, index, key, claim)
             }
             Kept::Pod(pod) => {
                 let key = pod.key.copy(alloc)?;
-                put_pod(self.pods.change(alloc)?, place, key, pod)
+                put_pod(self.pods.change(alloc)?, index, key, pod)
             }
         }
     }
@@ -230,25 +230,25 @@ impl State {
     pub fn write(
         &mut self,
         alloc: Global,
-        place: u64,
+        index: u64,
         pod: &Key,
         claim: &Key,
     ) -> Result<(), AllocError>
-        ensures ok { OnOk result (self.new ≡ with_written place pod.now claim.now self.old) }
+        ensures ok { OnOk result (self.new ≡ with_written index pod.now claim.now self.old) }
         ensures err { OnErr result (self.new ≡ self.old) }
     {
-        write_claim(alloc, self.claims.change(alloc)?, place, pod, claim)?;
+        write_claim(alloc, self.claims.change(alloc)?, index, pod, claim)?;
         Ok(())
     }
 
     /// Takes away the pod's uses of its claims, by the entry at this index, and leaves the pod Idle. A
     /// claim whose written use goes gets the index as its version, and one without users loses its grant.
     /// `AllocError` is returned only if memory runs out, and then nothing changed.
-    pub fn free(&mut self, alloc: Global, place: u64, pod: &Key) -> Result<(), AllocError>
-        ensures ok { OnOk result (self.new ≡ without_uses place pod.now self.old) }
+    pub fn free(&mut self, alloc: Global, index: u64, pod: &Key) -> Result<(), AllocError>
+        ensures ok { OnOk result (self.new ≡ without_uses index pod.now self.old) }
         ensures err { OnErr result (self.new ≡ self.old) }
     {
-        let left = prepare_free(alloc, &self.claims, place, pod, self.pods.get(pod))?;
+        let left = prepare_free(alloc, &self.claims, index, pod, self.pods.get(pod))?;
         let claims = self.claims.change(alloc)?;
         let pods = self.pods.change(alloc)?;
         leave(claims, left);
@@ -261,15 +261,15 @@ impl State {
     pub fn adopt(
         &mut self,
         alloc: Global,
-        place: u64,
+        index: u64,
         claim: &Key,
         status: &ClaimStatus,
     ) -> Result<(), AllocError>
-        ensures ok { OnOk result (self.new ≡ with_adopted place claim.now status.now self.old) }
+        ensures ok { OnOk result (self.new ≡ with_adopted index claim.now status.now self.old) }
         ensures err { OnErr result (self.new ≡ self.old) }
     {
         let grant = Shared::new(alloc, status_grant(alloc, status)?)?;
-        set_grant(self.claims.change(alloc)?, place, claim, grant);
+        set_grant(self.claims.change(alloc)?, index, claim, grant);
         Ok(())
     }
 
@@ -312,29 +312,29 @@ impl State {
 fn write_claim(
     alloc: Global,
     claims: &mut Table<Key, ClaimState>,
-    place: u64,
+    index: u64,
     pod: &Key,
     claim: &Key,
 ) -> Result<(), AllocError>
-    ensures ok { OnOk result (claims.new ≡ changed_at claim.now (written_by place pod.now) claims.old) }
+    ensures ok { OnOk result (claims.new ≡ changed_at claim.now (written_by index pod.now) claims.old) }
     ensures err { OnErr result (claims.new ≡ claims.old) }
 {
     if let Some(state) = claims.get_mut(claim) {
-        write_use(alloc, state, place, pod)?;
+        write_use(alloc, state, index, pod)?;
     }
     Ok(())
 }
 
 /// Writes the pod's use of a claim, and publishes its grant. All memory is allocated before the first
 /// change.
-fn write_use(alloc: Global, state: &mut ClaimState, place: u64, pod: &Key) -> Result<(), AllocError>
-    ensures ok { OnOk result (state.new ≡ written_by place pod.now state.old) }
+fn write_use(alloc: Global, state: &mut ClaimState, index: u64, pod: &Key) -> Result<(), AllocError>
+    ensures ok { OnOk result (state.new ≡ written_by index pod.now state.old) }
     ensures err { OnErr result (state.new ≡ state.old) }
 {
     let users = state.users.change(alloc)?;
     publish(alloc, &mut state.grant)?;
     set_use(users, pod, Use::Written);
-    state.claim.version = place;
+    state.claim.version = index;
     Ok(())
 }
 
@@ -392,11 +392,11 @@ fn device_result(alloc: Global, picked: &StatusResult) -> Result<DeviceResult, A
 }
 
 /// Grants a claim what a status write says, if it is there.
-fn set_grant(claims: &mut Table<Key, ClaimState>, place: u64, claim: &Key, grant: Shared<Granted>)
-    ensures { claims.new ≡ changed_at claim.now (λ c. record c { claim = record c.claim { version = place }; grant = Some grant }) claims.old }
+fn set_grant(claims: &mut Table<Key, ClaimState>, index: u64, claim: &Key, grant: Shared<Granted>)
+    ensures { claims.new ≡ changed_at claim.now (λ c. record c { claim = record c.claim { version = index }; grant = Some grant }) claims.old }
 {
     if let Some(state) = claims.get_mut(claim) {
-        state.claim.version = place;
+        state.claim.version = index;
         state.grant = Some(grant);
     }
 }
@@ -414,20 +414,20 @@ fn set_phase(pods: &mut Table<Key, PodState>, pod: &Key, phase: Phase)
 fn put_claim(
     alloc: Global,
     claims: &mut Table<Key, ClaimState>,
-    place: u64,
+    index: u64,
     key: Key,
     claim: Shared<ReadyClaim>,
 ) -> Result<(), AllocError>
-    ensures ok { OnOk result (claims.new ≡ changed_or_new key (new_claim place claim) (updated_claim place claim) claims.old) }
+    ensures ok { OnOk result (claims.new ≡ changed_or_new key (new_claim index claim) (updated_claim index claim) claims.old) }
     ensures err { OnErr result (claims.new ≡ claims.old) }
 {
     if claims.contains_key(&key) {
-        update_claim(claims, place, &key, claim);
+        update_claim(claims, index, &key, claim);
         Ok(())
     } else {
         let users = Shared::new(alloc, Table::new(alloc))?;
         let claim = ClaimState {
-            claim: Stored::created(place, claim),
+            claim: Stored::created(index, claim),
             grant: None,
             users,
         };
@@ -438,33 +438,33 @@ fn put_claim(
 /// Updates a claim, if it is there.
 fn update_claim(
     claims: &mut Table<Key, ClaimState>,
-    place: u64,
+    index: u64,
     key: &Key,
     claim: Shared<ReadyClaim>,
 )
-    ensures { claims.new ≡ changed_at key.now (updated_claim place claim) claims.old }
+    ensures { claims.new ≡ changed_at key.now (updated_claim index claim) claims.old }
 {
     if let Some(state) = claims.get_mut(key) {
-        state.claim.update(place, claim);
+        state.claim.update(index, claim);
     }
 }
 
 /// Puts a pod at its key.
 fn put_pod(
     pods: &mut Table<Key, PodState>,
-    place: u64,
+    index: u64,
     key: Key,
     pod: Shared<Pod>,
 ) -> Result<(), AllocError>
-    ensures ok { OnOk result (pods.new ≡ changed_or_new key (new_pod place pod) (updated_pod place pod) pods.old) }
+    ensures ok { OnOk result (pods.new ≡ changed_or_new key (new_pod index pod) (updated_pod index pod) pods.old) }
     ensures err { OnErr result (pods.new ≡ pods.old) }
 {
     if pods.contains_key(&key) {
-        update_pod(pods, place, &key, pod);
+        update_pod(pods, index, &key, pod);
         Ok(())
     } else {
         let pod = PodState {
-            pod: Stored::created(place, pod),
+            pod: Stored::created(index, pod),
             phase: Phase::Idle,
         };
         pods.insert(key, pod)
@@ -472,10 +472,10 @@ fn put_pod(
 }
 
 /// Updates a pod, if it is there.
-fn update_pod(pods: &mut Table<Key, PodState>, place: u64, key: &Key, pod: Shared<Pod>)
-    ensures { pods.new ≡ changed_at key.now (updated_pod place pod) pods.old }
+fn update_pod(pods: &mut Table<Key, PodState>, index: u64, key: &Key, pod: Shared<Pod>)
+    ensures { pods.new ≡ changed_at key.now (updated_pod index pod) pods.old }
 {
     if let Some(state) = pods.get_mut(key) {
-        state.pod.update(place, pod);
+        state.pod.update(index, pod);
     }
 }

@@ -106,12 +106,12 @@ put_by job key new f es (Some p) is idle same =
     let s = same p in
     omega (arith, h, s)
 
-applied : (job place : ℕ) (x : Object) (s : State) → pods_taken job (with_object place x s).pods ≤ pods_taken job s.pods
-applied job place (object.Node x) s = omega arith
-applied job place (object.Slice x) s = omega arith
-applied job place (object.Class x) s = omega arith
-applied job place (object.Claim x) s = omega arith
-applied job place (object.Pod x) s = put_by job x.key _ _ s.pods (at_key s.pods x.key) refl refl (λ p. refl)
+applied : (job index : ℕ) (x : Object) (s : State) → pods_taken job (with_object index x s).pods ≤ pods_taken job s.pods
+applied job index (object.Node x) s = omega arith
+applied job index (object.Slice x) s = omega arith
+applied job index (object.Class x) s = omega arith
+applied job index (object.Claim x) s = omega arith
+applied job index (object.Pod x) s = put_by job x.key _ _ s.pods (at_key s.pods x.key) refl refl (λ p. refl)
 
 deleted : (job : ℕ) (t : Target) (s : State) → pods_taken job (without_object t s).pods ≤ pods_taken job s.pods
 deleted job (target.Node name) s = omega arith
@@ -130,28 +130,28 @@ most_fresh job_state.Fresh e = refl
 most_fresh (job_state.Reserved k) e = absurd (cc)
 most_fresh (job_state.Conflicted k) e = absurd (cc)
 most_fresh (job_state.Failed k) e = refl
-most_fresh (job_state.Ended place) e = refl
+most_fresh (job_state.Ended index) e = refl
 
 most_trying : (st : JobState) → may_try st ≡ true → most st ≡ 0
 most_trying job_state.Fresh e = refl
 most_trying (job_state.Reserved k) e = absurd (cc)
 most_trying (job_state.Conflicted k) e = absurd (cc)
 most_trying (job_state.Failed k) e = refl
-most_trying (job_state.Ended place) e = refl
+most_trying (job_state.Ended index) e = refl
 
 most_failed : (st : JobState) (b : Bool) → (has_failed st && b) ≡ true → most st ≡ 0
 most_failed job_state.Fresh b e = absurd (cc)
 most_failed (job_state.Reserved k) b e = absurd (cc)
 most_failed (job_state.Conflicted k) b e = absurd (cc)
 most_failed (job_state.Failed k) b e = refl
-most_failed (job_state.Ended place) b e = absurd (cc)
+most_failed (job_state.Ended index) b e = absurd (cc)
 
 most_one : (st : JobState) → most st ≤ 1
 most_one job_state.Fresh = omega arith
 most_one (job_state.Reserved k) = omega arith
 most_one (job_state.Conflicted k) = omega arith
 most_one (job_state.Failed k) = omega arith
-most_one (job_state.Ended place) = omega arith
+most_one (job_state.Ended index) = omega arith
 
 -- a pod that the job has taken, in a phase in which it isn't
 given_up : (job : ℕ) (pod : Key) (ph : Phase) (node : List ℕ) (es : Pods) (p : PodState) → at_key es pod ≡ Some p → p.phase ≡ phase.Taken job node → taken_by job ph ≡ 0 → pods_taken job (with_phase pod ph es) + 1 ≡ pods_taken job es
@@ -165,79 +165,79 @@ given_up job pod ph node es p there taken off =
     omega (arith, count, exact, was, off)
 
 -- an entry's own job
-own : (before : List Entry) (place job : ℕ) (event : Event) → allows (job_state_of before job) event ≡ true → MayFollow before job event → pods_taken job (state_of before).pods ≤ most (job_state_of before job)
-    → pods_taken job (after place job event (state_of before)).pods ≤ most (job_state_after (job_state_of before job) place event)
-own before place job (Applied x m) allowed may h =
+own : (before : List Entry) (index job : ℕ) (event : Event) → allows (job_state_of before job) event ≡ true → MayFollow before job event → pods_taken job (state_of before).pods ≤ most (job_state_of before job)
+    → pods_taken job (after index job event (state_of before)).pods ≤ most (job_state_after (job_state_of before job) index event)
+own before index job (Applied x m) allowed may h =
     let none = most_fresh (job_state_of before job) allowed in
-    let few = applied job place x (state_of before) in
+    let few = applied job index x (state_of before) in
     omega (arith, none, few, h)
-own before place job (Deleted t) allowed may h =
+own before index job (Deleted t) allowed may h =
     let none = most_fresh (job_state_of before job) allowed in
     let few = deleted job t (state_of before) in
     omega (arith, none, few, h)
-own before place job (Reserved pod plan) allowed may h =
+own before index job (Reserved pod plan) allowed may h =
     let none = most_trying (job_state_of before job) allowed in
     let few = phase_set job pod (phase.Taken job plan.node) (state_of before).pods in
     let one : taken_by job (phase.Taken job plan.node) ≡ 1 = ap (λ b. cond b 1 0) (eq-eqb job job refl) in
     omega (arith, none, few, one, h)
-own before place job (Refused pod plan why) allowed may h =
+own before index job (Refused pod plan why) allowed may h =
     let none = most_trying (job_state_of before job) allowed in
     omega (arith, none, h)
-own before place job (Wrote pod claim seen) allowed may h =
+own before index job (Wrote pod claim seen) allowed may h =
     let one = most_one (job_state_of before job) in
     omega (arith, one, h)
-own before place job (Conflict pod claim had now) allowed may h =
+own before index job (Conflict pod claim had now) allowed may h =
     let one = most_one (job_state_of before job) in
     omega (arith, one, h)
-own before place job (Unreserved pod) allowed may h =
+own before index job (Unreserved pod) allowed may h =
     let less = given_up job pod phase.Idle may.node (state_of before).pods may.state may.taken.there may.taken.taken refl in
     let one = most_one (job_state_of before job) in
     omega (arith, less, one, h)
-own before place job (Bound pod node) allowed may h =
+own before index job (Bound pod node) allowed may h =
     let less = given_up job pod (phase.Bound node) node (state_of before).pods may.state may.taken.there may.taken.taken refl in
     let one = most_one (job_state_of before job) in
     omega (arith, less, one, h)
-own before place job (VerdictGiven pod verdict) allowed may h =
+own before index job (VerdictGiven pod verdict) allowed may h =
     let none = most_trying (job_state_of before job) allowed in
     omega (arith, none, h)
-own before place job (Contended pod attempts) allowed may h =
+own before index job (Contended pod attempts) allowed may h =
     let none = most_failed (job_state_of before job) _ allowed in
     omega (arith, none, h)
-own before place job (Released pod) allowed may h =
+own before index job (Released pod) allowed may h =
     let none = most_fresh (job_state_of before job) allowed in
     let few = phase_set job pod phase.Idle (state_of before).pods in
     omega (arith, none, few, h)
-own before place job (Adopted claim status) allowed may h =
+own before index job (Adopted claim status) allowed may h =
     let none = most_fresh (job_state_of before job) allowed in
     omega (arith, none, h)
-own before place job (Denied command refused) allowed may h =
+own before index job (Denied command refused) allowed may h =
     let none = most_trying (job_state_of before job) allowed in
     omega (arith, none, h)
 
 -- another job
-other : (place job j : ℕ) (event : Event) (s : State) → eqb job j ≡ false → pods_taken j (after place job event s).pods ≤ pods_taken j s.pods
-other place job j (Applied x m) s differs = applied j place x s
-other place job j (Deleted t) s differs = deleted j t s
-other place job j (Reserved pod plan) s differs =
+other : (index job j : ℕ) (event : Event) (s : State) → eqb job j ≡ false → pods_taken j (after index job event s).pods ≤ pods_taken j s.pods
+other index job j (Applied x m) s differs = applied j index x s
+other index job j (Deleted t) s differs = deleted j t s
+other index job j (Reserved pod plan) s differs =
     let few = phase_set j pod (phase.Taken job plan.node) s.pods in
     let none : taken_by j (phase.Taken job plan.node) ≡ 0 = ap (λ b. cond b 1 0) differs in
     omega (arith, few, none)
-other place job j (Refused pod plan why) s differs = omega arith
-other place job j (Wrote pod claim seen) s differs = omega arith
-other place job j (Conflict pod claim had now) s differs = omega arith
-other place job j (Unreserved pod) s differs =
+other index job j (Refused pod plan why) s differs = omega arith
+other index job j (Wrote pod claim seen) s differs = omega arith
+other index job j (Conflict pod claim had now) s differs = omega arith
+other index job j (Unreserved pod) s differs =
     let few = phase_set j pod phase.Idle s.pods in
     omega (arith, few)
-other place job j (Bound pod node) s differs =
+other index job j (Bound pod node) s differs =
     let few = phase_set j pod (phase.Bound node) s.pods in
     omega (arith, few)
-other place job j (VerdictGiven pod verdict) s differs = omega arith
-other place job j (Contended pod attempts) s differs = omega arith
-other place job j (Released pod) s differs =
+other index job j (VerdictGiven pod verdict) s differs = omega arith
+other index job j (Contended pod attempts) s differs = omega arith
+other index job j (Released pod) s differs =
     let few = phase_set j pod phase.Idle s.pods in
     omega (arith, few)
-other place job j (Adopted claim status) s differs = omega arith
-other place job j (Denied command refused) s differs = omega arith
+other index job j (Adopted claim status) s differs = omega arith
+other index job j (Denied command refused) s differs = omega arith
 
 -- ---- histories
 
@@ -245,22 +245,22 @@ other place job j (Denied command refused) s differs = omega arith
 abbrev Few : List Entry → Type 0
 Few h = (j : ℕ) → pods_taken j (state_of h).pods ≤ most (job_state_of h j)
 
-few_by : (b : Bool) (j job place : ℕ) (event : Event) (before : List Entry) (pods : Pods) → eqb job j ≡ b
-    → (eqb job j ≡ true → pods_taken j pods ≤ most (job_state_after (job_state_of before j) place event)) → (eqb job j ≡ false → pods_taken j pods ≤ most (job_state_of before j))
-    → pods_taken j pods ≤ most (cond b (job_state_after (job_state_of before j) place event) (job_state_of before j))
-few_by true j job place event before pods is same differs = same is
-few_by false j job place event before pods is same differs = differs is
+few_by : (b : Bool) (j job index : ℕ) (event : Event) (before : List Entry) (pods : Pods) → eqb job j ≡ b
+    → (eqb job j ≡ true → pods_taken j pods ≤ most (job_state_after (job_state_of before j) index event)) → (eqb job j ≡ false → pods_taken j pods ≤ most (job_state_of before j))
+    → pods_taken j pods ≤ most (cond b (job_state_after (job_state_of before j) index event) (job_state_of before j))
+few_by true j job index event before pods is same differs = same is
+few_by false j job index event before pods is same differs = differs is
 
 few_after : (before : List Entry) (e : Entry) → Step before e → Few before → Few (before ++ e ∷ [])
 few_after before e step few j =
-    let place = length before + 1 in
-    let pods = (after place e.job e.event (state_of before)).pods in
-    let same : eqb e.job j ≡ true → pods_taken j pods ≤ most (job_state_after (job_state_of before j) place e.event) =
-    λ t. subst (λ (i : ℕ). pods_taken i pods ≤ most (job_state_after (job_state_of before i) place e.event)) (eqb-true e.job j t) (own before place e.job e.event step.allowed step.stands (few e.job)) in
+    let index = length before + 1 in
+    let pods = (after index e.job e.event (state_of before)).pods in
+    let same : eqb e.job j ≡ true → pods_taken j pods ≤ most (job_state_after (job_state_of before j) index e.event) =
+    λ t. subst (λ (i : ℕ). pods_taken i pods ≤ most (job_state_after (job_state_of before i) index e.event)) (eqb-true e.job j t) (own before index e.job e.event step.allowed step.stands (few e.job)) in
     let differs : eqb e.job j ≡ false → pods_taken j pods ≤ most (job_state_of before j) =
-    λ t. let less = other place e.job j e.event (state_of before) t in let h = few j in omega (arith, less, h) in
+    λ t. let less = other index e.job j e.event (state_of before) t in let h = few j in omega (arith, less, h) in
     subst (λ (s : State). pods_taken j s.pods ≤ most (job_state_of (before ++ e ∷ []) j)) (sym (state_of-more before e))
-    (subst (λ (st : JobState). pods_taken j pods ≤ most st) (sym (job_state_of-more before e j)) (few_by (eqb e.job j) j e.job place e.event before pods refl same differs))
+    (subst (λ (st : JobState). pods_taken j pods ≤ most st) (sym (job_state_of-more before e j)) (few_by (eqb e.job j) j e.job index e.event before pods refl same differs))
 
 few_at_first : Few []
 few_at_first j = subst (λ (s : State). pods_taken j s.pods ≤ most (job_state_of [] j)) (sym state_of-empty) (omega arith)
@@ -325,7 +325,7 @@ trying job_state.Fresh e f = absurd (cc)
 trying (job_state.Reserved k) e f = absurd (cc)
 trying (job_state.Conflicted k) e f = absurd (cc)
 trying (job_state.Failed k) e f = absurd (cc)
-trying (job_state.Ended place) e f = absurd (cc)
+trying (job_state.Ended index) e f = absurd (cc)
 
 -- a job that has taken a pod has it, and isn't one that may be denied
 holder_of : (h : List Entry) (job holder : ℕ) → Legal h → may_try (job_state_of h job) ≡ true → 1 ≤ pods_taken holder (state_of h).pods → (has_pod (job_state_of h holder) ≡ true) × (holder ≢ job)

@@ -120,15 +120,15 @@ written_use pod user users (inr differ) =
     let same = changed_other user pod (λ _. Written) users differ in
     (λ e. ap is_some same ∙ e, λ e. ap is_written same ∙ e)
 
-stay_put : (pod : Key) (place : ℕ) (x : ResourceClaim) (t : Claims) (o : Option ClaimState) → at_key t x.key ≡ o → Stay pod t (put_at x.key (new_claim place x) (updated_claim place x) t o)
-stay_put pod place x t None is = λ k. stay_new k (same_or_not (key_cmp k x.key) k x.key refl)
+stay_put : (pod : Key) (index : ℕ) (x : ResourceClaim) (t : Claims) (o : Option ClaimState) → at_key t x.key ≡ o → Stay pod t (put_at x.key (new_claim index x) (updated_claim index x) t o)
+stay_put pod index x t None is = λ k. stay_new k (same_or_not (key_cmp k x.key) k x.key refl)
   where
-    stay_new : (k : Key) → (k ≡ x.key) ⊎ (k ≡ x.key → ⊥) → StayFor pod (at_key t k) (at_key (insert_entry key_cmp t x.key (new_claim place x)) k)
-    stay_new k (inl e) = subst (λ o. StayFor pod o (at_key (insert_entry key_cmp t x.key (new_claim place x)) k)) (sym (ap (at_key t) e ∙ is)) (stay_none pod _)
-    stay_new k (inr differ) = stay_same pod (at_key t k) _ (insert_other x.key k t (new_claim place x) differ)
-stay_put pod place x t (Some c) is =
-    subst (λ o. Stay pod t (option_map_or (λ v. set_value (is_at (key_cmp x.key)) t (updated_claim place x v)) o t)) is
-    (stay_changed pod x.key (updated_claim place x) t (λ v. (λ e. e, λ e. e)))
+    stay_new : (k : Key) → (k ≡ x.key) ⊎ (k ≡ x.key → ⊥) → StayFor pod (at_key t k) (at_key (insert_entry key_cmp t x.key (new_claim index x)) k)
+    stay_new k (inl e) = subst (λ o. StayFor pod o (at_key (insert_entry key_cmp t x.key (new_claim index x)) k)) (sym (ap (at_key t) e ∙ is)) (stay_none pod _)
+    stay_new k (inr differ) = stay_same pod (at_key t k) _ (insert_other x.key k t (new_claim index x) differ)
+stay_put pod index x t (Some c) is =
+    subst (λ o. Stay pod t (option_map_or (λ v. set_value (is_at (key_cmp x.key)) t (updated_claim index x v)) o t)) is
+    (stay_changed pod x.key (updated_claim index x) t (λ v. (λ e. e, λ e. e)))
 
 unused_by : (pod : Key) (c : ClaimState) (us : List (Key × Use)) (new : Option ClaimState) → c.users ≡ us → has_user (Some c) ≡ false → StayFor pod (Some c) new
 unused_by pod c [] new is none =
@@ -145,19 +145,19 @@ stay_removed_by : (pod key k : Key) (t : Claims) → (k ≡ key) ⊎ (k ≡ key 
 stay_removed_by pod key k t (inl e) none = unused pod (at_key t k) _ (ap (λ x. has_user (at_key t x)) e ∙ none)
 stay_removed_by pod key k t (inr differ) none = stay_same pod (at_key t k) _ (remove_other key k t differ)
 
-freed_use : (pod user : Key) (place : ℕ) (c : ClaimState) (o : Option Use) → (pod ≡ user → ⊥) → StayFor pod (Some c) (Some (freed_by place user o c))
-freed_use pod user place c None differ = (λ e. e, λ e. e)
-freed_use pod user place c (Some u) differ =
+freed_use : (pod user : Key) (index : ℕ) (c : ClaimState) (o : Option Use) → (pod ≡ user → ⊥) → StayFor pod (Some c) (Some (freed_by index user o c))
+freed_use pod user index c None differ = (λ e. e, λ e. e)
+freed_use pod user index c (Some u) differ =
     let same = remove_other user pod c.users differ in
     (λ e. ap is_some same ∙ e, λ e. ap is_written same ∙ e)
 
 -- another pod's uses go
-stay_freed : (place : ℕ) (pod user : Key) (ks : List Key) (t : Claims) → (pod ≡ user → ⊥) → Stay pod t (with_freed place user ks t)
-stay_freed place pod user [] t differ = λ k. stay_same pod (at_key t k) (at_key t k) refl
-stay_freed place pod user (j ∷ js) t differ =
-    let next : Claims = changed_at j (freed place user) t in
-    stay_then pod t next (with_freed place user js next) (stay_changed pod j (freed place user) t (λ c. freed_use pod user place c (at_key c.users user) differ))
-    (stay_freed place pod user js next differ)
+stay_freed : (index : ℕ) (pod user : Key) (ks : List Key) (t : Claims) → (pod ≡ user → ⊥) → Stay pod t (with_freed index user ks t)
+stay_freed index pod user [] t differ = λ k. stay_same pod (at_key t k) (at_key t k) refl
+stay_freed index pod user (j ∷ js) t differ =
+    let next : Claims = changed_at j (freed index user) t in
+    stay_then pod t next (with_freed index user js next) (stay_changed pod j (freed index user) t (λ c. freed_use pod user index c (at_key c.users user) differ))
+    (stay_freed index pod user js next differ)
 
 -- ---- pods that use their claims
 
@@ -203,26 +203,26 @@ keys_same a b key claims = ap (λ (k : Key). map (named k) a.claims) key ∙ ap 
 abbrev pub SameClaims : Type 0
 SameClaims = (a b : Pod) → (same_pod_claims a b ≡ true) ↔ (a.claims ≡ b.claims)
 
-updated_fits : (claims : Claims) (place : ℕ) (x : Pod) (p : PodState) → claim_keys p.pod.object ≡ claim_keys x → Fits claims x.key p → Fits claims x.key (updated_pod place x p)
-updated_fits claims place x p same h = (
+updated_fits : (claims : Claims) (index : ℕ) (x : Pod) (p : PodState) → claim_keys p.pod.object ≡ claim_keys x → Fits claims x.key p → Fits claims x.key (updated_pod index x p)
+updated_fits claims index x p same h = (
   refl,
   λ busy. ap (λ ks. list_all (λ k. is_some (use_in x.key (at_key claims k))) (first_places [] ks)) (sym same) ∙ h.1 busy,
   λ node is. ap (λ ks. list_all (λ k. is_written (use_in x.key (at_key claims k))) (first_places [] ks)) (sym same) ∙ h.2 node is,
 )
 
-new_fits : (claims : Claims) (place : ℕ) (x : Pod) → Fits claims x.key (new_pod place x)
-new_fits claims place x = (refl, λ busy. absurd (cc), λ node is. absurd (cc))
+new_fits : (claims : Claims) (index : ℕ) (x : Pod) → Fits claims x.key (new_pod index x)
+new_fits claims index x = (refl, λ busy. absurd (cc), λ node is. absurd (cc))
 
-applied : SameClaims → (place : ℕ) (x : Object) (m : Mode) (s : State) → first_refusal s (Apply x m) ≡ None → AllFit s.claims s.pods → AllFit (with_object place x s).claims (with_object place x s).pods
-applied law place (object.Node x) m s free h = h
-applied law place (object.Slice x) m s free h = h
-applied law place (object.Class x) m s free h = h
-applied law place (object.Claim x) m s free h =
-    all_still s.claims _ s.pods (λ key. stay_put key place x s.claims (at_key s.claims x.key) refl) h
-applied law place (object.Pod x) m s free h = (
-  once_put x.key (new_pod place x) (updated_pod place x) s.pods h.0,
-  all_put (Fits s.claims) x.key (new_pod place x) (updated_pod place x) s.pods h.1 (λ none. new_fits s.claims place x)
-      (λ p there fits. updated_fits s.claims place x p (keys_same p.pod.object x fits.0 ((law p.pod.object x).0 (pod_unchanged s x m p free there))) fits),
+applied : SameClaims → (index : ℕ) (x : Object) (m : Mode) (s : State) → first_refusal s (Apply x m) ≡ None → AllFit s.claims s.pods → AllFit (with_object index x s).claims (with_object index x s).pods
+applied law index (object.Node x) m s free h = h
+applied law index (object.Slice x) m s free h = h
+applied law index (object.Class x) m s free h = h
+applied law index (object.Claim x) m s free h =
+    all_still s.claims _ s.pods (λ key. stay_put key index x s.claims (at_key s.claims x.key) refl) h
+applied law index (object.Pod x) m s free h = (
+  once_put x.key (new_pod index x) (updated_pod index x) s.pods h.0,
+  all_put (Fits s.claims) x.key (new_pod index x) (updated_pod index x) s.pods h.1 (λ none. new_fits s.claims index x)
+      (λ p there fits. updated_fits s.claims index x p (keys_same p.pod.object x fits.0 ((law p.pod.object x).0 (pod_unchanged s x m p free there))) fits),
 )
 
 pub later_none : (first later : Option Refusal) → or_else first later ≡ None → later ≡ None
@@ -270,9 +270,9 @@ reserved s job pod plan t h =
     )
     (λ key differ. stay_then key s.claims granted_claims new (stay_granted plan.node key pod plan.grants s.claims differ) (stay_joined key pod plan.joins granted_claims differ))
 
-wrote : (place : ℕ) (pod claim : Key) (s : State) → AllFit s.claims s.pods → AllFit (with_written place pod claim s).claims s.pods
-wrote place pod claim s h =
-    all_still s.claims _ s.pods (λ key. stay_changed key claim (written_by place pod) s.claims (λ c. written_use key pod c.users (same_or_not (key_cmp key pod) key pod refl))) h
+wrote : (index : ℕ) (pod claim : Key) (s : State) → AllFit s.claims s.pods → AllFit (with_written index pod claim s).claims s.pods
+wrote index pod claim s h =
+    all_still s.claims _ s.pods (λ key. stay_changed key claim (written_by index pod) s.claims (λ c. written_use key pod c.users (same_or_not (key_cmp key pod) key pod refl))) h
 
 bound : (s : State) (job : ℕ) (pod : Key) (node : List ℕ) → MayBind s pod job node → AllFit s.claims s.pods → AllFit s.claims (with_phase pod (phase.Bound node) s.pods)
 bound s job pod node may h =
@@ -281,38 +281,38 @@ bound s job pod node may h =
     let busy : is_busy (Some p) ≡ true = ap (λ ph. not (is_idle ph)) may.taken.taken in
     all_set s.claims s.claims pod (λ q. record q { phase = phase.Bound node }) s.pods p may.taken.there h (fits.0, λ b. fits.1 busy, λ n is. may.written) (λ key differ. all_same s.claims key)
 
-without_uses_by : (place : ℕ) (pod : Key) (claims : Claims) (pods : Pods) (o : Option PodState) → at_key pods pod ≡ o → AllFit claims pods
-    → AllFit (with_freed place pod (claims_by o) claims) (option_map_or (λ p. set_value (is_at (key_cmp pod)) pods (record p { phase = phase.Idle })) o pods)
-without_uses_by place pod claims pods None is h = h
-without_uses_by place pod claims pods (Some p) is h =
-    let new : Claims = with_freed place pod (claims_of p) claims in
+without_uses_by : (index : ℕ) (pod : Key) (claims : Claims) (pods : Pods) (o : Option PodState) → at_key pods pod ≡ o → AllFit claims pods
+    → AllFit (with_freed index pod (claims_by o) claims) (option_map_or (λ p. set_value (is_at (key_cmp pod)) pods (record p { phase = phase.Idle })) o pods)
+without_uses_by index pod claims pods None is h = h
+without_uses_by index pod claims pods (Some p) is h =
+    let new : Claims = with_freed index pod (claims_of p) claims in
     subst (λ (o : Option PodState). AllFit new (option_map_or (λ q. set_value (is_at (key_cmp pod)) pods (record q { phase = phase.Idle })) o pods)) is
     (all_set claims new pod (λ q. record q { phase = phase.Idle }) pods p is h ((h.1 pod p is).0, λ busy. absurd (cc), λ node e. absurd (cc))
-    (λ key differ. stay_freed place key pod (claims_of p) claims differ))
+    (λ key differ. stay_freed index key pod (claims_of p) claims differ))
 
 -- a pod that is Idle again needs no use, and the others keep theirs
-unused_again : (place : ℕ) (pod : Key) (s : State) → AllFit s.claims s.pods → AllFit (without_uses place pod s).claims (without_uses place pod s).pods
-unused_again place pod s h = without_uses_by place pod s.claims s.pods (at_key s.pods pod) refl h
+unused_again : (index : ℕ) (pod : Key) (s : State) → AllFit s.claims s.pods → AllFit (without_uses index pod s).claims (without_uses index pod s).pods
+unused_again index pod s h = without_uses_by index pod s.claims s.pods (at_key s.pods pod) refl h
 
-adopted : (place : ℕ) (claim : Key) (status : ClaimStatus) (s : State) → AllFit s.claims s.pods → AllFit (with_adopted place claim status s).claims s.pods
-adopted place claim status s h = all_still s.claims _ s.pods (λ key. stay_changed key claim (adopted_by place status) s.claims (λ c. (λ e. e, λ e. e))) h
+adopted : (index : ℕ) (claim : Key) (status : ClaimStatus) (s : State) → AllFit s.claims s.pods → AllFit (with_adopted index claim status s).claims s.pods
+adopted index claim status s h = all_still s.claims _ s.pods (λ key. stay_changed key claim (adopted_by index status) s.claims (λ c. (λ e. e, λ e. e))) h
 
 -- an entry that may be appended keeps it
-fit_after : SameClaims → (before : List Entry) (place job : ℕ) (event : Event) → MayFollow before job event → AllFit (state_of before).claims (state_of before).pods
-    → AllFit (after place job event (state_of before)).claims (after place job event (state_of before)).pods
-fit_after law before place job (Applied x m) may h = applied law place x m (state_of before) may.unrefused h
-fit_after law before place job (Deleted t) may h = deleted t (state_of before) may.unrefused h
-fit_after law before place job (Reserved pod plan) may h = reserved (state_of before) job pod plan may.holds_now h
-fit_after law before place job (Refused pod plan why) may h = h
-fit_after law before place job (Wrote pod claim seen) may h = wrote place pod claim (state_of before) h
-fit_after law before place job (Conflict pod claim had now) may h = h
-fit_after law before place job (Unreserved pod) may h = unused_again place pod (state_of before) h
-fit_after law before place job (Bound pod node) may h = bound (state_of before) job pod node may h
-fit_after law before place job (VerdictGiven pod verdict) may h = h
-fit_after law before place job (Contended pod attempts) may h = h
-fit_after law before place job (Released pod) may h = unused_again place pod (state_of before) h
-fit_after law before place job (Adopted claim status) may h = adopted place claim status (state_of before) h
-fit_after law before place job (Denied command refusal) may h = h
+fit_after : SameClaims → (before : List Entry) (index job : ℕ) (event : Event) → MayFollow before job event → AllFit (state_of before).claims (state_of before).pods
+    → AllFit (after index job event (state_of before)).claims (after index job event (state_of before)).pods
+fit_after law before index job (Applied x m) may h = applied law index x m (state_of before) may.unrefused h
+fit_after law before index job (Deleted t) may h = deleted t (state_of before) may.unrefused h
+fit_after law before index job (Reserved pod plan) may h = reserved (state_of before) job pod plan may.holds_now h
+fit_after law before index job (Refused pod plan why) may h = h
+fit_after law before index job (Wrote pod claim seen) may h = wrote index pod claim (state_of before) h
+fit_after law before index job (Conflict pod claim had now) may h = h
+fit_after law before index job (Unreserved pod) may h = unused_again index pod (state_of before) h
+fit_after law before index job (Bound pod node) may h = bound (state_of before) job pod node may h
+fit_after law before index job (VerdictGiven pod verdict) may h = h
+fit_after law before index job (Contended pod attempts) may h = h
+fit_after law before index job (Released pod) may h = unused_again index pod (state_of before) h
+fit_after law before index job (Adopted claim status) may h = adopted index claim status (state_of before) h
+fit_after law before index job (Denied command refusal) may h = h
 
 abbrev pub Fit : State → Type 0
 Fit s = AllFit s.claims s.pods
@@ -331,5 +331,5 @@ uses_of s h = record {
 pub use_now : SameClaims → (h : List Entry) → Legal h → PodsUseClaims (state_of h)
 use_now law h legal = uses_of (state_of h) (fit_now law h legal)
 
-pub use_at : SameClaims → (h : List Entry) (place : ℕ) → Legal h → PodsUseClaims (state_at h place)
-use_at law h place legal = at_places PodsUseClaims (use_now law) h place legal
+pub use_at : SameClaims → (h : List Entry) (index : ℕ) → Legal h → PodsUseClaims (state_at h index)
+use_at law h index legal = at_places PodsUseClaims (use_now law) h index legal

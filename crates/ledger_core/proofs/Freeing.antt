@@ -77,28 +77,28 @@ users_left (e ∷ []) pod u g is = one_by e pod u (is_eq (key_cmp pod e.0)) g is
 users_left (e ∷ f ∷ es) pod u g is =
     users_by e f es pod (is_eq (key_cmp pod e.0)) g ∙ ap (λ b. cond b None g) (sym (ne_eqb (length (e ∷ f ∷ es)) 1 (λ (n : length (e ∷ f ∷ es) ≡ 1). omega (arith, n))))
 
-freed_grant_by : (place : ℕ) (pod : Key) (c : ClaimState) (o : Option Use) → at_key c.users pod ≡ o → (freed_by place pod o c).grant ≡ cond (is_some o && eqb (length c.users) 1) None c.grant
-freed_grant_by place pod c None is = refl
-freed_grant_by place pod c (Some u) is = users_left c.users pod u c.grant is
+freed_grant_by : (index : ℕ) (pod : Key) (c : ClaimState) (o : Option Use) → at_key c.users pod ≡ o → (freed_by index pod o c).grant ≡ cond (is_some o && eqb (length c.users) 1) None c.grant
+freed_grant_by index pod c None is = refl
+freed_grant_by index pod c (Some u) is = users_left c.users pod u c.grant is
 
-freed_grant : (place : ℕ) (pod : Key) (c : ClaimState) → (freed place pod c).grant ≡ cond (is_some (at_key c.users pod) && eqb (length c.users) 1) None c.grant
-freed_grant place pod c = freed_grant_by place pod c (at_key c.users pod) refl
+freed_grant : (index : ℕ) (pod : Key) (c : ClaimState) → (freed index pod c).grant ≡ cond (is_some (at_key c.users pod) && eqb (length c.users) 1) None c.grant
+freed_grant index pod c = freed_grant_by index pod c (at_key c.users pod) refl
 
-free_by : (place : ℕ) (pod : Key) (claims : Claims) (k : Key) (c : ClaimState) (b : Bool) → at_key claims k ≡ Some c → (freed place pod c).grant ≡ cond b None c.grant → Once (pairs_in claims)
-    → Leaves claims (set_value (is_at (key_cmp k)) claims (freed place pod c)) (cond b c.grant None)
-free_by place pod claims k c true is grant once =
+free_by : (index : ℕ) (pod : Key) (claims : Claims) (k : Key) (c : ClaimState) (b : Bool) → at_key claims k ≡ Some c → (freed index pod c).grant ≡ cond b None c.grant → Once (pairs_in claims)
+    → Leaves claims (set_value (is_at (key_cmp k)) claims (freed index pod c)) (cond b c.grant None)
+free_by index pod claims k c true is grant once =
     let s = split claims k c is in
-    leaves_out claims (set_value (is_at (key_cmp k)) claims (freed place pod c)) k c s (s.set (freed place pod c) ∙ ap (λ g. s.prefix ++ (with_key k (held_by g) ++ s.back)) grant) once
-free_by place pod claims k c false is grant once =
-    leaves_same claims (set_value (is_at (key_cmp k)) claims (freed place pod c)) once (set_same claims k c (freed place pod c) is (ap (λ g. held_by g) grant))
+    leaves_out claims (set_value (is_at (key_cmp k)) claims (freed index pod c)) k c s (s.set (freed index pod c) ∙ ap (λ g. s.prefix ++ (with_key k (held_by g) ++ s.back)) grant) once
+free_by index pod claims k c false is grant once =
+    leaves_same claims (set_value (is_at (key_cmp k)) claims (freed index pod c)) once (set_same claims k c (freed index pod c) is (ap (λ g. held_by g) grant))
 
-free_at : (place : ℕ) (pod : Key) (claims : Claims) (k : Key) (o : Option ClaimState) → at_key claims k ≡ o → Once (pairs_in claims)
-    → Leaves claims (option_map_or (λ c. set_value (is_at (key_cmp k)) claims (freed place pod c)) o claims) (lost_at pod o)
-free_at place pod claims k None is once = leaves_same claims claims once refl
-free_at place pod claims k (Some c) is once = free_by place pod claims k c (is_some (at_key c.users pod) && eqb (length c.users) 1) is (freed_grant place pod c) once
+free_at : (index : ℕ) (pod : Key) (claims : Claims) (k : Key) (o : Option ClaimState) → at_key claims k ≡ o → Once (pairs_in claims)
+    → Leaves claims (option_map_or (λ c. set_value (is_at (key_cmp k)) claims (freed index pod c)) o claims) (lost_at pod o)
+free_at index pod claims k None is once = leaves_same claims claims once refl
+free_at index pod claims k (Some c) is once = free_by index pod claims k c (is_some (at_key c.users pod) && eqb (length c.users) 1) is (freed_grant index pod c) once
 
-free_one : (place : ℕ) (pod : Key) (claims : Claims) (k : Key) → Once (pairs_in claims) → Leaves claims (changed_at k (freed place pod) claims) (lost_at pod (at_key claims k))
-free_one place pod claims k once = free_at place pod claims k (at_key claims k) refl once
+free_one : (index : ℕ) (pod : Key) (claims : Claims) (k : Key) → Once (pairs_in claims) → Leaves claims (changed_at k (freed index pod) claims) (lost_at pod (at_key claims k))
+free_one index pod claims k once = free_at index pod claims k (at_key claims k) refl once
 
 -- what the other claims lose stays the same
 lost_same : (pod k : Key) (f : ClaimState → ClaimState) (claims : Claims) (ks : List Key) → Away k ks → lost_among pod (changed_at k f claims) ks ≡ lost_among pod claims ks
@@ -111,14 +111,14 @@ left_first : (o : Option Granted) (gs : List Granted) (id : DeviceId) (x : Optio
 left_first None gs id x = refl
 left_first (Some g) gs id x = refl
 
-frees : (place : ℕ) (pod : Key) (ks : List Key) (claims : Claims) → KeysDiffer ks → Once (pairs_in claims) → (id : DeviceId)
-    → looked id (pairs_in (with_freed place pod ks claims)) ≡ left_by (lost_among pod claims ks) id (looked id (pairs_in claims))
-frees place pod [] claims differ once id = refl
-frees place pod (k ∷ ks) claims differ once id =
-    let next = changed_at k (freed place pod) claims in
-    let one = free_one place pod claims k once in
-    frees place pod ks next differ.1 one.once id
-    ∙ ap (λ gs. left_by gs id (looked id (pairs_in next))) (lost_same pod k (freed place pod) claims ks differ.0)
+frees : (index : ℕ) (pod : Key) (ks : List Key) (claims : Claims) → KeysDiffer ks → Once (pairs_in claims) → (id : DeviceId)
+    → looked id (pairs_in (with_freed index pod ks claims)) ≡ left_by (lost_among pod claims ks) id (looked id (pairs_in claims))
+frees index pod [] claims differ once id = refl
+frees index pod (k ∷ ks) claims differ once id =
+    let next = changed_at k (freed index pod) claims in
+    let one = free_one index pod claims k once in
+    frees index pod ks next differ.1 one.once id
+    ∙ ap (λ gs. left_by gs id (looked id (pairs_in next))) (lost_same pod k (freed index pod) claims ks differ.0)
     ∙ ap (λ x. left_by (lost_among pod claims ks) id x) (one.looks id)
     ∙ left_first (lost_at pod (at_key claims k)) (lost_among pod claims ks) id (looked id (pairs_in claims))
 
@@ -127,14 +127,14 @@ keys_differ None = tt
 keys_differ (Some p) = firsts_differ (claim_keys p.pod.object) []
 
 -- where the uses of a pod are taken away
-pub freed_held : (s : State) (place : ℕ) (pod : Key) (hs hs' : Holders) → HeldOnce s → AreHeld hs (held s) → ((id : DeviceId) → holder_in hs' id ≡ left_by (lost_with s pod) id (holder_in hs id))
-    → AreHeld hs' (held (without_uses place pod s))
-freed_held s place pod hs hs' once are is = record {
+pub freed_held : (s : State) (index : ℕ) (pod : Key) (hs hs' : Holders) → HeldOnce s → AreHeld hs (held s) → ((id : DeviceId) → holder_in hs' id ≡ left_by (lost_with s pod) id (holder_in hs id))
+    → AreHeld hs' (held (without_uses index pod s))
+freed_held s index pod hs hs' once are is = record {
   holder = λ id.
       is id
       ∙ ap (λ o. left_by (lost_with s pod) id o) (are.holder id ∙ ap (λ ps. looked id ps) (held_is s))
-      ∙ sym (frees place pod (claims_by (at_key s.pods pod)) s.claims (keys_differ (at_key s.pods pod)) (subst (λ (ps : Pairs). Once ps) (held_is s) (once_held s once)) id)
-      ∙ ap (λ ps. looked id ps) (sym (held_is (without_uses place pod s)));
+      ∙ sym (frees index pod (claims_by (at_key s.pods pod)) s.claims (keys_differ (at_key s.pods pod)) (subst (λ (ps : Pairs). Once ps) (held_is s) (once_held s once)) id)
+      ∙ ap (λ ps. looked id ps) (sym (held_is (without_uses index pod s)));
 }
 
 -- ---- objects that are taken away
@@ -177,23 +177,23 @@ removed_held s t hs hs' once are is =
 claims_held : (s t : State) (hs : Holders) → pairs_in t.claims ≡ pairs_in s.claims → AreHeld hs (held s) → AreHeld hs (held t)
 claims_held s t hs same are = subst (λ (ps : Pairs). AreHeld hs ps) (held_is s ∙ sym same ∙ sym (held_is t)) are
 
-put_same : (place : ℕ) (x : ResourceClaim) (es : Claims) (o : Option ClaimState) → at_key es x.key ≡ o → pairs_in (put_at x.key (new_claim place x) (updated_claim place x) es o) ≡ pairs_in es
-put_same place x es None is = inserted_same es x.key (new_claim place x) is refl
-put_same place x es (Some c) is = set_same es x.key c (updated_claim place x c) is refl
+put_same : (index : ℕ) (x : ResourceClaim) (es : Claims) (o : Option ClaimState) → at_key es x.key ≡ o → pairs_in (put_at x.key (new_claim index x) (updated_claim index x) es o) ≡ pairs_in es
+put_same index x es None is = inserted_same es x.key (new_claim index x) is refl
+put_same index x es (Some c) is = set_same es x.key c (updated_claim index x c) is refl
 
-pub applied_held : (s : State) (place : ℕ) (x : Object) (hs : Holders) → AreHeld hs (held s) → AreHeld hs (held (with_object place x s))
-applied_held s place (object.Node x) hs are = claims_held s (with_object place (object.Node x) s) hs refl are
-applied_held s place (object.Slice x) hs are = claims_held s (with_object place (object.Slice x) s) hs refl are
-applied_held s place (object.Class x) hs are = claims_held s (with_object place (object.Class x) s) hs refl are
-applied_held s place (object.Claim x) hs are = claims_held s (with_object place (object.Claim x) s) hs (put_same place x s.claims (at_key s.claims x.key) refl) are
-applied_held s place (object.Pod x) hs are = claims_held s (with_object place (object.Pod x) s) hs refl are
+pub applied_held : (s : State) (index : ℕ) (x : Object) (hs : Holders) → AreHeld hs (held s) → AreHeld hs (held (with_object index x s))
+applied_held s index (object.Node x) hs are = claims_held s (with_object index (object.Node x) s) hs refl are
+applied_held s index (object.Slice x) hs are = claims_held s (with_object index (object.Slice x) s) hs refl are
+applied_held s index (object.Class x) hs are = claims_held s (with_object index (object.Class x) s) hs refl are
+applied_held s index (object.Claim x) hs are = claims_held s (with_object index (object.Claim x) s) hs (put_same index x s.claims (at_key s.claims x.key) refl) are
+applied_held s index (object.Pod x) hs are = claims_held s (with_object index (object.Pod x) s) hs refl are
 
 published_same : (g : Option Granted) → held_by (option_map as_published g) ≡ held_by g
 published_same None = refl
 published_same (Some g) = refl
 
-pub written_held : (s : State) (place : ℕ) (pod claim : Key) (hs : Holders) → AreHeld hs (held s) → AreHeld hs (held (with_written place pod claim s))
-written_held s place pod claim hs are = claims_held s (with_written place pod claim s) hs (changed_same s.claims claim (written_by place pod) (λ c. published_same c.grant)) are
+pub written_held : (s : State) (index : ℕ) (pod claim : Key) (hs : Holders) → AreHeld hs (held s) → AreHeld hs (held (with_written index pod claim s))
+written_held s index pod claim hs are = claims_held s (with_written index pod claim s) hs (changed_same s.claims claim (written_by index pod) (λ c. published_same c.grant)) are
 
 pub bound_held : (s : State) (pod : Key) (node : List ℕ) (hs : Holders) → AreHeld hs (held s) → AreHeld hs (held (with_bound pod node s))
 bound_held s pod node hs are = claims_held s (with_bound pod node s) hs refl are

@@ -299,15 +299,15 @@ pub record Adopts (s t : State) (claim : Key) (rs : List DeviceResult) : Type 0 
   pub free : (hs : Holders) → AreHeld hs (held s) → (id : DeviceId) → left_of rs id (holder_in hs id) ≡ holder_in hs id
   pub given : (hs hs' : Holders) → AreHeld hs (held s) → ((id : DeviceId) → holder_in hs' id ≡ given_to claim rs id (holder_in hs id)) → AreHeld hs' (held t)
 
-pub adopts : (s : State) (place : ℕ) (claim : Key) (status : ClaimStatus) → Open s.claims claim → HeldOnce (with_adopted place claim status s)
-    → Adopts s (with_adopted place claim status s) claim (map result_of status.results)
-adopts s place claim status u once =
-    let t = with_adopted place claim status s in
+pub adopts : (s : State) (index : ℕ) (claim : Key) (status : ClaimStatus) → Open s.claims claim → HeldOnce (with_adopted index claim status s)
+    → Adopts s (with_adopted index claim status s) claim (map result_of status.results)
+adopts s index claim status u once =
+    let t = with_adopted index claim status s in
     let rs = map result_of status.results in
-    let sets : t.claims ≡ set_value (is_at (key_cmp claim)) s.claims (adopted_by place status u.claim) =
-    ap (λ o. option_map_or (λ x. set_value (is_at (key_cmp claim)) s.claims (adopted_by place status x)) o s.claims) u.there in
-    let same : held t ≡ pairs_in (set_value (is_at (key_cmp claim)) s.claims (adopted_by place status u.claim)) = held_is t ∙ ap (λ es. pairs_in es) sets in
-    let all = gives s.claims claim u.claim (adopted_by place status u.claim) u.there u.none (subst (λ (ps : Pairs). Once ps) same (once_held t once)) in
+    let sets : t.claims ≡ set_value (is_at (key_cmp claim)) s.claims (adopted_by index status u.claim) =
+    ap (λ o. option_map_or (λ x. set_value (is_at (key_cmp claim)) s.claims (adopted_by index status x)) o s.claims) u.there in
+    let same : held t ≡ pairs_in (set_value (is_at (key_cmp claim)) s.claims (adopted_by index status u.claim)) = held_is t ∙ ap (λ es. pairs_in es) sets in
+    let all = gives s.claims claim u.claim (adopted_by index status u.claim) u.there u.none (subst (λ (ps : Pairs). Once ps) same (once_held t once)) in
     record {
       free = λ hs are id.
           left_is rs id (holder_in hs id) ∙ gone_by (is_among id (devices_held rs)) (holder_in hs id) (λ e. are.holder id ∙ ap (λ ps. looked id ps) (held_is s) ∙ all.free id e);

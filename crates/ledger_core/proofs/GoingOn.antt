@@ -370,15 +370,15 @@ find_past f (k ∷ ks) rest all =
     let parts = and_parts (f k) (list_all f ks) all in
     ap (λ b. cond (not b) (Some k) (find (λ l. not (f l)) (ks ++ rest))) parts.0 ∙ find_past f ks rest parts.1
 
-written_now : (s : State) (pod k : Key) (place : ℕ) → Assumes pod s.claims k → has_written (with_written place pod k s) pod k ≡ true
-written_now s pod k place h =
-    let there : at_key (with_written place pod k s).claims k ≡ Some (written_by place pod h.0) = changed_there k (written_by place pod) s.claims h.0 h.1 in
-    let user : at_key (written_by place pod h.0).users pod ≡ Some Written = changed_there pod (λ _. Written) h.0.users (Assumed h.0.claim.version) h.2 in
+written_now : (s : State) (pod k : Key) (index : ℕ) → Assumes pod s.claims k → has_written (with_written index pod k s) pod k ≡ true
+written_now s pod k index h =
+    let there : at_key (with_written index pod k s).claims k ≡ Some (written_by index pod h.0) = changed_there k (written_by index pod) s.claims h.0 h.1 in
+    let user : at_key (written_by index pod h.0).users pod ≡ Some Written = changed_there pod (λ _. Written) h.0.users (Assumed h.0.claim.version) h.2 in
     ap (λ o. is_written (use_in pod o)) there ∙ ap is_written user
 
-written_kept_by : (s : State) (pod k l : Key) (place : ℕ) → (l ≡ k) ⊎ (l ≡ k → ⊥) → Assumes pod s.claims k → has_written s pod l ≡ true → has_written (with_written place pod k s) pod l ≡ true
-written_kept_by s pod k l place (inl e) h was = subst (λ (x : Key). has_written (with_written place pod k s) pod x ≡ true) (sym e) (written_now s pod k place h)
-written_kept_by s pod k l place (inr differ) h was = ap (λ o. is_written (use_in pod o)) (changed_other k l (written_by place pod) s.claims differ) ∙ was
+written_kept_by : (s : State) (pod k l : Key) (index : ℕ) → (l ≡ k) ⊎ (l ≡ k → ⊥) → Assumes pod s.claims k → has_written s pod l ≡ true → has_written (with_written index pod k s) pod l ≡ true
+written_kept_by s pod k l index (inl e) h was = subst (λ (x : Key). has_written (with_written index pod k s) pod x ≡ true) (sym e) (written_now s pod k index h)
+written_kept_by s pod k l index (inr differ) h was = ap (λ o. is_written (use_in pod o)) (changed_other k l (written_by index pod) s.claims differ) ∙ was
 
 -- the job may write these uses, where those before are written, and then bind the pod
 goes : (s : State) (pod : Key) (job : ℕ) (node : List ℕ) (p : PodState) (done ks : List Key) → IsTaken s pod job node p → claims_of p ≡ done ++ ks
@@ -395,13 +395,13 @@ goes s pod job node p done (k ∷ ks) taken are written assume differ =
     ∙ find_past (λ l. has_written s pod l) done (k ∷ ks) written
     ∙ ap (λ b. cond (not b) (Some k) (find (λ l. not (has_written s pod l)) ks)) unwritten in (
       record { state = p; node = node; taken = taken; next = next; assumed = used ∙ ap (λ n. Some (Assumed n)) (sym version); version = refl },
-      λ place. goes (with_written place pod k s) pod job node p (done ++ k ∷ []) ks (record { there = taken.there; taken = taken.taken }) (are ∙ sym (append_assoc done (k ∷ []) ks))
-          (all_more (λ l. has_written (with_written place pod k s) pod l) done k
-          (all_kept (λ l. has_written s pod l) (λ l. has_written (with_written place pod k s) pod l) done
-          (λ l was. written_kept_by s pod k l place (same_or_not (key_cmp l k) l k refl) assume.0 was) written)
-          (written_now s pod k place assume.0))
-          (each_more (λ l. (l ≡ k → ⊥) × Assumes pod s.claims l) (Assumes pod (with_written place pod k s).claims) ks
-          (λ l among h. (h.1.0, changed_other k l (written_by place pod) s.claims h.0 ∙ h.1.1, h.1.2)) (both (λ l. l ≡ k → ⊥) (Assumes pod s.claims) ks differ.0 assume.1))
+      λ index. goes (with_written index pod k s) pod job node p (done ++ k ∷ []) ks (record { there = taken.there; taken = taken.taken }) (are ∙ sym (append_assoc done (k ∷ []) ks))
+          (all_more (λ l. has_written (with_written index pod k s) pod l) done k
+          (all_kept (λ l. has_written s pod l) (λ l. has_written (with_written index pod k s) pod l) done
+          (λ l was. written_kept_by s pod k l index (same_or_not (key_cmp l k) l k refl) assume.0 was) written)
+          (written_now s pod k index assume.0))
+          (each_more (λ l. (l ≡ k → ⊥) × Assumes pod s.claims l) (Assumes pod (with_written index pod k s).claims) ks
+          (λ l among h. (h.1.0, changed_other k l (written_by index pod) s.claims h.0 ∙ h.1.1, h.1.2)) (both (λ l. l ≡ k → ⊥) (Assumes pod s.claims) ks differ.0 assume.1))
           differ.1,
     )
 

@@ -86,9 +86,9 @@ unfolding Legal
 always_from P step prefix back legal first = always_along P step prefix back (after_prefix [] prefix back legal) (prefix_legal prefix back legal) first
 
 -- what holds of the state after each legal history holds at each of its indexes
-pub at_places : (P : State → Type 0) → ((h : List Entry) → Legal h → P (state_of h)) → (h : List Entry) (place : ℕ) → Legal h → P (state_at h place)
-at_places P all h place legal =
-    all (take place h) (prefix_legal (take place h) (drop place h) (subst (λ (xs : List Entry). Legal xs) (sym (take-append-drop place h)) legal))
+pub at_places : (P : State → Type 0) → ((h : List Entry) → Legal h → P (state_of h)) → (h : List Entry) (index : ℕ) → Legal h → P (state_at h index)
+at_places P all h index legal =
+    all (take index h) (prefix_legal (take index h) (drop index h) (subst (λ (xs : List Entry). Legal xs) (sym (take-append-drop index h)) legal))
 
 grant_of : (before : List Entry) (pod : Key) (plan : Plan) → MayReserve before pod plan → IsGrantOf before pod plan
 grant_of before pod plan may =

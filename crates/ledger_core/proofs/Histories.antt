@@ -57,24 +57,24 @@ unfolding Legal
 Legal-more es e legal step = LegalAfter-more [] es e legal step
 
 -- one entry counts at most one failed attempt more
-one_more : (st : JobState) (place : ℕ) (e : Event) → failures (job_state_after st place e) ≤ failures st + 1
-one_more st place (Applied object mode) = omega arith
-one_more st place (Deleted target) = omega arith
-one_more st place (Reserved pod plan) = omega arith
-one_more st place (Refused pod plan why) = omega arith
-one_more st place (Wrote pod claim seen) = omega arith
-one_more st place (Conflict pod claim had now) = omega arith
-one_more st place (Unreserved pod) = omega arith
-one_more st place (Bound pod node) = omega arith
-one_more st place (VerdictGiven pod verdict) = omega arith
-one_more st place (Contended pod attempts) = omega arith
-one_more st place (Released pod) = omega arith
-one_more st place (Adopted claim status) = omega arith
-one_more st place (Denied command refusal) = omega arith
+one_more : (st : JobState) (index : ℕ) (e : Event) → failures (job_state_after st index e) ≤ failures st + 1
+one_more st index (Applied object mode) = omega arith
+one_more st index (Deleted target) = omega arith
+one_more st index (Reserved pod plan) = omega arith
+one_more st index (Refused pod plan why) = omega arith
+one_more st index (Wrote pod claim seen) = omega arith
+one_more st index (Conflict pod claim had now) = omega arith
+one_more st index (Unreserved pod) = omega arith
+one_more st index (Bound pod node) = omega arith
+one_more st index (VerdictGiven pod verdict) = omega arith
+one_more st index (Contended pod attempts) = omega arith
+one_more st index (Released pod) = omega arith
+one_more st index (Adopted claim status) = omega arith
+one_more st index (Denied command refusal) = omega arith
 
-more_by : (st : JobState) (place : ℕ) (e : Event) (b : Bool) → failures (cond b (job_state_after st place e) st) ≤ failures st + 1
-more_by st place e true = one_more st place e
-more_by st place e false = omega arith
+more_by : (st : JobState) (index : ℕ) (e : Event) (b : Bool) → failures (cond b (job_state_after st index e) st) ≤ failures st + 1
+more_by st index e true = one_more st index e
+more_by st index e false = omega arith
 
 failures_along : (job : ℕ) (st : JobState) (n : ℕ) (es : List Entry) → failures (told (next_job_state job) st n es) ≤ failures st + length es
 unfolding told

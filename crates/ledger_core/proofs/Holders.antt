@@ -98,24 +98,24 @@ left_once law s k c w [] there grant h =
 left_once law s k c w (u ∷ us) there grant h =
     once_same s (with_claims s (set_value (is_at (key_cmp k)) s.claims w)) (kept_value (is_at (key_cmp k)) s.claims c w there (ap held_by grant)) h
 
-use_once : DeletedLaw → (s : State) (place : ℕ) (pod k : Key) (c : ClaimState) (o : Option Use) → at_key s.claims k ≡ Some c → HeldOnce s → HeldOnce (with_claims s (set_value (is_at (key_cmp k)) s.claims (freed_by place pod o c)))
-use_once law s place pod k c None there h = once_same s (with_claims s (set_value (is_at (key_cmp k)) s.claims c)) (kept_value (is_at (key_cmp k)) s.claims c c there refl) h
-use_once law s place pod k c (Some u) there h = left_once law s k c (freed_by place pod (Some u) c) (without_user pod c.users) there refl h
+use_once : DeletedLaw → (s : State) (index : ℕ) (pod k : Key) (c : ClaimState) (o : Option Use) → at_key s.claims k ≡ Some c → HeldOnce s → HeldOnce (with_claims s (set_value (is_at (key_cmp k)) s.claims (freed_by index pod o c)))
+use_once law s index pod k c None there h = once_same s (with_claims s (set_value (is_at (key_cmp k)) s.claims c)) (kept_value (is_at (key_cmp k)) s.claims c c there refl) h
+use_once law s index pod k c (Some u) there h = left_once law s k c (freed_by index pod (Some u) c) (without_user pod c.users) there refl h
 
-claim_once : DeletedLaw → (s : State) (place : ℕ) (pod k : Key) (o : Option ClaimState) → at_key s.claims k ≡ o → HeldOnce s
-    → HeldOnce (with_claims s (option_map_or (λ c. set_value (is_at (key_cmp k)) s.claims (freed place pod c)) o s.claims))
-claim_once law s place pod k None is h = once_same s (with_claims s s.claims) refl h
-claim_once law s place pod k (Some c) is h = use_once law s place pod k c (at_key c.users pod) is h
+claim_once : DeletedLaw → (s : State) (index : ℕ) (pod k : Key) (o : Option ClaimState) → at_key s.claims k ≡ o → HeldOnce s
+    → HeldOnce (with_claims s (option_map_or (λ c. set_value (is_at (key_cmp k)) s.claims (freed index pod c)) o s.claims))
+claim_once law s index pod k None is h = once_same s (with_claims s s.claims) refl h
+claim_once law s index pod k (Some c) is h = use_once law s index pod k c (at_key c.users pod) is h
 
-freed_once : DeletedLaw → (s : State) (place : ℕ) (pod : Key) (ks : List Key) (claims : Claims) → HeldOnce (with_claims s claims) → HeldOnce (with_claims s (with_freed place pod ks claims))
-freed_once law s place pod [] claims h = h
-freed_once law s place pod (k ∷ ks) claims h =
-    freed_once law s place pod ks (changed_at k (freed place pod) claims) (claim_once law (with_claims s claims) place pod k (at_key claims k) refl h)
+freed_once : DeletedLaw → (s : State) (index : ℕ) (pod : Key) (ks : List Key) (claims : Claims) → HeldOnce (with_claims s claims) → HeldOnce (with_claims s (with_freed index pod ks claims))
+freed_once law s index pod [] claims h = h
+freed_once law s index pod (k ∷ ks) claims h =
+    freed_once law s index pod ks (changed_at k (freed index pod) claims) (claim_once law (with_claims s claims) index pod k (at_key claims k) refl h)
 
-unused_once : DeletedLaw → (place : ℕ) (pod : Key) (s : State) → HeldOnce s → HeldOnce (without_uses place pod s)
-unused_once law place pod s h =
+unused_once : DeletedLaw → (index : ℕ) (pod : Key) (s : State) → HeldOnce s → HeldOnce (without_uses index pod s)
+unused_once law index pod s h =
     let ks : List Key = claims_by (at_key s.pods pod) in
-    once_same (with_claims s (with_freed place pod ks s.claims)) (without_uses place pod s) refl (freed_once law s place pod ks s.claims (once_same s (with_claims s s.claims) refl h))
+    once_same (with_claims s (with_freed index pod ks s.claims)) (without_uses index pod s) refl (freed_once law s index pod ks s.claims (once_same s (with_claims s s.claims) refl h))
 
 -- ---- a claim adopted
 
@@ -135,49 +135,49 @@ unfolding wanted
 one_wanted s claim c there none = ap (λ o. add_wanted claim o []) there ∙ ap (λ g. add_ungranted claim c g []) none
 
 -- the grant holds what it would if a pod that names the claim alone had it
-adopted_same : (s : State) (place : ℕ) (claim : Key) (status : ClaimStatus) (o : Option ClaimState) → at_key s.claims claim ≡ o
-    → held_in (with_adopted place claim status s).claims ≡ held_in (with_reserved 0 claim (plan_for claim status) s).claims
-adopted_same s place claim status None is =
-    let first : (with_adopted place claim status s).claims ≡ s.claims = ap (λ o. option_map_or (λ c. set_value (is_at (key_cmp claim)) s.claims (adopted_by place status c)) o s.claims) is in
+adopted_same : (s : State) (index : ℕ) (claim : Key) (status : ClaimStatus) (o : Option ClaimState) → at_key s.claims claim ≡ o
+    → held_in (with_adopted index claim status s).claims ≡ held_in (with_reserved 0 claim (plan_for claim status) s).claims
+adopted_same s index claim status None is =
+    let first : (with_adopted index claim status s).claims ≡ s.claims = ap (λ o. option_map_or (λ c. set_value (is_at (key_cmp claim)) s.claims (adopted_by index status c)) o s.claims) is in
     let second : (with_reserved 0 claim (plan_for claim status) s).claims ≡ s.claims = rw is refl in
     ap held_in (first ∙ sym second)
-adopted_same s place claim status (Some c) is = rw is (set_same (is_at (key_cmp claim)) s.claims _ _ refl)
+adopted_same s index claim status (Some c) is = rw is (set_same (is_at (key_cmp claim)) s.claims _ _ refl)
 
-adopted_once : GrantsLaw → (place : ℕ) (h : List Entry) (claim : Key) (status : ClaimStatus) → IsAdoptionOf h claim status → HeldOnce (state_of h) → HeldOnce (with_adopted place claim status (state_of h))
-adopted_once law place h claim status a once =
+adopted_once : GrantsLaw → (index : ℕ) (h : List Entry) (claim : Key) (status : ClaimStatus) → IsAdoptionOf h claim status → HeldOnce (state_of h) → HeldOnce (with_adopted index claim status (state_of h))
+adopted_once law index h claim status a once =
     let s : State = state_of h in
     let meant : IsAllocation s (wanted s (pod_for claim)) status.node a.choice (granted_by claim status ∷ []) =
     subst (λ cs. IsAllocation s cs status.node a.choice (granted_by claim status ∷ [])) (sym (one_wanted s claim a.state a.there a.free)) a.allocation in
-    once_same (with_reserved 0 claim (plan_for claim status) s) (with_adopted place claim status s) (adopted_same s place claim status (at_key s.claims claim) refl)
+    once_same (with_reserved 0 claim (plan_for claim status) s) (with_adopted index claim status s) (adopted_same s index claim status (at_key s.claims claim) refl)
     (law s 0 claim (pod_for claim) (plan_for claim status) a.choice meant once)
 
 -- ---- histories
 
 module _ (empty : HeldOnce empty_state)
-    (created : (place : ℕ) (object : Object) (s : State) → HeldOnce s → HeldOnce (with_object place object s))
+    (created : (index : ℕ) (object : Object) (s : State) → HeldOnce s → HeldOnce (with_object index object s))
     (deleted : DeletedLaw)
     (reserved : (s : State) (job : ℕ) (pod : Key) (plan : Plan) → Holds s pod plan → HeldOnce s → HeldOnce (with_reserved job pod plan s))
-    (written : (place : ℕ) (pod claim : Key) (s : State) → HeldOnce s → HeldOnce (with_written place pod claim s))
+    (written : (index : ℕ) (pod claim : Key) (s : State) → HeldOnce s → HeldOnce (with_written index pod claim s))
     (bound : (pod : Key) (node : List ℕ) (s : State) → HeldOnce s → HeldOnce (with_bound pod node s))
     (grants : GrantsLaw) (status_law : StatusLaw) where
   -- an entry that may be appended keeps it
-  once_after : (before : List Entry) (place job : ℕ) (event : Event) → MayFollow before job event → HeldOnce (state_of before) → HeldOnce (after place job event (state_of before))
-  once_after before place job (Applied object mode) may h = created place object (state_of before) h
-  once_after before place job (Deleted target) may h = deleted target (state_of before) h
-  once_after before place job (Reserved pod plan) may h = reserved (state_of before) job pod plan may.holds_now h
-  once_after before place job (Refused pod plan why) may h = h
-  once_after before place job (Wrote pod claim seen) may h = written place pod claim (state_of before) h
-  once_after before place job (Conflict pod claim had now) may h = h
-  once_after before place job (Unreserved pod) may h = unused_once deleted place pod (state_of before) h
-  once_after before place job (Bound pod node) may h = bound pod node (state_of before) h
-  once_after before place job (VerdictGiven pod verdict) may h = h
-  once_after before place job (Contended pod attempts) may h = h
-  once_after before place job (Released pod) may h = unused_once deleted place pod (state_of before) h
-  once_after before place job (Adopted claim status) may h = adopted_once grants place before claim status (adoption_of status_law before claim status may) h
-  once_after before place job (Denied command refusal) may h = h
+  once_after : (before : List Entry) (index job : ℕ) (event : Event) → MayFollow before job event → HeldOnce (state_of before) → HeldOnce (after index job event (state_of before))
+  once_after before index job (Applied object mode) may h = created index object (state_of before) h
+  once_after before index job (Deleted target) may h = deleted target (state_of before) h
+  once_after before index job (Reserved pod plan) may h = reserved (state_of before) job pod plan may.holds_now h
+  once_after before index job (Refused pod plan why) may h = h
+  once_after before index job (Wrote pod claim seen) may h = written index pod claim (state_of before) h
+  once_after before index job (Conflict pod claim had now) may h = h
+  once_after before index job (Unreserved pod) may h = unused_once deleted index pod (state_of before) h
+  once_after before index job (Bound pod node) may h = bound pod node (state_of before) h
+  once_after before index job (VerdictGiven pod verdict) may h = h
+  once_after before index job (Contended pod attempts) may h = h
+  once_after before index job (Released pod) may h = unused_once deleted index pod (state_of before) h
+  once_after before index job (Adopted claim status) may h = adopted_once grants index before claim status (adoption_of status_law before claim status may) h
+  once_after before index job (Denied command refusal) may h = h
 
   pub once_now : (h : List Entry) → Legal h → HeldOnce (state_of h)
   once_now h legal = always_state HeldOnce empty (λ g e l s p. once_after g (length g + 1) e.job e.event s.stands p) h legal
 
-  pub once_at : (h : List Entry) (place : ℕ) → Legal h → HeldOnce (state_at h place)
-  once_at h place legal = at_places HeldOnce once_now h place legal
+  pub once_at : (h : List Entry) (index : ℕ) → Legal h → HeldOnce (state_at h index)
+  once_at h index legal = at_places HeldOnce once_now h index legal

@@ -86,9 +86,9 @@ changed_by P key f table (Some v) is h step =
 pub changed : {V : Type 0} (P : V → Type 0) (key : Key) (f : V → V) (table : List (Key × V)) → Each P table → ((v : V) → P v → P (f v)) → Each P (changed_at key f table)
 changed P key f table h step = changed_by P key f table (at_key table key) refl h step
 
-named_by : {T : Type 0} (P : T → Type 0) (place : ℕ) (name : List ℕ) (x : T) (table : Named T) (o : Option (Stored T)) → EachOf (λ e. P e.1.object) table → P x → EachOf (λ e. P e.1.object) (put_by place name x table o)
-named_by P place name x table None h k = inserted (λ n. P n.object) text_cmp table name _ h k
-named_by P place name x table (Some old) h k = set_kept (λ n. P n.object) (is_at (text_cmp name)) table _ h k
+named_by : {T : Type 0} (P : T → Type 0) (index : ℕ) (name : List ℕ) (x : T) (table : Named T) (o : Option (Stored T)) → EachOf (λ e. P e.1.object) table → P x → EachOf (λ e. P e.1.object) (put_by index name x table o)
+named_by P index name x table None h k = inserted (λ n. P n.object) text_cmp table name _ h k
+named_by P index name x table (Some old) h k = set_kept (λ n. P n.object) (is_at (text_cmp name)) table _ h k
 
 put_kept : {V : Type 0} (P : V → Type 0) (key : Key) (new : V) (f : V → V) (table : List (Key × V)) (o : Option V) → at_key table key ≡ o → Each P table → P new → ((v : V) → P v → P (f v)) → Each P (put_at key new f table o)
 put_kept P key new f table None is h p step = inserted P key_cmp table key new h p
@@ -111,16 +111,16 @@ joined : (pod : Key) (ks : List Key) (claims : List (Key × ClaimState)) → Eac
 joined pod [] claims h = h
 joined pod (k ∷ ks) claims h = joined pod ks (changed_at k (joined_by pod) claims) (changed ClaimFits k _ claims h (λ c l. l))
 
-created : (place : ℕ) (x : Object) (s : State) → ObjectKept x → ObjectsKept s → ObjectsKept (with_object place x s)
-created place (object.Node x) s k h =
-    record { nodes = named_by NodeKept place x.name x s.inventory.nodes (at_name s.inventory.nodes x.name) h.nodes k; slices = h.slices; classes = h.classes; claims = h.claims; pods = h.pods }
-created place (object.Slice x) s k h =
-    record { nodes = h.nodes; slices = named_by IsWithinLimits place x.name x s.inventory.slices (at_name s.inventory.slices x.name) h.slices k; classes = h.classes; claims = h.claims; pods = h.pods }
-created place (object.Class x) s k h =
-    record { nodes = h.nodes; slices = h.slices; classes = named_by ClassKept place x.name x s.classes (at_name s.classes x.name) h.classes k; claims = h.claims; pods = h.pods }
-created place (object.Claim x) s k h =
+created : (index : ℕ) (x : Object) (s : State) → ObjectKept x → ObjectsKept s → ObjectsKept (with_object index x s)
+created index (object.Node x) s k h =
+    record { nodes = named_by NodeKept index x.name x s.inventory.nodes (at_name s.inventory.nodes x.name) h.nodes k; slices = h.slices; classes = h.classes; claims = h.claims; pods = h.pods }
+created index (object.Slice x) s k h =
+    record { nodes = h.nodes; slices = named_by IsWithinLimits index x.name x s.inventory.slices (at_name s.inventory.slices x.name) h.slices k; classes = h.classes; claims = h.claims; pods = h.pods }
+created index (object.Class x) s k h =
+    record { nodes = h.nodes; slices = h.slices; classes = named_by ClassKept index x.name x s.classes (at_name s.classes x.name) h.classes k; claims = h.claims; pods = h.pods }
+created index (object.Claim x) s k h =
     record { nodes = h.nodes; slices = h.slices; classes = h.classes; claims = put_kept ClaimFits x.key _ _ s.claims (at_key s.claims x.key) refl h.claims k (λ c l. k); pods = h.pods }
-created place (object.Pod x) s k h =
+created index (object.Pod x) s k h =
     record { nodes = h.nodes; slices = h.slices; classes = h.classes; claims = h.claims; pods = put_kept PodFits x.key _ _ s.pods (at_key s.pods x.key) refl h.pods k (λ p l. k) }
 
 deleted : (t : Target) (s : State) → ObjectsKept s → ObjectsKept (without_object t s)
@@ -135,38 +135,38 @@ deleted (target.Claim key) s h =
 deleted (target.Pod key) s h =
     record { nodes = h.nodes; slices = h.slices; classes = h.classes; claims = h.claims; pods = removed PodFits (is_at (key_cmp key)) s.pods h.pods }
 
-freed_fits : (place : ℕ) (pod : Key) (o : Option Use) (c : ClaimState) → ClaimFits c → ClaimFits (freed_by place pod o c)
-freed_fits place pod None c k = k
-freed_fits place pod (Some u) c k = k
+freed_fits : (index : ℕ) (pod : Key) (o : Option Use) (c : ClaimState) → ClaimFits c → ClaimFits (freed_by index pod o c)
+freed_fits index pod None c k = k
+freed_fits index pod (Some u) c k = k
 
-freed_kept : (place : ℕ) (pod : Key) (ks : List Key) (claims : List (Key × ClaimState)) → Each ClaimFits claims → Each ClaimFits (with_freed place pod ks claims)
-freed_kept place pod [] claims h = h
-freed_kept place pod (k ∷ ks) claims h =
-    freed_kept place pod ks (changed_at k (freed place pod) claims) (changed ClaimFits k (freed place pod) claims h (λ c l. freed_fits place pod (at_key c.users pod) c l))
+freed_kept : (index : ℕ) (pod : Key) (ks : List Key) (claims : List (Key × ClaimState)) → Each ClaimFits claims → Each ClaimFits (with_freed index pod ks claims)
+freed_kept index pod [] claims h = h
+freed_kept index pod (k ∷ ks) claims h =
+    freed_kept index pod ks (changed_at k (freed index pod) claims) (changed ClaimFits k (freed index pod) claims h (λ c l. freed_fits index pod (at_key c.users pod) c l))
 
-unused_again : (place : ℕ) (pod : Key) (s : State) → ObjectsKept s → ObjectsKept (without_uses place pod s)
-unused_again place pod s h =
-    record { nodes = h.nodes; slices = h.slices; classes = h.classes; claims = freed_kept place pod (claims_by (at_key s.pods pod)) s.claims h.claims; pods = changed PodFits pod _ s.pods h.pods (λ p k. k) }
+unused_again : (index : ℕ) (pod : Key) (s : State) → ObjectsKept s → ObjectsKept (without_uses index pod s)
+unused_again index pod s h =
+    record { nodes = h.nodes; slices = h.slices; classes = h.classes; claims = freed_kept index pod (claims_by (at_key s.pods pod)) s.claims h.claims; pods = changed PodFits pod _ s.pods h.pods (λ p k. k) }
 
 -- an entry that may be appended keeps them
-kept_after : (before : List Entry) (place job : ℕ) (event : Event) → MayFollow before job event → ObjectsKept (state_of before) → ObjectsKept (after place job event (state_of before))
-kept_after before place job (Applied x mode) may h = created place x (state_of before) may.valid.limits h
-kept_after before place job (Deleted t) may h = deleted t (state_of before) h
-kept_after before place job (Reserved pod plan) may h =
+kept_after : (before : List Entry) (index job : ℕ) (event : Event) → MayFollow before job event → ObjectsKept (state_of before) → ObjectsKept (after index job event (state_of before))
+kept_after before index job (Applied x mode) may h = created index x (state_of before) may.valid.limits h
+kept_after before index job (Deleted t) may h = deleted t (state_of before) h
+kept_after before index job (Reserved pod plan) may h =
     record { nodes = h.nodes; slices = h.slices; classes = h.classes; claims = joined pod plan.joins (with_grants plan.node pod plan.grants (state_of before).claims) (granted plan.node pod plan.grants (state_of before).claims h.claims); pods = changed PodFits pod _ (state_of before).pods h.pods (λ p k. k) }
-kept_after before place job (Wrote pod claim seen) may h =
+kept_after before index job (Wrote pod claim seen) may h =
     record { nodes = h.nodes; slices = h.slices; classes = h.classes; claims = changed ClaimFits claim _ (state_of before).claims h.claims (λ c k. k); pods = h.pods }
-kept_after before place job (Refused pod plan why) may h = h
-kept_after before place job (Conflict pod claim had now) may h = h
-kept_after before place job (Unreserved pod) may h = unused_again place pod (state_of before) h
-kept_after before place job (Contended pod attempts) may h = h
-kept_after before place job (Released pod) may h = unused_again place pod (state_of before) h
-kept_after before place job (Adopted claim status) may h =
+kept_after before index job (Refused pod plan why) may h = h
+kept_after before index job (Conflict pod claim had now) may h = h
+kept_after before index job (Unreserved pod) may h = unused_again index pod (state_of before) h
+kept_after before index job (Contended pod attempts) may h = h
+kept_after before index job (Released pod) may h = unused_again index pod (state_of before) h
+kept_after before index job (Adopted claim status) may h =
     record { nodes = h.nodes; slices = h.slices; classes = h.classes; claims = changed ClaimFits claim _ (state_of before).claims h.claims (λ c k. k); pods = h.pods }
-kept_after before place job (Bound pod node) may h =
+kept_after before index job (Bound pod node) may h =
     record { nodes = h.nodes; slices = h.slices; classes = h.classes; claims = h.claims; pods = changed PodFits pod _ (state_of before).pods h.pods (λ p k. k) }
-kept_after before place job (VerdictGiven pod verdict) may h = h
-kept_after before place job (Denied command refusal) may h = h
+kept_after before index job (VerdictGiven pod verdict) may h = h
+kept_after before index job (Denied command refusal) may h = h
 
 -- ---- histories
 
@@ -176,5 +176,5 @@ kept_at_first = record { nodes = tt; slices = tt; classes = tt; claims = tt; pod
 pub kept_now : (h : List Entry) → Legal h → ObjectsKept (state_of h)
 kept_now h legal = always_state ObjectsKept kept_at_first (λ g e l s p. kept_after g (length g + 1) e.job e.event s.stands p) h legal
 
-pub kept_at : (h : List Entry) (place : ℕ) → Legal h → ObjectsKept (state_at h place)
-kept_at h place legal = at_places ObjectsKept kept_now h place legal
+pub kept_at : (h : List Entry) (index : ℕ) → Legal h → ObjectsKept (state_at h index)
+kept_at h index legal = at_places ObjectsKept kept_now h index legal

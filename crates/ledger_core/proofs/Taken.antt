@@ -56,26 +56,26 @@ phase_stays : (pods : Pods) (changed pod : Key) (job : ℕ) (ph : Phase) → ((p
     → TakenBy pods pod job → TakenBy (with_phase changed ph pods) pod job
 phase_stays pods changed pod job ph never t = phase_by pods changed pod job ph (same_or_not (key_cmp pod changed) pod changed refl) never t
 
-updated_by : (place : ℕ) (x : Pod) (pods : Pods) (pod : Key) (job : ℕ) → (pod ≡ x.key) ⊎ (pod ≡ x.key → ⊥) → TakenBy pods pod job → TakenBy (changed_at x.key (updated_pod place x) pods) pod job
-updated_by place x pods pod job (inl e) t =
+updated_by : (index : ℕ) (x : Pod) (pods : Pods) (pod : Key) (job : ℕ) → (pod ≡ x.key) ⊎ (pod ≡ x.key → ⊥) → TakenBy pods pod job → TakenBy (changed_at x.key (updated_pod index x) pods) pod job
+updated_by index x pods pod job (inl e) t =
     let there : at_key pods x.key ≡ Some t.0 = ap (at_key pods) (sym e) ∙ t.2 in
-    (updated_pod place x t.0, t.1, ap (at_key (changed_at x.key (updated_pod place x) pods)) e ∙ changed_there x.key (updated_pod place x) pods t.0 there, t.3)
-updated_by place x pods pod job (inr differ) t = (t.0, t.1, changed_other x.key pod (updated_pod place x) pods differ ∙ t.2, t.3)
+    (updated_pod index x t.0, t.1, ap (at_key (changed_at x.key (updated_pod index x) pods)) e ∙ changed_there x.key (updated_pod index x) pods t.0 there, t.3)
+updated_by index x pods pod job (inr differ) t = (t.0, t.1, changed_other x.key pod (updated_pod index x) pods differ ∙ t.2, t.3)
 
-put_stays : (place : ℕ) (x : Pod) (pods : Pods) (o : Option PodState) (pod : Key) (job : ℕ) → at_key pods x.key ≡ o → TakenBy pods pod job → TakenBy (put_at x.key (new_pod place x) (updated_pod place x) pods o) pod job
-put_stays place x pods None pod job is t =
+put_stays : (index : ℕ) (x : Pod) (pods : Pods) (o : Option PodState) (pod : Key) (job : ℕ) → at_key pods x.key ≡ o → TakenBy pods pod job → TakenBy (put_at x.key (new_pod index x) (updated_pod index x) pods o) pod job
+put_stays index x pods None pod job is t =
     let differ : pod ≡ x.key → ⊥ = λ e. let no : None ≡ Some t.0 = sym is ∙ ap (at_key pods) (sym e) ∙ t.2 in cc in
-    (t.0, t.1, insert_other x.key pod pods (new_pod place x) differ ∙ t.2, t.3)
-put_stays place x pods (Some p) pod job is t =
-    subst (λ (o : Option PodState). TakenBy (option_map_or (λ v. set_value (is_at (key_cmp x.key)) pods (updated_pod place x v)) o pods) pod job) is
-    (updated_by place x pods pod job (same_or_not (key_cmp pod x.key) pod x.key refl) t)
+    (t.0, t.1, insert_other x.key pod pods (new_pod index x) differ ∙ t.2, t.3)
+put_stays index x pods (Some p) pod job is t =
+    subst (λ (o : Option PodState). TakenBy (option_map_or (λ v. set_value (is_at (key_cmp x.key)) pods (updated_pod index x v)) o pods) pod job) is
+    (updated_by index x pods pod job (same_or_not (key_cmp pod x.key) pod x.key refl) t)
 
-applied_stays : (place : ℕ) (x : Object) (s : State) (pod : Key) (job : ℕ) → TakenBy s.pods pod job → TakenBy (with_object place x s).pods pod job
-applied_stays place (object.Node x) s pod job t = t
-applied_stays place (object.Slice x) s pod job t = t
-applied_stays place (object.Class x) s pod job t = t
-applied_stays place (object.Claim x) s pod job t = t
-applied_stays place (object.Pod x) s pod job t = put_stays place x s.pods (at_key s.pods x.key) pod job refl t
+applied_stays : (index : ℕ) (x : Object) (s : State) (pod : Key) (job : ℕ) → TakenBy s.pods pod job → TakenBy (with_object index x s).pods pod job
+applied_stays index (object.Node x) s pod job t = t
+applied_stays index (object.Slice x) s pod job t = t
+applied_stays index (object.Class x) s pod job t = t
+applied_stays index (object.Claim x) s pod job t = t
+applied_stays index (object.Pod x) s pod job t = put_stays index x s.pods (at_key s.pods x.key) pod job refl t
 
 deleted_stays : (x : Target) (s : State) (pod : Key) (job : ℕ) → first_refusal s (Delete x) ≡ None → TakenBy s.pods pod job → TakenBy (without_object x s).pods pod job
 deleted_stays (target.Node name) s pod job free t = t
@@ -112,49 +112,49 @@ bound_never : (s : State) (pod : Key) (job : ℕ) → release_refusal (at_key s.
 bound_never s pod job free p node at taken = bound_by p.phase job node (sym (ap release_refusal at) ∙ free) taken
 
 -- it leaves a pod that this job has taken
-stays : (before : List Entry) (place j : ℕ) (event : Event) → MayFollow before j event → (pod : Key) (job : ℕ) → eqb j job ≡ false → TakenBy (state_of before).pods pod job
-    → TakenBy (after place j event (state_of before)).pods pod job
-stays before place j (Applied x m) may pod job differs t = applied_stays place x (state_of before) pod job t
-stays before place j (Deleted x) may pod job differs t = deleted_stays x (state_of before) pod job may.unrefused t
-stays before place j (Reserved p plan) may pod job differs t =
+stays : (before : List Entry) (index j : ℕ) (event : Event) → MayFollow before j event → (pod : Key) (job : ℕ) → eqb j job ≡ false → TakenBy (state_of before).pods pod job
+    → TakenBy (after index j event (state_of before)).pods pod job
+stays before index j (Applied x m) may pod job differs t = applied_stays index x (state_of before) pod job t
+stays before index j (Deleted x) may pod job differs t = deleted_stays x (state_of before) pod job may.unrefused t
+stays before index j (Reserved p plan) may pod job differs t =
     phase_stays (state_of before).pods p pod job (phase.Taken j plan.node) (idle_never (state_of before) p may.holds_now.state job may.holds_now.idle.there may.holds_now.idle.idle) t
-stays before place j (Refused p plan why) may pod job differs t = t
-stays before place j (Wrote p claim seen) may pod job differs t = t
-stays before place j (Conflict p claim had now) may pod job differs t = t
-stays before place j (Unreserved p) may pod job differs t =
+stays before index j (Refused p plan why) may pod job differs t = t
+stays before index j (Wrote p claim seen) may pod job differs t = t
+stays before index j (Conflict p claim had now) may pod job differs t = t
+stays before index j (Unreserved p) may pod job differs t =
     phase_stays (state_of before).pods p pod job phase.Idle (other_never (state_of before) p may.state may.node j job differs may.taken.there may.taken.taken) t
-stays before place j (Bound p node) may pod job differs t =
+stays before index j (Bound p node) may pod job differs t =
     phase_stays (state_of before).pods p pod job (phase.Bound node) (other_never (state_of before) p may.state node j job differs may.taken.there may.taken.taken) t
-stays before place j (VerdictGiven p verdict) may pod job differs t = t
-stays before place j (Contended p attempts) may pod job differs t = t
-stays before place j (Released p) may pod job differs t =
+stays before index j (VerdictGiven p verdict) may pod job differs t = t
+stays before index j (Contended p attempts) may pod job differs t = t
+stays before index j (Released p) may pod job differs t =
     phase_stays (state_of before).pods p pod job phase.Idle (bound_never (state_of before) p job may.unrefused) t
-stays before place j (Adopted claim status) may pod job differs t = t
-stays before place j (Denied command refused) may pod job differs t = t
+stays before index j (Adopted claim status) may pod job differs t = t
+stays before index j (Denied command refused) may pod job differs t = t
 
 -- ---- what the job itself does
 
 -- its entry, after which it has a pod, says that the pod is taken
-own : (before : List Entry) (place j : ℕ) (event : Event) (st : JobState) → MayFollow before j event → (pod : Key) → ((other : Key) → pod_in event ≡ Some other → other ≡ pod) → has_pod (job_state_after st place event) ≡ true
-    → TakenBy (after place j event (state_of before)).pods pod j
-own before place j (Applied x m) st may pod about has = absurd (cc)
-own before place j (Deleted x) st may pod about has = absurd (cc)
-own before place j (Reserved p plan) st may pod about has =
+own : (before : List Entry) (index j : ℕ) (event : Event) (st : JobState) → MayFollow before j event → (pod : Key) → ((other : Key) → pod_in event ≡ Some other → other ≡ pod) → has_pod (job_state_after st index event) ≡ true
+    → TakenBy (after index j event (state_of before)).pods pod j
+own before index j (Applied x m) st may pod about has = absurd (cc)
+own before index j (Deleted x) st may pod about has = absurd (cc)
+own before index j (Reserved p plan) st may pod about has =
     let pods : Pods = with_phase p (phase.Taken j plan.node) (state_of before).pods in
     subst (λ (k : Key). TakenBy pods k j) (about p refl)
     (record may.holds_now.state { phase = phase.Taken j plan.node }, plan.node, changed_there p (λ q. record q { phase = phase.Taken j plan.node }) (state_of before).pods may.holds_now.state may.holds_now.idle.there, refl)
-own before place j (Refused p plan why) st may pod about has = absurd (cc)
-own before place j (Wrote p claim seen) st may pod about has =
+own before index j (Refused p plan why) st may pod about has = absurd (cc)
+own before index j (Wrote p claim seen) st may pod about has =
     subst (λ (k : Key). TakenBy (state_of before).pods k j) (about p refl) (may.state, may.node, may.taken.there, may.taken.taken)
-own before place j (Conflict p claim had now) st may pod about has =
+own before index j (Conflict p claim had now) st may pod about has =
     subst (λ (k : Key). TakenBy (state_of before).pods k j) (about p refl) (may.use_next.state, may.use_next.node, may.use_next.taken.there, may.use_next.taken.taken)
-own before place j (Unreserved p) st may pod about has = absurd (cc)
-own before place j (Bound p node) st may pod about has = absurd (cc)
-own before place j (VerdictGiven p verdict) st may pod about has = absurd (cc)
-own before place j (Contended p attempts) st may pod about has = absurd (cc)
-own before place j (Released p) st may pod about has = absurd (cc)
-own before place j (Adopted claim status) st may pod about has = absurd (cc)
-own before place j (Denied command refused) st may pod about has = absurd (cc)
+own before index j (Unreserved p) st may pod about has = absurd (cc)
+own before index j (Bound p node) st may pod about has = absurd (cc)
+own before index j (VerdictGiven p verdict) st may pod about has = absurd (cc)
+own before index j (Contended p attempts) st may pod about has = absurd (cc)
+own before index j (Released p) st may pod about has = absurd (cc)
+own before index j (Adopted claim status) st may pod about has = absurd (cc)
+own before index j (Denied command refused) st may pod about has = absurd (cc)
 
 -- ---- histories
 

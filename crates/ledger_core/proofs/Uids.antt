@@ -40,50 +40,50 @@ Was old key q = (r : PodState) × (at_key old key ≡ Some r) × (q.pod.uid ≡ 
 
 -- the pod is new, with the index as its uid, or was there
 abbrev NewOrWas : ℕ → Pods → Key → PodState → Type 0
-NewOrWas place old key q = (q.pod.uid ≡ place) ⊎ Was old key q
+NewOrWas index old key q = (q.pod.uid ≡ index) ⊎ Was old key q
 
 abbrev Follows : ℕ → Pods → Pods → Type 0
-Follows place old new = AllAt (NewOrWas place old) new
+Follows index old new = AllAt (NewOrWas index old) new
 
-same_follows : (place : ℕ) (pods : Pods) → Follows place pods pods
-same_follows place pods = λ key q at. inr (q, at, refl, refl)
+same_follows : (index : ℕ) (pods : Pods) → Follows index pods pods
+same_follows index pods = λ key q at. inr (q, at, refl, refl)
 
-phase_follows : (place : ℕ) (pod : Key) (ph : Phase) (pods : Pods) → Follows place pods (with_phase pod ph pods)
-phase_follows place pod ph pods =
-    all_changed (λ k r. at_key pods k ≡ Some r) (NewOrWas place pods) pod (λ q. record q { phase = ph }) pods (λ k r at. at) (λ r there at. inr (r, at, refl, refl)) (λ k r differ at. inr (r, at, refl, refl))
+phase_follows : (index : ℕ) (pod : Key) (ph : Phase) (pods : Pods) → Follows index pods (with_phase pod ph pods)
+phase_follows index pod ph pods =
+    all_changed (λ k r. at_key pods k ≡ Some r) (NewOrWas index pods) pod (λ q. record q { phase = ph }) pods (λ k r at. at) (λ r there at. inr (r, at, refl, refl)) (λ k r differ at. inr (r, at, refl, refl))
 
-applied_follows : SameClaims → (place : ℕ) (x : Object) (m : Mode) (s : State) → first_refusal s (Apply x m) ≡ None → Fit s → Follows place s.pods (with_object place x s).pods
-applied_follows law place (object.Node x) m s free fit = same_follows place s.pods
-applied_follows law place (object.Slice x) m s free fit = same_follows place s.pods
-applied_follows law place (object.Class x) m s free fit = same_follows place s.pods
-applied_follows law place (object.Claim x) m s free fit = same_follows place s.pods
-applied_follows law place (object.Pod x) m s free fit =
-    all_put (NewOrWas place s.pods) x.key (new_pod place x) (updated_pod place x) s.pods (same_follows place s.pods) (λ none. inl refl)
+applied_follows : SameClaims → (index : ℕ) (x : Object) (m : Mode) (s : State) → first_refusal s (Apply x m) ≡ None → Fit s → Follows index s.pods (with_object index x s).pods
+applied_follows law index (object.Node x) m s free fit = same_follows index s.pods
+applied_follows law index (object.Slice x) m s free fit = same_follows index s.pods
+applied_follows law index (object.Class x) m s free fit = same_follows index s.pods
+applied_follows law index (object.Claim x) m s free fit = same_follows index s.pods
+applied_follows law index (object.Pod x) m s free fit =
+    all_put (NewOrWas index s.pods) x.key (new_pod index x) (updated_pod index x) s.pods (same_follows index s.pods) (λ none. inl refl)
     (λ p there f.
     let keys : claim_keys p.pod.object ≡ claim_keys x = keys_same p.pod.object x (fit.1 x.key p there).0 ((law p.pod.object x).0 (pod_unchanged s x m p free there)) in
     inr (p, there, refl, ap (λ ks. first_places [] ks) (sym keys)))
 
-deleted_follows : (place : ℕ) (t : Target) (s : State) → Fit s → Follows place s.pods (without_object t s).pods
-deleted_follows place (target.Node name) s fit = same_follows place s.pods
-deleted_follows place (target.Slice name) s fit = same_follows place s.pods
-deleted_follows place (target.Class name) s fit = same_follows place s.pods
-deleted_follows place (target.Claim key) s fit = same_follows place s.pods
-deleted_follows place (target.Pod key) s fit = λ k q at. inr (q, (removed_case key k s.pods q fit.0 at).1, refl, refl)
+deleted_follows : (index : ℕ) (t : Target) (s : State) → Fit s → Follows index s.pods (without_object t s).pods
+deleted_follows index (target.Node name) s fit = same_follows index s.pods
+deleted_follows index (target.Slice name) s fit = same_follows index s.pods
+deleted_follows index (target.Class name) s fit = same_follows index s.pods
+deleted_follows index (target.Claim key) s fit = same_follows index s.pods
+deleted_follows index (target.Pod key) s fit = λ k q at. inr (q, (removed_case key k s.pods q fit.0 at).1, refl, refl)
 
-follows : SameClaims → (before : List Entry) (place job : ℕ) (event : Event) → MayFollow before job event → Fit (state_of before) → Follows place (state_of before).pods (after place job event (state_of before)).pods
-follows law before place job (Applied x m) may fit = applied_follows law place x m (state_of before) may.unrefused fit
-follows law before place job (Deleted t) may fit = deleted_follows place t (state_of before) fit
-follows law before place job (Reserved pod plan) may fit = phase_follows place pod (phase.Taken job plan.node) (state_of before).pods
-follows law before place job (Refused pod plan why) may fit = same_follows place (state_of before).pods
-follows law before place job (Wrote pod claim seen) may fit = same_follows place (state_of before).pods
-follows law before place job (Conflict pod claim had now) may fit = same_follows place (state_of before).pods
-follows law before place job (Unreserved pod) may fit = phase_follows place pod phase.Idle (state_of before).pods
-follows law before place job (Bound pod node) may fit = phase_follows place pod (phase.Bound node) (state_of before).pods
-follows law before place job (VerdictGiven pod verdict) may fit = same_follows place (state_of before).pods
-follows law before place job (Contended pod attempts) may fit = same_follows place (state_of before).pods
-follows law before place job (Released pod) may fit = phase_follows place pod phase.Idle (state_of before).pods
-follows law before place job (Adopted claim status) may fit = same_follows place (state_of before).pods
-follows law before place job (Denied command refusal) may fit = same_follows place (state_of before).pods
+follows : SameClaims → (before : List Entry) (index job : ℕ) (event : Event) → MayFollow before job event → Fit (state_of before) → Follows index (state_of before).pods (after index job event (state_of before)).pods
+follows law before index job (Applied x m) may fit = applied_follows law index x m (state_of before) may.unrefused fit
+follows law before index job (Deleted t) may fit = deleted_follows index t (state_of before) fit
+follows law before index job (Reserved pod plan) may fit = phase_follows index pod (phase.Taken job plan.node) (state_of before).pods
+follows law before index job (Refused pod plan why) may fit = same_follows index (state_of before).pods
+follows law before index job (Wrote pod claim seen) may fit = same_follows index (state_of before).pods
+follows law before index job (Conflict pod claim had now) may fit = same_follows index (state_of before).pods
+follows law before index job (Unreserved pod) may fit = phase_follows index pod phase.Idle (state_of before).pods
+follows law before index job (Bound pod node) may fit = phase_follows index pod (phase.Bound node) (state_of before).pods
+follows law before index job (VerdictGiven pod verdict) may fit = same_follows index (state_of before).pods
+follows law before index job (Contended pod attempts) may fit = same_follows index (state_of before).pods
+follows law before index job (Released pod) may fit = phase_follows index pod phase.Idle (state_of before).pods
+follows law before index job (Adopted claim status) may fit = same_follows index (state_of before).pods
+follows law before index job (Denied command refusal) may fit = same_follows index (state_of before).pods
 
 step_follows : SameClaims → (h : List Entry) (e : Entry) → Legal h → Step h e → Follows (length h + 1) (state_of h).pods (state_of (h ++ e ∷ [])).pods
 step_follows law h e legal step =

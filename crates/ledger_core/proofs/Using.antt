@@ -92,24 +92,24 @@ busy_by pod ph pods claim l (inr differ) busy u = other_phase pod ph pods claim 
 busy_stays : (pod : Key) (ph : Phase) (pods : Pods) → not (is_idle ph) ≡ true → Stays pods (with_phase pod ph pods)
 busy_stays pod ph pods busy = λ claim l u. busy_by pod ph pods claim l (same_or_not (key_cmp l pod) l pod refl) busy u
 
-updated_by : (place : ℕ) (x : Pod) (pods : Pods) (p : PodState) (claim l : Key) → (l ≡ x.key) ⊎ (l ≡ x.key → ⊥) → at_key pods x.key ≡ Some p → claim_keys p.pod.object ≡ claim_keys x → Uses pods claim l
-    → Uses (changed_at x.key (updated_pod place x) pods) claim l
-updated_by place x pods p claim l (inl e) is keys u =
+updated_by : (index : ℕ) (x : Pod) (pods : Pods) (p : PodState) (claim l : Key) → (l ≡ x.key) ⊎ (l ≡ x.key → ⊥) → at_key pods x.key ≡ Some p → claim_keys p.pod.object ≡ claim_keys x → Uses pods claim l
+    → Uses (changed_at x.key (updated_pod index x) pods) claim l
+updated_by index x pods p claim l (inl e) is keys u =
     let same : u.0 ≡ p = some_same u.0 p (sym u.1 ∙ ap (at_key pods) e ∙ is) in
     let named : In claim (claims_of p) = subst (λ (q : PodState). In claim (claims_of q)) same u.3 in
     let busy : is_busy (Some p) ≡ true = subst (λ (q : PodState). is_busy (Some q) ≡ true) same u.2 in
-    (updated_pod place x p, ap (at_key (changed_at x.key (updated_pod place x) pods)) e ∙ changed_there x.key (updated_pod place x) pods p is, busy, subst (λ (ks : List Key). In claim (first_places [] ks)) keys named)
-updated_by place x pods p claim l (inr differ) is keys u = (u.0, changed_other x.key l (updated_pod place x) pods differ ∙ u.1, u.2, u.3)
+    (updated_pod index x p, ap (at_key (changed_at x.key (updated_pod index x) pods)) e ∙ changed_there x.key (updated_pod index x) pods p is, busy, subst (λ (ks : List Key). In claim (first_places [] ks)) keys named)
+updated_by index x pods p claim l (inr differ) is keys u = (u.0, changed_other x.key l (updated_pod index x) pods differ ∙ u.1, u.2, u.3)
 
-put_stays : (place : ℕ) (x : Pod) (pods : Pods) (o : Option PodState) → at_key pods x.key ≡ o → ((p : PodState) → o ≡ Some p → claim_keys p.pod.object ≡ claim_keys x)
-    → Stays pods (put_at x.key (new_pod place x) (updated_pod place x) pods o)
-put_stays place x pods None is keys =
+put_stays : (index : ℕ) (x : Pod) (pods : Pods) (o : Option PodState) → at_key pods x.key ≡ o → ((p : PodState) → o ≡ Some p → claim_keys p.pod.object ≡ claim_keys x)
+    → Stays pods (put_at x.key (new_pod index x) (updated_pod index x) pods o)
+put_stays index x pods None is keys =
     λ claim l u.
     let differ : l ≡ x.key → ⊥ = λ e. let no : None ≡ Some u.0 = sym is ∙ ap (at_key pods) (sym e) ∙ u.1 in cc in
-    (u.0, insert_other x.key l pods (new_pod place x) differ ∙ u.1, u.2, u.3)
-put_stays place x pods (Some p) is keys =
-    subst (λ (o : Option PodState). Stays pods (option_map_or (λ v. set_value (is_at (key_cmp x.key)) pods (updated_pod place x v)) o pods)) is
-    (λ claim l u. updated_by place x pods p claim l (same_or_not (key_cmp l x.key) l x.key refl) is (keys p refl) u)
+    (u.0, insert_other x.key l pods (new_pod index x) differ ∙ u.1, u.2, u.3)
+put_stays index x pods (Some p) is keys =
+    subst (λ (o : Option PodState). Stays pods (option_map_or (λ v. set_value (is_at (key_cmp x.key)) pods (updated_pod index x v)) o pods)) is
+    (λ claim l u. updated_by index x pods p claim l (same_or_not (key_cmp l x.key) l x.key refl) is (keys p refl) u)
 
 remove_stays : (key : Key) (pods : Pods) → is_busy (at_key pods key) ≡ false → Stays pods (remove_entry (is_at (key_cmp key)) pods)
 remove_stays key pods idle =
@@ -215,17 +215,17 @@ reserved s job pod plan t h =
     (grants_fit pods' plan.node pod plan.grants s.claims (λ k among. use_of k (granted_own s pod plan t k among))
     (all_stays s.pods pods' s.claims (busy_stays pod ph s.pods refl) h))
 
-applied : SameClaims → (place : ℕ) (x : Object) (m : Mode) (s : State) → first_refusal s (Apply x m) ≡ None → Fit s → UsersFit s.pods s.claims → UsersFit (with_object place x s).pods (with_object place x s).claims
-applied law place (object.Node x) m s free fit h = h
-applied law place (object.Slice x) m s free fit h = h
-applied law place (object.Class x) m s free fit h = h
-applied law place (object.Claim x) m s free fit h = (
-  once_put x.key (new_claim place x) (updated_claim place x) s.claims h.0,
-  all_put (UserFits s.pods) x.key (new_claim place x) (updated_claim place x) s.claims h.1 (λ none. (tt, λ pod is. absurd (cc))) (λ c there f. f),
+applied : SameClaims → (index : ℕ) (x : Object) (m : Mode) (s : State) → first_refusal s (Apply x m) ≡ None → Fit s → UsersFit s.pods s.claims → UsersFit (with_object index x s).pods (with_object index x s).claims
+applied law index (object.Node x) m s free fit h = h
+applied law index (object.Slice x) m s free fit h = h
+applied law index (object.Class x) m s free fit h = h
+applied law index (object.Claim x) m s free fit h = (
+  once_put x.key (new_claim index x) (updated_claim index x) s.claims h.0,
+  all_put (UserFits s.pods) x.key (new_claim index x) (updated_claim index x) s.claims h.1 (λ none. (tt, λ pod is. absurd (cc))) (λ c there f. f),
 )
-applied law place (object.Pod x) m s free fit h =
+applied law index (object.Pod x) m s free fit h =
     all_stays s.pods _ s.claims
-    (put_stays place x s.pods (at_key s.pods x.key) refl (λ p there. keys_same p.pod.object x (fit.1 x.key p there).0 ((law p.pod.object x).0 (pod_unchanged s x m p free there)))) h
+    (put_stays index x s.pods (at_key s.pods x.key) refl (λ p there. keys_same p.pod.object x (fit.1 x.key p there).0 ((law p.pod.object x).0 (pod_unchanged s x m p free there)))) h
 
 idle_by : (b c : Bool) → when (b || c) InUse ≡ None → b ≡ false
 idle_by true c e = absurd (cc)
@@ -241,16 +241,16 @@ deleted (target.Class name) s e h = h
 deleted (target.Claim key) s e h = (once_removed (is_at (key_cmp key)) s.claims h.0, λ k c at. h.1 k c (removed_case key k s.claims c h.0 at).1)
 deleted (target.Pod key) s e h = all_stays s.pods _ s.claims (remove_stays key s.pods (idle_of s key e)) h
 
-written : (place : ℕ) (pod claim : Key) (s : State) → UsersFit s.pods s.claims → UsersFit s.pods (with_written place pod claim s).claims
-written place pod claim s h = (
-  once_changed claim (written_by place pod) s.claims h.0,
-  all_changed (UserFits s.pods) (UserFits s.pods) claim (written_by place pod) s.claims h.1 (λ c there f. marked s.pods claim pod c.users f) (λ k c differ f. f),
+written : (index : ℕ) (pod claim : Key) (s : State) → UsersFit s.pods s.claims → UsersFit s.pods (with_written index pod claim s).claims
+written index pod claim s h = (
+  once_changed claim (written_by index pod) s.claims h.0,
+  all_changed (UserFits s.pods) (UserFits s.pods) claim (written_by index pod) s.claims h.1 (λ c there f. marked s.pods claim pod c.users f) (λ k c differ f. f),
 )
 
-adopted : (place : ℕ) (claim : Key) (status : ClaimStatus) (s : State) → UsersFit s.pods s.claims → UsersFit s.pods (with_adopted place claim status s).claims
-adopted place claim status s h = (
-  once_changed claim (adopted_by place status) s.claims h.0,
-  all_changed (UserFits s.pods) (UserFits s.pods) claim (adopted_by place status) s.claims h.1 (λ c there f. f) (λ k c differ f. f),
+adopted : (index : ℕ) (claim : Key) (status : ClaimStatus) (s : State) → UsersFit s.pods s.claims → UsersFit s.pods (with_adopted index claim status s).claims
+adopted index claim status s h = (
+  once_changed claim (adopted_by index status) s.claims h.0,
+  all_changed (UserFits s.pods) (UserFits s.pods) claim (adopted_by index status) s.claims h.1 (λ c there f. f) (λ k c differ f. f),
 )
 
 -- ---- a pod's uses taken away
@@ -259,23 +259,23 @@ adopted place claim status s h = (
 abbrev Gone : (Key → Type 0) → Pods → Key → Key → ClaimState → Type 0
 Gone G pods pod k c = UserFits pods k c × (G k → at_key c.users pod ≡ None)
 
-freed_one : (place : ℕ) (pods : Pods) (pod claim : Key) (c : ClaimState) (o : Option Use) → at_key c.users pod ≡ o → UserFits pods claim c
-    → UserFits pods claim (freed_by place pod o c) × (at_key (freed_by place pod o c).users pod ≡ None)
-freed_one place pods pod claim c None is h = (h, is)
-freed_one place pods pod claim c (Some u) is h = (less_users pods claim pod c.users h, gone pod c.users (once_of c.users h.0))
+freed_one : (index : ℕ) (pods : Pods) (pod claim : Key) (c : ClaimState) (o : Option Use) → at_key c.users pod ≡ o → UserFits pods claim c
+    → UserFits pods claim (freed_by index pod o c) × (at_key (freed_by index pod o c).users pod ≡ None)
+freed_one index pods pod claim c None is h = (h, is)
+freed_one index pods pod claim c (Some u) is h = (less_users pods claim pod c.users h, gone pod c.users (once_of c.users h.0))
 
-freed_each : (G : Key → Type 0) (place : ℕ) (pods : Pods) (pod : Key) (ks : List Key) (claims : Claims) → Once claims → AllAt (Gone G pods pod) claims
-    → Once (with_freed place pod ks claims) × AllAt (Gone (λ k. G k ⊎ In k ks) pods pod) (with_freed place pod ks claims)
-freed_each G place pods pod [] claims once h =
+freed_each : (G : Key → Type 0) (index : ℕ) (pods : Pods) (pod : Key) (ks : List Key) (claims : Claims) → Once claims → AllAt (Gone G pods pod) claims
+    → Once (with_freed index pod ks claims) × AllAt (Gone (λ k. G k ⊎ In k ks) pods pod) (with_freed index pod ks claims)
+freed_each G index pods pod [] claims once h =
     (once, λ k c at. let f = h k c at in (f.0, λ g. ⊎_elim (λ (x : G k). f.1 x) (λ n. absurd n) g))
-freed_each G place pods pod (j ∷ js) claims once h =
+freed_each G index pods pod (j ∷ js) claims once h =
     let H : Key → Type 0 = λ k. G k ⊎ (j ≡ k) in
-    let next : Claims = changed_at j (freed place pod) claims in
+    let next : Claims = changed_at j (freed index pod) claims in
     let step : AllAt (Gone H pods pod) next =
-    all_changed (Gone G pods pod) (Gone H pods pod) j (freed place pod) claims h
-    (λ c there f. let r = freed_one place pods pod j c (at_key c.users pod) refl f.0 in (r.0, λ g. r.1))
+    all_changed (Gone G pods pod) (Gone H pods pod) j (freed index pod) claims h
+    (λ c there f. let r = freed_one index pods pod j c (at_key c.users pod) refl f.0 in (r.0, λ g. r.1))
     (λ k c differ f. (f.0, λ g. ⊎_elim (λ (x : G k). f.1 x) (λ (e : j ≡ k). absurd (differ (sym e))) g)) in
-    let rest = freed_each H place pods pod js next (once_changed j (freed place pod) claims once) step in
+    let rest = freed_each H index pods pod js next (once_changed j (freed index pod) claims once) step in
     (rest.0, λ k c at. let f = rest.1 k c at in (f.0, λ g. f.1 (⊎_elim (λ (x : G k). inl (inl x)) (λ (y : (j ≡ k) ⊎ In k js). ⊎_elim (λ (e : j ≡ k). inl (inr e)) (λ (i : In k js). inr i) y) g)))
 
 named_by : (claim : Key) (pods : Pods) (pod : Key) (o : Option PodState) → at_key pods pod ≡ o → Uses pods claim pod → In claim (claims_by o)
@@ -291,32 +291,32 @@ none_left pods claim pod l c (inl e) f none is =
     absurd (let no : false ≡ true = sym (ap is_some free) ∙ user in cc)
 none_left pods claim pod l c (inr differ) f none is = other_phase pod phase.Idle pods claim l differ (f.1 l is)
 
-unused_again : (place : ℕ) (pod : Key) (s : State) → UsersFit s.pods s.claims → UsersFit (without_uses place pod s).pods (without_uses place pod s).claims
-unused_again place pod s h =
+unused_again : (index : ℕ) (pod : Key) (s : State) → UsersFit s.pods s.claims → UsersFit (without_uses index pod s).pods (without_uses index pod s).claims
+unused_again index pod s h =
     let ks : List Key = claims_by (at_key s.pods pod) in
-    let r = freed_each (λ k. ⊥) place s.pods pod ks s.claims h.0 (λ k c at. (h.1 k c at, λ n. absurd n)) in (
+    let r = freed_each (λ k. ⊥) index s.pods pod ks s.claims h.0 (λ k c at. (h.1 k c at, λ n. absurd n)) in (
       r.0,
       λ k c at. let f = r.1 k c at in (f.0.0, λ l is. none_left s.pods k pod l c (same_or_not (key_cmp l pod) l pod refl) f.0 (λ among. f.1 (inr among)) is),
     )
 
 -- ---- histories
 
-fits_after : SameClaims → (before : List Entry) (place job : ℕ) (event : Event) → MayFollow before job event → Fit (state_of before) → UsersFit (state_of before).pods (state_of before).claims
-    → UsersFit (after place job event (state_of before)).pods (after place job event (state_of before)).claims
-fits_after law before place job (Applied x m) may fit h = applied law place x m (state_of before) may.unrefused fit h
-fits_after law before place job (Deleted t) may fit h = deleted t (state_of before) may.unrefused h
-fits_after law before place job (Reserved pod plan) may fit h = reserved (state_of before) job pod plan may.holds_now h
-fits_after law before place job (Refused pod plan why) may fit h = h
-fits_after law before place job (Wrote pod claim seen) may fit h = written place pod claim (state_of before) h
-fits_after law before place job (Conflict pod claim had now) may fit h = h
-fits_after law before place job (Unreserved pod) may fit h = unused_again place pod (state_of before) h
-fits_after law before place job (Bound pod node) may fit h =
+fits_after : SameClaims → (before : List Entry) (index job : ℕ) (event : Event) → MayFollow before job event → Fit (state_of before) → UsersFit (state_of before).pods (state_of before).claims
+    → UsersFit (after index job event (state_of before)).pods (after index job event (state_of before)).claims
+fits_after law before index job (Applied x m) may fit h = applied law index x m (state_of before) may.unrefused fit h
+fits_after law before index job (Deleted t) may fit h = deleted t (state_of before) may.unrefused h
+fits_after law before index job (Reserved pod plan) may fit h = reserved (state_of before) job pod plan may.holds_now h
+fits_after law before index job (Refused pod plan why) may fit h = h
+fits_after law before index job (Wrote pod claim seen) may fit h = written index pod claim (state_of before) h
+fits_after law before index job (Conflict pod claim had now) may fit h = h
+fits_after law before index job (Unreserved pod) may fit h = unused_again index pod (state_of before) h
+fits_after law before index job (Bound pod node) may fit h =
     all_stays (state_of before).pods _ (state_of before).claims (busy_stays pod (phase.Bound node) (state_of before).pods refl) h
-fits_after law before place job (VerdictGiven pod verdict) may fit h = h
-fits_after law before place job (Contended pod attempts) may fit h = h
-fits_after law before place job (Released pod) may fit h = unused_again place pod (state_of before) h
-fits_after law before place job (Adopted claim status) may fit h = adopted place claim status (state_of before) h
-fits_after law before place job (Denied command refusal) may fit h = h
+fits_after law before index job (VerdictGiven pod verdict) may fit h = h
+fits_after law before index job (Contended pod attempts) may fit h = h
+fits_after law before index job (Released pod) may fit h = unused_again index pod (state_of before) h
+fits_after law before index job (Adopted claim status) may fit h = adopted index claim status (state_of before) h
+fits_after law before index job (Denied command refusal) may fit h = h
 
 fits_first : UsersFit empty_state.pods empty_state.claims
 fits_first = (tt, λ k c is. absurd (cc))
@@ -334,8 +334,8 @@ busy_of s h = record {
 pub busy_now : SameClaims → (h : List Entry) → Legal h → UsersAreBusy (state_of h)
 busy_now law h legal = busy_of (state_of h) (fits_now law h legal)
 
-pub busy_at : SameClaims → (h : List Entry) (place : ℕ) → Legal h → UsersAreBusy (state_at h place)
-busy_at law h place legal = at_places UsersAreBusy (busy_now law) h place legal
+pub busy_at : SameClaims → (h : List Entry) (index : ℕ) → Legal h → UsersAreBusy (state_at h index)
+busy_at law h index legal = at_places UsersAreBusy (busy_now law) h index legal
 
 -- ---- a pod that is neither taken nor bound is no user
 

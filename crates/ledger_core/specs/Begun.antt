@@ -21,7 +21,7 @@ pub record IsDenied (old new : History) (job : ℕ) (pod : Key) (done : Done) : 
   pub refusal : Refusal
   pub due : first_refusal (state_of old.entries) (Schedule pod) ≡ Some refusal
   pub entry : new ≡ appended old job (Denied (Schedule pod) refusal)
-  pub place : done.place ≡ length new.entries
+  pub index : done.index ≡ length new.entries
   pub outcome : done.outcome ≡ outcome.Denied
 
 -- None holds: the pod is there and Idle, and nothing changed. The snapshot is of the present state, and of the number of
@@ -29,7 +29,7 @@ pub record IsDenied (old new : History) (job : ℕ) (pod : Key) (done : Done) : 
 pub record IsSeen (old new : History) (pod : Key) (seen : Seen) : Type 0 where
   pub unrefused : first_refusal (state_of old.entries) (Schedule pod) ≡ None
   pub same : new ≡ old
-  pub place : seen.at ≡ length old.entries
+  pub index : seen.at ≡ length old.entries
   pub state_is : seen.state ≡ state_of old.entries
   pub state : PodState
   pub idle : IsIdle (state_of old.entries) pod state

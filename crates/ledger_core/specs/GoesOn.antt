@@ -10,4 +10,4 @@ use Rattle.ledger_core.specs.Bound.{MayBind}
 -- The job may write the pod's uses of these claims in order, and then bind the pod.
 abbrev pub GoesOn : State → Key → ℕ → List ℕ → List Key → Type 0
 GoesOn s pod job node [] = MayBind s pod job node
-GoesOn s pod job node (k ∷ ks) = MayWrite s pod job k (version_of s k) × ((place : ℕ) → GoesOn (with_written place pod k s) pod job node ks)
+GoesOn s pod job node (k ∷ ks) = MayWrite s pod job k (version_of s k) × ((index : ℕ) → GoesOn (with_written index pod k s) pod job node ks)

@@ -109,7 +109,7 @@ pub fn adoptions_are_allocations()
 /// at each index of it: a pod that is Idle uses no claim.
 pub fn users_are_busy()
     ensures now { (h : List Entry) → Legal h → UsersAreBusy (state_of h) }
-    ensures always { (h : List Entry) (place : ℕ) → Legal h → UsersAreBusy (state_at h place) }
+    ensures always { (h : List Entry) (index : ℕ) → Legal h → UsersAreBusy (state_at h index) }
     ensures idle { (h : List Entry) (pod : Key) → Legal h → is_busy (at_key (state_of h).pods pod) ≡ false → is_user (state_of h) pod ≡ false }
 {
     same_is_equal();
@@ -119,7 +119,7 @@ pub fn users_are_busy()
 /// claims, and the uses of one that is bound are written.
 pub fn pods_use_claims()
     ensures now { (h : List Entry) → Legal h → PodsUseClaims (state_of h) }
-    ensures always { (h : List Entry) (place : ℕ) → Legal h → PodsUseClaims (state_at h place) }
+    ensures always { (h : List Entry) (index : ℕ) → Legal h → PodsUseClaims (state_at h index) }
 {
     same_is_equal();
 }
@@ -128,14 +128,14 @@ pub fn pods_use_claims()
 /// `resource.k8s.io/v1` after a legal history, and at each index of it.
 pub fn objects_keep_limits()
     ensures now { (h : List Entry) → Legal h → ObjectsKept (state_of h) }
-    ensures always { (h : List Entry) (place : ℕ) → Legal h → ObjectsKept (state_at h place) }
+    ensures always { (h : List Entry) (index : ℕ) → Legal h → ObjectsKept (state_at h index) }
 {}
 
 /// Each device has one holder after a legal history, and at each index of it: no device is held
 /// twice, by two claims or by one.
 pub fn one_holder()
     ensures now { (h : List Entry) → Legal h → HeldOnce (state_of h) }
-    ensures always { (h : List Entry) (place : ℕ) → Legal h → HeldOnce (state_at h place) }
+    ensures always { (h : List Entry) (index : ℕ) → Legal h → HeldOnce (state_at h index) }
 {
     one_holder_is_kept();
     grants_hold_once();

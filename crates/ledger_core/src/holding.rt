@@ -241,16 +241,16 @@ fn free_held(
     alloc: Global,
     state: &mut State,
     holders: &mut Held,
-    place: u64,
+    index: u64,
     pod: &Key,
 ) -> Result<(), AllocError>
-    ensures ok { OnOk result (state.new ≡ without_uses place pod.now state.old) }
+    ensures ok { OnOk result (state.new ≡ without_uses index pod.now state.old) }
     ensures left { OnOk result ((id : DeviceId) → holder_in holders.new id ≡ left_by (lost_with state.old pod.now) id (holder_in holders.old id)) }
     ensures err { OnErr result (state.new ≡ state.old) }
     ensures same { OnErr result (holders.new ≡ holders.old) }
 {
     let lost = lost_with(alloc, state, pod)?;
-    state.free(alloc, place, pod)?;
+    state.free(alloc, index, pod)?;
     leave_lost(holders, &lost);
     Ok(())
 }
@@ -261,17 +261,17 @@ pub fn free(
     alloc: Global,
     state: &mut State,
     holders: &mut Shared<Held>,
-    place: u64,
+    index: u64,
     pod: &Key,
 ) -> Result<Key, AllocError>
     ensures kept { IfOk result (λ kept. kept ≡ pod.now) }
-    ensures ok { OnOk result (state.new ≡ without_uses place pod.now state.old) }
+    ensures ok { OnOk result (state.new ≡ without_uses index pod.now state.old) }
     ensures left { OnOk result ((id : DeviceId) → holder_in holders.new id ≡ left_by (lost_with state.old pod.now) id (holder_in holders.old id)) }
     ensures err { OnErr result (state.new ≡ state.old) }
     ensures same { OnErr result (holders.new ≡ holders.old) }
 {
     let kept = pod.copy(alloc)?;
-    free_held(alloc, state, holders.change(alloc)?, place, pod)?;
+    free_held(alloc, state, holders.change(alloc)?, index, pod)?;
     Ok(kept)
 }
 
@@ -412,19 +412,19 @@ fn adopt_held(
     alloc: Global,
     state: &mut State,
     holders: &mut Held,
-    place: u64,
+    index: u64,
     claim: &Key,
     status: &ClaimStatus,
 ) -> Result<(), AllocError>
     requires { (id : DeviceId) → left_of (map result_of status.now.results) id (holder_in holders.old id) ≡ holder_in holders.old id }
-    ensures ok { OnOk result (state.new ≡ with_adopted place claim.now status.now state.old) }
+    ensures ok { OnOk result (state.new ≡ with_adopted index claim.now status.now state.old) }
     ensures given { OnOk result ((id : DeviceId) → holder_in holders.new id ≡ given_to claim.now (map result_of status.now.results) id (holder_in holders.old id)) }
     ensures err { OnErr result (state.new ≡ state.old) }
     ensures same { OnErr result ((id : DeviceId) → holder_in holders.new id ≡ holder_in holders.old id) }
 {
     let results = status_results(alloc, status)?;
     hold_results(alloc, holders, claim, results.as_slice())?;
-    match state.adopt(alloc, place, claim, status) {
+    match state.adopt(alloc, index, claim, status) {
         Ok(()) => Ok(()),
         Err(error) => {
             leave_all(holders, results.as_slice());
@@ -440,18 +440,18 @@ pub fn adopt(
     alloc: Global,
     state: &mut State,
     holders: &mut Shared<Held>,
-    place: u64,
+    index: u64,
     claim: &Key,
     status: &ClaimStatus,
 ) -> Result<Key, AllocError>
     requires { (id : DeviceId) → left_of (map result_of status.now.results) id (holder_in holders.old id) ≡ holder_in holders.old id }
     ensures kept { IfOk result (λ kept. kept ≡ claim.now) }
-    ensures ok { OnOk result (state.new ≡ with_adopted place claim.now status.now state.old) }
+    ensures ok { OnOk result (state.new ≡ with_adopted index claim.now status.now state.old) }
     ensures given { OnOk result ((id : DeviceId) → holder_in holders.new id ≡ given_to claim.now (map result_of status.now.results) id (holder_in holders.old id)) }
     ensures err { OnErr result (state.new ≡ state.old) }
     ensures same { OnErr result ((id : DeviceId) → holder_in holders.new id ≡ holder_in holders.old id) }
 {
     let kept = claim.copy(alloc)?;
-    adopt_held(alloc, state, holders.change(alloc)?, place, claim, status)?;
+    adopt_held(alloc, state, holders.change(alloc)?, index, claim, status)?;
     Ok(kept)
 }

@@ -52,7 +52,7 @@ use std::marker::Model;
 #[derive(Clone, Copy, Debug, PartialEq, Eq, Drop)]
 pub struct Done {
     /// Its index, from 1.
-    pub place: u64,
+    pub index: u64,
     /// What became of the command.
     pub outcome: Outcome,
 }
@@ -141,13 +141,13 @@ impl Ledger {
     }
 
     /// The entry at an index, from 1.
-    pub fn entry(&self, place: u64) -> Option<&Entry>
-        ensures { option_copied result ≡ entry_at self.now.entries place }
+    pub fn entry(&self, index: u64) -> Option<&Entry>
+        ensures { option_copied result ≡ entry_at self.now.entries index }
     {
-        if place == 0 {
+        if index == 0 {
             return None;
         }
-        self.entries.get((place - 1) as usize)
+        self.entries.get((index - 1) as usize)
     }
 
     /// The state of a job after its entries.
@@ -172,7 +172,7 @@ impl Ledger {
     ) -> Result<Done, LedgerError>
         requires job_state { allows (job_state_of self.old.entries job) (Applied ready mode) ≡ true }
         ensures ok { OnOk result (self.new ≡ appended self.old job (application (state_of self.old.entries) ready mode)) }
-        ensures place { IfOk result (λ done. done.place ≡ length self.new.entries) }
+        ensures index { IfOk result (λ done. done.index ≡ length self.new.entries) }
         ensures outcome { IfOk result (λ done. done.outcome ≡ outcome_of (application (state_of self.old.entries) ready mode)) }
         ensures legal { Legal self.new.entries }
         ensures full { (n : ℕ) → IsErrOf result (LedgerError.Full n) → (length self.old.entries ≡ n) × (self.old.limit ≤ n) }
@@ -194,7 +194,7 @@ impl Ledger {
     pub fn delete(&mut self, alloc: Global, job: u64, target: &Target) -> Result<Done, LedgerError>
         requires job_state { allows (job_state_of self.old.entries job) (Deleted target.now) ≡ true }
         ensures ok { OnOk result (self.new ≡ appended self.old job (deletion (state_of self.old.entries) target.now)) }
-        ensures place { IfOk result (λ done. done.place ≡ length self.new.entries) }
+        ensures index { IfOk result (λ done. done.index ≡ length self.new.entries) }
         ensures outcome { IfOk result (λ done. done.outcome ≡ outcome_of (deletion (state_of self.old.entries) target.now)) }
         ensures legal { Legal self.new.entries }
         ensures full { (n : ℕ) → IsErrOf result (LedgerError.Full n) → (length self.old.entries ≡ n) × (self.old.limit ≤ n) }
@@ -215,7 +215,7 @@ impl Ledger {
     pub fn deny(&mut self, job: u64, error: FieldError) -> Result<Done, LedgerError>
         requires { allows (job_state_of self.old.entries job) (Denied (Invalid error) refusal.Invalid) ≡ true }
         ensures ok { OnOk result (self.new ≡ appended self.old job (Denied (Invalid error) refusal.Invalid)) }
-        ensures place { IfOk result (λ done. done.place ≡ length self.new.entries) }
+        ensures index { IfOk result (λ done. done.index ≡ length self.new.entries) }
         ensures outcome { IfOk result (λ done. done.outcome ≡ Outcome.Denied) }
         ensures legal { Legal self.new.entries }
         ensures full { (n : ℕ) → IsErrOf result (LedgerError.Full n) → (length self.old.entries ≡ n) × (self.old.limit ≤ n) }
@@ -269,7 +269,7 @@ impl Ledger {
         requires job_state { may_try (job_state_of self.old.entries job) ≡ true }
         requires plan { IsPlanned self.old.entries pod.now plan.now }
         ensures ok { OnOk result (self.new ≡ appended self.old job (reservation (state_of self.old.entries) pod.now plan.now)) }
-        ensures place { IfOk result (λ done. done.place ≡ length self.new.entries) }
+        ensures index { IfOk result (λ done. done.index ≡ length self.new.entries) }
         ensures outcome { IfOk result (λ done. done.outcome ≡ outcome_of (reservation (state_of self.old.entries) pod.now plan.now)) }
         ensures legal { Legal self.new.entries }
         ensures full { (n : ℕ) → IsErrOf result (LedgerError.Full n) → (length self.old.entries ≡ n) × (self.old.limit ≤ n) }
@@ -296,7 +296,7 @@ impl Ledger {
         requires job_state { has_reserved (job_state_of self.old.entries job) ≡ true }
         requires step { (had : ℕ) × IsNextUse (state_of self.old.entries) pod.now job claim.now had }
         ensures ok { OnOk result (self.new ≡ appended self.old job (status_event (state_of self.old.entries) pod.now claim.now)) }
-        ensures place { IfOk result (λ done. done.place ≡ length self.new.entries) }
+        ensures index { IfOk result (λ done. done.index ≡ length self.new.entries) }
         ensures outcome { IfOk result (λ done. done.outcome ≡ outcome_of (status_event (state_of self.old.entries) pod.now claim.now)) }
         ensures legal { Legal self.new.entries }
         ensures full { (n : ℕ) → IsErrOf result (LedgerError.Full n) → (length self.old.entries ≡ n) × (self.old.limit ≤ n) }
@@ -317,19 +317,19 @@ impl Ledger {
         requires job_state { is_conflicted (job_state_of self.old.entries job) ≡ true }
         requires step { MayUnreserve (state_of self.old.entries) pod.now job }
         ensures ok { OnOk result (self.new ≡ appended self.old job (Unreserved pod.now)) }
-        ensures place { IfOk result (λ done. done.place ≡ length self.new.entries) }
+        ensures index { IfOk result (λ done. done.index ≡ length self.new.entries) }
         ensures outcome { IfOk result (λ done. done.outcome ≡ outcome_of (Unreserved pod.now)) }
         ensures legal { Legal self.new.entries }
         ensures full { (n : ℕ) → IsErrOf result (LedgerError.Full n) → (length self.old.entries ≡ n) × (self.old.limit ≤ n) }
         ensures err { OnErr result (self.new ≡ self.old) }
     {
         one_holder();
-        let place = make_room(&mut self.entries, &mut self.stands, self.limit, job)?;
-        let pod = free(alloc, &mut self.state, &mut self.holders, place, pod)?;
+        let index = make_room(&mut self.entries, &mut self.stands, self.limit, job)?;
+        let pod = free(alloc, &mut self.state, &mut self.holders, index, pod)?;
         let event = Event::Unreserved(pod);
         append(&mut self.entries, &mut self.stands, job, event);
         Ok(Done {
-            place,
+            index,
             outcome: Outcome::Made,
         })
     }
@@ -339,18 +339,18 @@ impl Ledger {
         requires job_state { has_reserved (job_state_of self.old.entries job) ≡ true }
         requires step { MayBind (state_of self.old.entries) pod.now job (taken_node (state_of self.old.entries) pod.now) }
         ensures ok { OnOk result (self.new ≡ appended self.old job (Bound pod.now (taken_node (state_of self.old.entries) pod.now))) }
-        ensures place { IfOk result (λ done. done.place ≡ length self.new.entries) }
+        ensures index { IfOk result (λ done. done.index ≡ length self.new.entries) }
         ensures outcome { IfOk result (λ done. done.outcome ≡ outcome_of (Bound pod.now (taken_node (state_of self.old.entries) pod.now))) }
         ensures legal { Legal self.new.entries }
         ensures full { (n : ℕ) → IsErrOf result (LedgerError.Full n) → (length self.old.entries ≡ n) × (self.old.limit ≤ n) }
         ensures err { OnErr result (self.new ≡ self.old) }
     {
-        let place = make_room(&mut self.entries, &mut self.stands, self.limit, job)?;
+        let index = make_room(&mut self.entries, &mut self.stands, self.limit, job)?;
         let (pod, node) = bind(alloc, &mut self.state, pod)?;
         let event = Event::Bound { pod, node };
         append(&mut self.entries, &mut self.stands, job, event);
         Ok(Done {
-            place,
+            index,
             outcome: Outcome::Made,
         })
     }
@@ -366,18 +366,18 @@ impl Ledger {
         requires job_state { may_try (job_state_of self.old.entries job) ≡ true }
         requires verdict { MayJudge self.old.entries pod.now verdict }
         ensures ok { OnOk result (self.new ≡ appended self.old job (VerdictGiven pod.now verdict)) }
-        ensures place { IfOk result (λ done. done.place ≡ length self.new.entries) }
+        ensures index { IfOk result (λ done. done.index ≡ length self.new.entries) }
         ensures outcome { IfOk result (λ done. done.outcome ≡ outcome_of (VerdictGiven pod.now verdict)) }
         ensures legal { Legal self.new.entries }
         ensures full { (n : ℕ) → IsErrOf result (LedgerError.Full n) → (length self.old.entries ≡ n) × (self.old.limit ≤ n) }
         ensures err { OnErr result (self.new ≡ self.old) }
     {
-        let place = make_room(&mut self.entries, &mut self.stands, self.limit, job)?;
+        let index = make_room(&mut self.entries, &mut self.stands, self.limit, job)?;
         let pod = pod.copy(alloc)?;
         let event = Event::VerdictGiven { pod, verdict };
         append(&mut self.entries, &mut self.stands, job, event);
         Ok(Done {
-            place,
+            index,
             outcome: Outcome::Made,
         })
     }
@@ -391,19 +391,19 @@ impl Ledger {
     ) -> Result<Done, LedgerError>
         requires job_state { has_failed (job_state_of self.old.entries job) ≡ true }
         ensures ok { OnOk result (self.new ≡ appended self.old job (Contended pod.now (failures (job_state_of self.old.entries job)))) }
-        ensures place { IfOk result (λ done. done.place ≡ length self.new.entries) }
+        ensures index { IfOk result (λ done. done.index ≡ length self.new.entries) }
         ensures outcome { IfOk result (λ done. done.outcome ≡ outcome_of (Contended pod.now (failures (job_state_of self.old.entries job)))) }
         ensures legal { Legal self.new.entries }
         ensures full { (n : ℕ) → IsErrOf result (LedgerError.Full n) → (length self.old.entries ≡ n) × (self.old.limit ≤ n) }
         ensures err { OnErr result (self.new ≡ self.old) }
     {
         let attempts = failures(self.job_state(job));
-        let place = make_room(&mut self.entries, &mut self.stands, self.limit, job)?;
+        let index = make_room(&mut self.entries, &mut self.stands, self.limit, job)?;
         let pod = pod.copy(alloc)?;
         let event = Event::Contended { pod, attempts };
         append(&mut self.entries, &mut self.stands, job, event);
         Ok(Done {
-            place,
+            index,
             outcome: Outcome::Made,
         })
     }
@@ -415,7 +415,7 @@ impl Ledger {
     pub fn release(&mut self, alloc: Global, job: u64, pod: &Key) -> Result<Done, LedgerError>
         requires { is_fresh (job_state_of self.old.entries job) ≡ true }
         ensures ok { OnOk result (self.new ≡ appended self.old job (release_of (state_of self.old.entries) pod.now)) }
-        ensures place { IfOk result (λ done. done.place ≡ length self.new.entries) }
+        ensures index { IfOk result (λ done. done.index ≡ length self.new.entries) }
         ensures outcome { IfOk result (λ done. done.outcome ≡ outcome_of (release_of (state_of self.old.entries) pod.now)) }
         ensures legal { Legal self.new.entries }
         ensures full { (n : ℕ) → IsErrOf result (LedgerError.Full n) → (length self.old.entries ≡ n) × (self.old.limit ≤ n) }
@@ -444,7 +444,7 @@ impl Ledger {
     ) -> Result<Done, LedgerError>
         requires { is_fresh (job_state_of self.old.entries job) ≡ true }
         ensures ok { OnOk result (self.new ≡ appended self.old job (adoption (state_of self.old.entries) claim.now status)) }
-        ensures place { IfOk result (λ done. done.place ≡ length self.new.entries) }
+        ensures index { IfOk result (λ done. done.index ≡ length self.new.entries) }
         ensures outcome { IfOk result (λ done. done.outcome ≡ outcome_of (adoption (state_of self.old.entries) claim.now status)) }
         ensures legal { Legal self.new.entries }
         ensures full { (n : ℕ) → IsErrOf result (LedgerError.Full n) → (length self.old.entries ≡ n) × (self.old.limit ≤ n) }
@@ -472,14 +472,14 @@ impl Ledger {
         requires job_state { allows (job_state_of self.old.entries job) (Applied ready mode) ≡ true }
         requires applied { MayApply (state_of self.old.entries) ready mode }
         ensures ok { OnOk result (self.new ≡ appended self.old job (Applied ready mode)) }
-        ensures place { IfOk result (λ done. done.place ≡ length self.new.entries) }
+        ensures index { IfOk result (λ done. done.index ≡ length self.new.entries) }
         ensures outcome { IfOk result (λ done. done.outcome ≡ Outcome.Made) }
         ensures legal { Legal self.new.entries }
         ensures full { (n : ℕ) → IsErrOf result (LedgerError.Full n) → (length self.old.entries ≡ n) × (self.old.limit ≤ n) }
         ensures err { OnErr result (self.new ≡ self.old) }
     {
         let ReadyParts { object, kept } = ready.into_parts();
-        let place = put_object(
+        let index = put_object(
             alloc,
             &mut self.entries,
             &mut self.stands,
@@ -491,7 +491,7 @@ impl Ledger {
         let event = Event::Applied { object, mode };
         append(&mut self.entries, &mut self.stands, job, event);
         Ok(Done {
-            place,
+            index,
             outcome: Outcome::Made,
         })
     }
@@ -501,19 +501,19 @@ impl Ledger {
         requires job_state { allows (job_state_of self.old.entries job) (Deleted target.now) ≡ true }
         requires deleted { MayDelete (state_of self.old.entries) target.now }
         ensures ok { OnOk result (self.new ≡ appended self.old job (Deleted target.now)) }
-        ensures place { IfOk result (λ done. done.place ≡ length self.new.entries) }
+        ensures index { IfOk result (λ done. done.index ≡ length self.new.entries) }
         ensures outcome { IfOk result (λ done. done.outcome ≡ Outcome.Made) }
         ensures legal { Legal self.new.entries }
         ensures full { (n : ℕ) → IsErrOf result (LedgerError.Full n) → (length self.old.entries ≡ n) × (self.old.limit ≤ n) }
         ensures err { OnErr result (self.new ≡ self.old) }
     {
         one_holder();
-        let place = make_room(&mut self.entries, &mut self.stands, self.limit, job)?;
+        let index = make_room(&mut self.entries, &mut self.stands, self.limit, job)?;
         let target = remove(alloc, &mut self.state, &mut self.holders, target)?;
         let event = Event::Deleted(target);
         append(&mut self.entries, &mut self.stands, job, event);
         Ok(Done {
-            place,
+            index,
             outcome: Outcome::Made,
         })
     }
@@ -523,17 +523,17 @@ impl Ledger {
         requires job_state { allows (job_state_of self.old.entries job) (Denied command refusal) ≡ true }
         requires due { MayDeny (state_of self.old.entries) command refusal }
         ensures ok { OnOk result (self.new ≡ appended self.old job (Denied command refusal)) }
-        ensures place { IfOk result (λ done. done.place ≡ length self.new.entries) }
+        ensures index { IfOk result (λ done. done.index ≡ length self.new.entries) }
         ensures outcome { IfOk result (λ done. done.outcome ≡ Outcome.Denied) }
         ensures legal { Legal self.new.entries }
         ensures full { (n : ℕ) → IsErrOf result (LedgerError.Full n) → (length self.old.entries ≡ n) × (self.old.limit ≤ n) }
         ensures err { OnErr result (self.new ≡ self.old) }
     {
-        let place = make_room(&mut self.entries, &mut self.stands, self.limit, job)?;
+        let index = make_room(&mut self.entries, &mut self.stands, self.limit, job)?;
         let event = Event::Denied { command, refusal };
         append(&mut self.entries, &mut self.stands, job, event);
         Ok(Done {
-            place,
+            index,
             outcome: Outcome::Denied,
         })
     }
@@ -550,7 +550,7 @@ impl Ledger {
         requires plan { IsPlanned self.old.entries pod.now plan.now }
         requires unrefused { first_refusal (state_of self.old.entries) (Schedule pod.now) ≡ None }
         ensures ok { OnOk result (self.new ≡ appended self.old job (reservation (state_of self.old.entries) pod.now plan.now)) }
-        ensures place { IfOk result (λ done. done.place ≡ length self.new.entries) }
+        ensures index { IfOk result (λ done. done.index ≡ length self.new.entries) }
         ensures outcome { IfOk result (λ done. done.outcome ≡ outcome_of (reservation (state_of self.old.entries) pod.now plan.now)) }
         ensures legal { Legal self.new.entries }
         ensures full { (n : ℕ) → IsErrOf result (LedgerError.Full n) → (length self.old.entries ≡ n) × (self.old.limit ≤ n) }
@@ -577,18 +577,18 @@ impl Ledger {
         requires job_state { may_try (job_state_of self.old.entries job) ≡ true }
         requires refused { MayRefuse self.old.entries pod.now plan.now why }
         ensures ok { OnOk result (self.new ≡ appended self.old job (Refused pod.now plan.now why)) }
-        ensures place { IfOk result (λ done. done.place ≡ length self.new.entries) }
+        ensures index { IfOk result (λ done. done.index ≡ length self.new.entries) }
         ensures outcome { IfOk result (λ done. done.outcome ≡ Outcome.Refused) }
         ensures legal { Legal self.new.entries }
         ensures full { (n : ℕ) → IsErrOf result (LedgerError.Full n) → (length self.old.entries ≡ n) × (self.old.limit ≤ n) }
         ensures err { OnErr result (self.new ≡ self.old) }
     {
-        let place = make_room(&mut self.entries, &mut self.stands, self.limit, job)?;
+        let index = make_room(&mut self.entries, &mut self.stands, self.limit, job)?;
         let (pod, plan) = copies(alloc, pod, plan)?;
         let event = Event::Refused { pod, plan, why };
         append(&mut self.entries, &mut self.stands, job, event);
         Ok(Done {
-            place,
+            index,
             outcome: Outcome::Refused,
         })
     }
@@ -598,19 +598,19 @@ impl Ledger {
         requires job_state { may_try (job_state_of self.old.entries job) ≡ true }
         requires reserved { MayReserve self.old.entries pod.now plan.now }
         ensures ok { OnOk result (self.new ≡ appended self.old job (Reserved pod.now plan.now)) }
-        ensures place { IfOk result (λ done. done.place ≡ length self.new.entries) }
+        ensures index { IfOk result (λ done. done.index ≡ length self.new.entries) }
         ensures outcome { IfOk result (λ done. done.outcome ≡ Outcome.Made) }
         ensures legal { Legal self.new.entries }
         ensures full { (n : ℕ) → IsErrOf result (LedgerError.Full n) → (length self.old.entries ≡ n) × (self.old.limit ≤ n) }
         ensures err { OnErr result (self.new ≡ self.old) }
     {
         one_holder();
-        let place = make_room(&mut self.entries, &mut self.stands, self.limit, job)?;
+        let index = make_room(&mut self.entries, &mut self.stands, self.limit, job)?;
         let (pod, plan) = reserve(alloc, &mut self.state, &mut self.holders, job, pod, plan)?;
         let event = Event::Reserved { pod, plan };
         append(&mut self.entries, &mut self.stands, job, event);
         Ok(Done {
-            place,
+            index,
             outcome: Outcome::Made,
         })
     }
@@ -626,17 +626,17 @@ impl Ledger {
         requires job_state { has_reserved (job_state_of self.old.entries job) ≡ true }
         requires step { MayWrite (state_of self.old.entries) pod.now job claim.now (version_of (state_of self.old.entries) claim.now) }
         ensures ok { OnOk result (self.new ≡ appended self.old job (Wrote pod.now claim.now (version_of (state_of self.old.entries) claim.now))) }
-        ensures place { IfOk result (λ done. done.place ≡ length self.new.entries) }
+        ensures index { IfOk result (λ done. done.index ≡ length self.new.entries) }
         ensures outcome { IfOk result (λ done. done.outcome ≡ Outcome.Made) }
         ensures legal { Legal self.new.entries }
         ensures full { (n : ℕ) → IsErrOf result (LedgerError.Full n) → (length self.old.entries ≡ n) × (self.old.limit ≤ n) }
         ensures err { OnErr result (self.new ≡ self.old) }
     {
-        let place = make_room(&mut self.entries, &mut self.stands, self.limit, job)?;
+        let index = make_room(&mut self.entries, &mut self.stands, self.limit, job)?;
         let kept_pod = pod.copy(alloc)?;
         let kept_claim = claim.copy(alloc)?;
         let seen = version(&self.state, claim);
-        self.state.write(alloc, place, pod, claim)?;
+        self.state.write(alloc, index, pod, claim)?;
         let event = Event::Wrote {
             pod: kept_pod,
             claim: kept_claim,
@@ -644,7 +644,7 @@ impl Ledger {
         };
         append(&mut self.entries, &mut self.stands, job, event);
         Ok(Done {
-            place,
+            index,
             outcome: Outcome::Made,
         })
     }
@@ -662,13 +662,13 @@ impl Ledger {
         requires job_state { has_reserved (job_state_of self.old.entries job) ≡ true }
         requires differ { MayConflict (state_of self.old.entries) pod.now job claim.now had now }
         ensures ok { OnOk result (self.new ≡ appended self.old job (Conflict pod.now claim.now had now)) }
-        ensures place { IfOk result (λ done. done.place ≡ length self.new.entries) }
+        ensures index { IfOk result (λ done. done.index ≡ length self.new.entries) }
         ensures outcome { IfOk result (λ done. done.outcome ≡ Outcome.Conflicted) }
         ensures legal { Legal self.new.entries }
         ensures full { (n : ℕ) → IsErrOf result (LedgerError.Full n) → (length self.old.entries ≡ n) × (self.old.limit ≤ n) }
         ensures err { OnErr result (self.new ≡ self.old) }
     {
-        let place = make_room(&mut self.entries, &mut self.stands, self.limit, job)?;
+        let index = make_room(&mut self.entries, &mut self.stands, self.limit, job)?;
         let pod = pod.copy(alloc)?;
         let claim = claim.copy(alloc)?;
         let event = Event::Conflict {
@@ -679,7 +679,7 @@ impl Ledger {
         };
         append(&mut self.entries, &mut self.stands, job, event);
         Ok(Done {
-            place,
+            index,
             outcome: Outcome::Conflicted,
         })
     }
@@ -689,19 +689,19 @@ impl Ledger {
         requires job_state { is_fresh (job_state_of self.old.entries job) ≡ true }
         requires released { MayRelease (state_of self.old.entries) pod.now }
         ensures ok { OnOk result (self.new ≡ appended self.old job (Released pod.now)) }
-        ensures place { IfOk result (λ done. done.place ≡ length self.new.entries) }
+        ensures index { IfOk result (λ done. done.index ≡ length self.new.entries) }
         ensures outcome { IfOk result (λ done. done.outcome ≡ Outcome.Made) }
         ensures legal { Legal self.new.entries }
         ensures full { (n : ℕ) → IsErrOf result (LedgerError.Full n) → (length self.old.entries ≡ n) × (self.old.limit ≤ n) }
         ensures err { OnErr result (self.new ≡ self.old) }
     {
         one_holder();
-        let place = make_room(&mut self.entries, &mut self.stands, self.limit, job)?;
-        let pod = free(alloc, &mut self.state, &mut self.holders, place, pod)?;
+        let index = make_room(&mut self.entries, &mut self.stands, self.limit, job)?;
+        let pod = free(alloc, &mut self.state, &mut self.holders, index, pod)?;
         let event = Event::Released(pod);
         append(&mut self.entries, &mut self.stands, job, event);
         Ok(Done {
-            place,
+            index,
             outcome: Outcome::Made,
         })
     }
@@ -717,7 +717,7 @@ impl Ledger {
         requires job_state { is_fresh (job_state_of self.old.entries job) ≡ true }
         requires unrefused { first_refusal (state_of self.old.entries) (Adopt claim.now status) ≡ None }
         ensures ok { OnOk result (self.new ≡ appended self.old job (adoption (state_of self.old.entries) claim.now status)) }
-        ensures place { IfOk result (λ done. done.place ≡ length self.new.entries) }
+        ensures index { IfOk result (λ done. done.index ≡ length self.new.entries) }
         ensures outcome { IfOk result (λ done. done.outcome ≡ outcome_of (adoption (state_of self.old.entries) claim.now status)) }
         ensures legal { Legal self.new.entries }
         ensures full { (n : ℕ) → IsErrOf result (LedgerError.Full n) → (length self.old.entries ≡ n) × (self.old.limit ≤ n) }
@@ -744,26 +744,26 @@ impl Ledger {
         requires job_state { is_fresh (job_state_of self.old.entries job) ≡ true }
         requires adopted { MayAdopt (state_of self.old.entries) claim.now status }
         ensures ok { OnOk result (self.new ≡ appended self.old job (Adopted claim.now status)) }
-        ensures place { IfOk result (λ done. done.place ≡ length self.new.entries) }
+        ensures index { IfOk result (λ done. done.index ≡ length self.new.entries) }
         ensures outcome { IfOk result (λ done. done.outcome ≡ Outcome.Made) }
         ensures legal { Legal self.new.entries }
         ensures full { (n : ℕ) → IsErrOf result (LedgerError.Full n) → (length self.old.entries ≡ n) × (self.old.limit ≤ n) }
         ensures err { OnErr result (self.new ≡ self.old) }
     {
         one_holder();
-        let place = make_room(&mut self.entries, &mut self.stands, self.limit, job)?;
+        let index = make_room(&mut self.entries, &mut self.stands, self.limit, job)?;
         let claim = adopt(
             alloc,
             &mut self.state,
             &mut self.holders,
-            place,
+            index,
             claim,
             &status,
         )?;
         let event = Event::Adopted { claim, status };
         append(&mut self.entries, &mut self.stands, job, event);
         Ok(Done {
-            place,
+            index,
             outcome: Outcome::Made,
         })
     }
@@ -793,14 +793,14 @@ fn put_object(
     ensures row { OnOk result (is_some (at stands.new job) ≡ true) }
     ensures room { OnOk result (vec_len entries.new < vec_capacity entries.new) }
     ensures within { OnOk result (length entries.old.items < limit) }
-    ensures place { IfOk result (λ place. place ≡ length entries.old.items + 1) }
+    ensures index { IfOk result (λ index. index ≡ length entries.old.items + 1) }
     ensures ok { OnOk result (state.new ≡ with_object (length entries.old.items + 1) (object_of kept) state.old) }
     ensures full { (n : ℕ) → IsErrOf result (LedgerError.Full n) → (length entries.old.items ≡ n) × (limit ≤ n) }
     ensures err { OnErr result (state.new ≡ state.old) }
 {
-    let place = make_room(entries, stands, limit, job)?;
-    state.put(alloc, place, kept)?;
-    Ok(place)
+    let index = make_room(entries, stands, limit, job)?;
+    state.put(alloc, index, kept)?;
+    Ok(index)
 }
 
 /// The version of a claim that is there.

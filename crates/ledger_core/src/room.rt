@@ -25,7 +25,7 @@ pub fn make_room(
     ensures row { OnOk result (is_some (at stands.new job) ≡ true) }
     ensures room { OnOk result (vec_len entries.new < vec_capacity entries.new) }
     ensures within { OnOk result (length entries.old.items < limit) }
-    ensures place { IfOk result (λ place. place ≡ length entries.old.items + 1) }
+    ensures index { IfOk result (λ index. index ≡ length entries.old.items + 1) }
     ensures full { (n : ℕ) → IsErrOf result (LedgerError.Full n) → (length entries.old.items ≡ n) × (limit ≤ n) }
 {
     let len = entries.len() as u64;
@@ -46,8 +46,8 @@ pub fn append(entries: &mut Vec<Entry>, stands: &mut JobStates, job: u64, event:
     ensures entries { entries.new.items ≡ entries.old.items ++ record { job = job; event = event } ∷ [] }
     ensures stands { (j : ℕ) → job_state_in stands.new j ≡ (if job == j then job_state_after (job_state_in stands.old job) (length entries.old.items + 1) event else job_state_in stands.old j) }
 {
-    let place = entries.len() as u64 + 1;
-    let job_state = job_state_after(job_state_in(stands, job), place, &event);
+    let index = entries.len() as u64 + 1;
+    let job_state = job_state_after(job_state_in(stands, job), index, &event);
     set_job_state(stands, job, job_state);
     entries.push_reserved(Entry { job, event });
 }
@@ -96,9 +96,9 @@ pub fn failures(job_state: JobState) -> u64
 }
 
 /// The state of a job after an event, from its state before.
-fn job_state_after(job_state: JobState, place: u64, event: &Event) -> JobState
+fn job_state_after(job_state: JobState, index: u64, event: &Event) -> JobState
     requires { failures job_state < 2 ^ 48 }
-    ensures { result ≡ job_state_after job_state place event.now }
+    ensures { result ≡ job_state_after job_state index event.now }
 {
     match event {
         Event::Applied { .. }
@@ -108,7 +108,7 @@ fn job_state_after(job_state: JobState, place: u64, event: &Event) -> JobState
         | Event::Contended { .. }
         | Event::Released(_)
         | Event::Adopted { .. }
-        | Event::Denied { .. } => JobState::Ended(place),
+        | Event::Denied { .. } => JobState::Ended(index),
         Event::Reserved { .. } | Event::Wrote { .. } => JobState::Reserved(failures(job_state)),
         Event::Conflict { .. } => JobState::Conflicted(failures(job_state)),
         Event::Refused { .. } | Event::Unreserved(_) => JobState::Failed(failures(job_state) + 1),

@@ -120,7 +120,7 @@ command_stops : LinesLaw → (options : ReplayOptions) (left left_now before now
     → Standing options before now done old → TellsFirst options left (done ++ (at, c) ∷ []) → IsSound new.ledger → Stops options at c old new now next s → Ends options left left_now before next s
 command_stops lines options left left_now before now next done at c old new status.Done standing tells sound stops = absurd stops
 command_stops lines options left left_now before now next done at c old new status.Usage standing tells sound stops = absurd stops
-command_stops lines options left left_now before now next done at c old new (status.Document place why) standing tells sound stops = absurd stops
+command_stops lines options left left_now before now next done at c old new (status.Document index why) standing tells sound stops = absurd stops
 command_stops lines options left left_now before now next done at c old new status.Memory standing tells sound (inl kept) =
     short_lines options left before now next done old standing (tells_before options left done ((at, c) ∷ []) tells) kept
 command_stops lines options left left_now before now next done at c old new status.Memory standing tells sound (inr short) =
@@ -130,7 +130,7 @@ command_stops lines options left left_now before now next done at c old new stat
     short_command lines options left before now next done at c old new standing tells sound short
 command_stops lines options left left_now before now next done at c old new (status.Limit n) standing tells sound met =
     inl (full_command lines options left before now next done at c old new n standing tells sound met)
-command_stops lines options left left_now before now next done at c old new (status.NotYet place form) standing tells sound (same, undone) = record {
+command_stops lines options left left_now before now next done at c old new (status.NotYet index form) standing tells sound (same, undone) = record {
   done = done;
   command = c;
   script = subst (λ (k : ℕ). TellsFirst options left (done ++ (k, c) ∷ [])) (sym same) tells;
@@ -145,7 +145,7 @@ unread_ends : (options : ReplayOptions) (left left_now before now next : Option 
     → Standing options before now done old → TellsDocument options left done at document → Unread options.attempts at document now next s → Ends options left left_now before next s
 unread_ends options left left_now before now next done at document old status.Done standing tells unread = absurd unread
 unread_ends options left left_now before now next done at document old status.Usage standing tells unread = absurd unread
-unread_ends options left left_now before now next done at document old (status.Document place why) standing tells unread = record {
+unread_ends options left left_now before now next done at document old (status.Document index why) standing tells unread = record {
   done = done;
   script = λ bytes e. let t = tells bytes e in t.1 ∙ document_is_none done at (reading options.attempts document) why t.0 unread.refused ∙ ap (λ (k : ℕ). record { commands = done; ending = Bad k why }) (sym unread.place_is);
   history = old.ledger.entries;
@@ -157,7 +157,7 @@ unread_ends options left left_now before now next done at document old status.Me
 unread_ends options left left_now before now next done at document old status.Read standing tells unread = absurd unread
 unread_ends options left left_now before now next done at document old status.Write standing tells unread = absurd unread
 unread_ends options left left_now before now next done at document old (status.Limit n) standing tells unread = absurd unread
-unread_ends options left left_now before now next done at document old (status.NotYet place form) standing tells unread = absurd unread
+unread_ends options left left_now before now next done at document old (status.NotYet index form) standing tells unread = absurd unread
 
 -- a document that wasn't done
 pub document_stops : LinesLaw → (options : ReplayOptions) (left left_now before now next : Option (List ℕ)) (done : List (ℕ × Given)) (at : ℕ) (document : List ℕ) (old new : Work) (s : Status)
@@ -208,7 +208,7 @@ memory_short options left now before written at work p = record {
 
 none_within : (attempts at : ℕ) (taken : List ℕ) → NoneWhole the_limits at taken → script_from attempts false at taken ≡ nothing Cut
 none_within attempts at taken (inl e) = ap (script_by attempts false) e
-none_within attempts at taken (inr (place, e)) = ap (script_by attempts false) e
+none_within attempts at taken (inr (index, e)) = ap (script_by attempts false) e
 
 -- an error of the input
 pub read_short : (options : ReplayOptions) (left left_now before written : Option (List ℕ)) (a : Split) (left_a : Option (List ℕ)) (work : Work) → Progress options left (remaining a left_a) before written a.at work

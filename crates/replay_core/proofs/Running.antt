@@ -95,11 +95,11 @@ run_more options done at c old new run count same sound ran =
     }
 
 -- a job that had no entry and has ended has one
-has_entry : (before seg : List Entry) (job place : ℕ) → job_state_of before job ≡ Fresh → job_state_of (before ++ seg) job ≡ Ended place → 1 ≤ length seg
-has_entry before [] job place fresh ended =
-    let e : Fresh ≡ Ended place = sym fresh ∙ ap (λ (h : List Entry). job_state_of h job) (sym (append-nil before)) ∙ ended in
+has_entry : (before seg : List Entry) (job index : ℕ) → job_state_of before job ≡ Fresh → job_state_of (before ++ seg) job ≡ Ended index → 1 ≤ length seg
+has_entry before [] job index fresh ended =
+    let e : Fresh ≡ Ended index = sym fresh ∙ ap (λ (h : List Entry). job_state_of h job) (sym (append-nil before)) ∙ ended in
     absurd (cc)
-has_entry before (e ∷ es) job place fresh ended = omega arith
+has_entry before (e ∷ es) job index fresh ended = omega arith
 
 -- after a command the next may be done
 pub ready_more : StandLaw → (options : ReplayOptions) (c : Given) (old new : Work) (before after : Option (List ℕ)) → IsReady old → Did options c old new before after → IsReady new
@@ -107,7 +107,7 @@ ready_more stands options c old new before after r did =
     let ran = did.ran in
     let grown : new.ledger.entries ≡ old.ledger.entries ++ ran.segment = ap (λ (h : History). h.entries) ran.is in
     let same : new.ledger.limit ≡ old.ledger.limit = ap (λ (h : History). h.limit) ran.is in
-    let some = has_entry old.ledger.entries ran.segment (old.commands + 1) ran.run.run.place (r.fresh (old.commands + 1) (omega arith)) ran.run.run.ended in
+    let some = has_entry old.ledger.entries ran.segment (old.commands + 1) ran.run.run.index (r.fresh (old.commands + 1) (omega arith)) ran.run.run.ended in
     let longer : length new.ledger.entries ≡ length old.ledger.entries + length ran.segment = ap (λ (h : List Entry). length h) grown ∙ length-append old.ledger.entries ran.segment in
     record {
       fresh = λ job above.

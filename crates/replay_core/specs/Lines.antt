@@ -78,12 +78,12 @@ PrintedShort o c old new before after = RanShort o c old new before after ⊎ Me
 abbrev pub Stops : ReplayOptions → ℕ → Given → Work → Work → Option (List ℕ) → Option (List ℕ) → Status → Type 0
 Stops o at c old new before after status.Done = ⊥
 Stops o at c old new before after status.Usage = ⊥
-Stops o at c old new before after (status.Document place why) = ⊥
+Stops o at c old new before after (status.Document index why) = ⊥
 Stops o at c old new before after status.Memory = Appends before after [] ⊎ PrintedShort o c old new before after
 Stops o at c old new before after status.Read = ⊥
 Stops o at c old new before after status.Write = PrintedShort o c old new before after
 Stops o at c old new before after (status.Limit n) = MetPrinted o c old new before after n
-Stops o at c old new before after (status.NotYet place form) = (place ≡ at) × Undone form c old before after
+Stops o at c old new before after (status.NotYet index form) = (index ≡ at) × Undone form c old before after
 
 -- how printing the summary ends
 abbrev pub Summarized : Work → Option (List ℕ) → Option (List ℕ) → Status → Type 0

@@ -34,8 +34,8 @@ DocumentDid o at document old new before after =
     (cs : List Given) × (reading o.attempts document ≡ readings.Asks cs) × StandsOn o (at_each at cs) old new before after
 
 -- the document isn't commands
-pub record IsRefused (attempts at place : ℕ) (why : Rejection) (document : List ℕ) (before after : Option (List ℕ)) : Type 0 where
-  pub place_is : place ≡ at
+pub record IsRefused (attempts at index : ℕ) (why : Rejection) (document : List ℕ) (before after : Option (List ℕ)) : Type 0 where
+  pub place_is : index ≡ at
   pub refused : rejection_of (reading attempts document) ≡ Some why
   pub printed : Appends before after []
 
@@ -43,12 +43,12 @@ pub record IsRefused (attempts at place : ℕ) (why : Rejection) (document : Lis
 abbrev pub Unread : ℕ → ℕ → List ℕ → Option (List ℕ) → Option (List ℕ) → Status → Type 0
 Unread attempts at document before after status.Done = ⊥
 Unread attempts at document before after status.Usage = ⊥
-Unread attempts at document before after (status.Document place why) = IsRefused attempts at place why document before after
+Unread attempts at document before after (status.Document index why) = IsRefused attempts at index why document before after
 Unread attempts at document before after status.Memory = Appends before after []
 Unread attempts at document before after status.Read = ⊥
 Unread attempts at document before after status.Write = ⊥
 Unread attempts at document before after (status.Limit n) = ⊥
-Unread attempts at document before after (status.NotYet place form) = ⊥
+Unread attempts at document before after (status.NotYet index form) = ⊥
 
 -- why a document wasn't done
 abbrev pub DocumentStops : ReplayOptions → ℕ → List ℕ → Work → Work → Option (List ℕ) → Option (List ℕ) → Status → Type 0

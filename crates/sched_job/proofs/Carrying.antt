@@ -90,7 +90,7 @@ Far c pod s p before job_state.Fresh = length before ≤ c.from
 Far c pod s p before (job_state.Reserved k) = HasReserved c pod s p before
 Far c pod s p before (job_state.Conflicted k) = ⊥
 Far c pod s p before (job_state.Failed k) = ⊥
-Far c pod s p before (job_state.Ended place) = HasEnded c pod s p before
+Far c pod s p before (job_state.Ended index) = HasEnded c pod s p before
 
 -- all that is said of an entry of the job
 record IsNext (c : Run) (pod : Key) (attempts : ℕ) (s : State) (p : PodState) (before : List Entry) (ev : Event) : Type 0 where
@@ -137,7 +137,7 @@ reserves laws c pod attempts s p before q plan a len same =
     laws.state before (own c (Reserved pod plan)) ∙ ap (λ (t : State). with_reserved c.job pod plan t) (a.begun len) in
     let made : HasReserved c pod s p (before ++ own c (Reserved pod plan) ∷ []) = record {
       plan = plan;
-      is = record { place = at; holds = true_pod; found = subst (λ (k : Key). PlanBy s k c.budget plan) same by_q };
+      is = record { index = at; holds = true_pod; found = subst (λ (k : Key). PlanBy s k c.budget plan) same by_q };
       prefix = before;
       len = len;
       done = [];
@@ -157,7 +157,7 @@ judges c pod attempts s p before q verdict a len same =
     let by_q : VerdictBy s q c.budget verdict = subst (λ (t : State). VerdictBy t q c.budget verdict) here a.kept.timed.by in
     let made : HasEnded c pod s p (before ++ own c (VerdictGiven pod verdict) ∷ []) = record {
       choice = Judge verdict;
-      is = record { place = at; holds = subst (λ (k : Key). VerdictTrue s k verdict) same true_q; found = subst (λ (k : Key). VerdictBy s k c.budget verdict) same by_q };
+      is = record { index = at; holds = subst (λ (k : Key). VerdictTrue s k verdict) same true_q; found = subst (λ (k : Key). VerdictBy s k c.budget verdict) same by_q };
       prefix = before;
       len = len;
       added = own c (VerdictGiven pod verdict) ∷ [];
@@ -189,23 +189,23 @@ never_denied c pod attempts s p before command refusal a len =
     let d : MayDeny (state_of before) command refusal = a.stands in
     not_denied s pod p refusal a.idle (subst (λ (x : Asked). MayDeny s x refusal) is (subst (λ (t : State). MayDeny t command refusal) (a.begun len) d))
 
-fresh_far : Laws → (c : Run) (pod : Key) (attempts : ℕ) (s : State) (p : PodState) (before : List Entry) (place : ℕ) (ev : Event) → IsNext c pod attempts s p before ev → length before ≤ c.from → allows job_state.Fresh ev ≡ true
-    → Far c pod s p (before ++ own c ev ∷ []) (job_state_after job_state.Fresh place ev)
-fresh_far laws c pod attempts s p before place (Applied object mode) a le may = let e = a.kept.of_command ∙ a.command in absurd cc
-fresh_far laws c pod attempts s p before place (Deleted target) a le may = let e = a.kept.of_command ∙ a.command in absurd cc
-fresh_far laws c pod attempts s p before place (Reserved q plan) a le may =
+fresh_far : Laws → (c : Run) (pod : Key) (attempts : ℕ) (s : State) (p : PodState) (before : List Entry) (index : ℕ) (ev : Event) → IsNext c pod attempts s p before ev → length before ≤ c.from → allows job_state.Fresh ev ≡ true
+    → Far c pod s p (before ++ own c ev ∷ []) (job_state_after job_state.Fresh index ev)
+fresh_far laws c pod attempts s p before index (Applied object mode) a le may = let e = a.kept.of_command ∙ a.command in absurd cc
+fresh_far laws c pod attempts s p before index (Deleted target) a le may = let e = a.kept.of_command ∙ a.command in absurd cc
+fresh_far laws c pod attempts s p before index (Reserved q plan) a le may =
     reserves laws c pod attempts s p before q plan a (let l = a.kept.after in omega arith) (pod_is q pod (attempts_of c.command) attempts (a.kept.of_command ∙ a.command))
-fresh_far laws c pod attempts s p before place (Refused q plan why) a le may = let e = a.fine in absurd cc
-fresh_far laws c pod attempts s p before place (Wrote q claim seen) a le may = absurd cc
-fresh_far laws c pod attempts s p before place (Conflict q claim had now) a le may = absurd cc
-fresh_far laws c pod attempts s p before place (Unreserved q) a le may = absurd cc
-fresh_far laws c pod attempts s p before place (Bound q node) a le may = absurd cc
-fresh_far laws c pod attempts s p before place (VerdictGiven q verdict) a le may =
+fresh_far laws c pod attempts s p before index (Refused q plan why) a le may = let e = a.fine in absurd cc
+fresh_far laws c pod attempts s p before index (Wrote q claim seen) a le may = absurd cc
+fresh_far laws c pod attempts s p before index (Conflict q claim had now) a le may = absurd cc
+fresh_far laws c pod attempts s p before index (Unreserved q) a le may = absurd cc
+fresh_far laws c pod attempts s p before index (Bound q node) a le may = absurd cc
+fresh_far laws c pod attempts s p before index (VerdictGiven q verdict) a le may =
     judges c pod attempts s p before q verdict a (let l = a.kept.after in omega arith) (pod_is q pod (attempts_of c.command) attempts (a.kept.of_command ∙ a.command))
-fresh_far laws c pod attempts s p before place (Contended q n) a le may = let e = a.fine in absurd cc
-fresh_far laws c pod attempts s p before place (Released q) a le may = let e = a.kept.of_command ∙ a.command in absurd cc
-fresh_far laws c pod attempts s p before place (Adopted claim status) a le may = let e = a.kept.of_command ∙ a.command in absurd cc
-fresh_far laws c pod attempts s p before place (Denied command refusal) a le may = absurd (never_denied c pod attempts s p before command refusal a (let l = a.kept.after in omega arith))
+fresh_far laws c pod attempts s p before index (Contended q n) a le may = let e = a.fine in absurd cc
+fresh_far laws c pod attempts s p before index (Released q) a le may = let e = a.kept.of_command ∙ a.command in absurd cc
+fresh_far laws c pod attempts s p before index (Adopted claim status) a le may = let e = a.kept.of_command ∙ a.command in absurd cc
+fresh_far laws c pod attempts s p before index (Denied command refusal) a le may = absurd (never_denied c pod attempts s p before command refusal a (let l = a.kept.after in omega arith))
 
 -- ---- the entries behind a reservation
 
@@ -235,7 +235,7 @@ one_pod s pod p q e f = some_pod p q (sym e ∙ f)
 record IsFirstLeft (s : State) (pod : Key) (job : ℕ) (node : List ℕ) (claim : Key) (left : List Key) : Type 0 where
   rest : List Key
   is : left ≡ claim ∷ rest
-  goes : (place : ℕ) → GoesOn (with_written place pod claim s) pod job node rest
+  goes : (index : ℕ) → GoesOn (with_written index pod claim s) pod job node rest
 
 next_write : (s : State) (pod : Key) (job : ℕ) (node : List ℕ) (claim : Key) (seen : ℕ) (left : List Key) → GoesOn s pod job node left → MayWrite s pod job claim seen → IsFirstLeft s pod job node claim left
 next_write s pod job node claim seen [] goes may =
@@ -248,7 +248,7 @@ next_write s pod job node claim seen (k ∷ ks) goes may =
     let next : find (λ k. not (has_written s pod k)) (claims_of goes.0.state) ≡ Some claim =
     subst (λ (x : PodState). find (λ k. not (has_written s pod k)) (claims_of x) ≡ Some claim) one may.next in
     let same : k ≡ claim = some_key k claim (find (λ k. not (has_written s pod k)) (claims_of goes.0.state)) goes.0.next next in
-    record { rest = ks; is = ap (λ (x : Key). x ∷ ks) same; goes = λ place. subst (λ (x : Key). GoesOn (with_written place pod x s) pod job node ks) same (goes.1 place) }
+    record { rest = ks; is = ap (λ (x : Key). x ∷ ks) same; goes = λ index. subst (λ (x : Key). GoesOn (with_written index pod x s) pod job node ks) same (goes.1 index) }
 
 -- the pod may be bound if none is left, and to this node
 last_bind : (s : State) (pod : Key) (job : ℕ) (node other : List ℕ) (left : List Key) → GoesOn s pod job node left → MayBind s pod job other → (left ≡ []) × (other ≡ node)
@@ -295,47 +295,47 @@ binds c pod s p before q node r same may =
     subst (λ (k : Key). HasEnded c pod s p (before ++ own c (Bound k node) ∷ [])) (sym same)
     (subst (λ (n : List ℕ). HasEnded c pod s p (before ++ own c (Bound pod n) ∷ [])) (sym last.1) made)
 
-reserved_far : Laws → (c : Run) (pod : Key) (attempts : ℕ) (s : State) (p : PodState) (before : List Entry) (place k : ℕ) (ev : Event) → IsNext c pod attempts s p before ev → HasReserved c pod s p before → allows (job_state.Reserved k) ev ≡ true
-    → Far c pod s p (before ++ own c ev ∷ []) (job_state_after (job_state.Reserved k) place ev)
-reserved_far laws c pod attempts s p before place k (Applied object mode) a r may = absurd cc
-reserved_far laws c pod attempts s p before place k (Deleted target) a r may = absurd cc
-reserved_far laws c pod attempts s p before place k (Reserved q plan) a r may = absurd cc
-reserved_far laws c pod attempts s p before place k (Refused q plan why) a r may = absurd cc
-reserved_far laws c pod attempts s p before place k (Wrote q claim seen) a r may = writes_more laws c pod s p before q claim seen r (pod_is q pod (attempts_of c.command) attempts (a.kept.of_command ∙ a.command)) a.stands
-reserved_far laws c pod attempts s p before place k (Conflict q claim had now) a r may = let e = a.fine in absurd cc
-reserved_far laws c pod attempts s p before place k (Unreserved q) a r may = absurd cc
-reserved_far laws c pod attempts s p before place k (Bound q node) a r may = binds c pod s p before q node r (pod_is q pod (attempts_of c.command) attempts (a.kept.of_command ∙ a.command)) a.stands
-reserved_far laws c pod attempts s p before place k (VerdictGiven q verdict) a r may = absurd cc
-reserved_far laws c pod attempts s p before place k (Contended q n) a r may = absurd cc
-reserved_far laws c pod attempts s p before place k (Released q) a r may = absurd cc
-reserved_far laws c pod attempts s p before place k (Adopted claim status) a r may = absurd cc
-reserved_far laws c pod attempts s p before place k (Denied command refusal) a r may = absurd cc
+reserved_far : Laws → (c : Run) (pod : Key) (attempts : ℕ) (s : State) (p : PodState) (before : List Entry) (index k : ℕ) (ev : Event) → IsNext c pod attempts s p before ev → HasReserved c pod s p before → allows (job_state.Reserved k) ev ≡ true
+    → Far c pod s p (before ++ own c ev ∷ []) (job_state_after (job_state.Reserved k) index ev)
+reserved_far laws c pod attempts s p before index k (Applied object mode) a r may = absurd cc
+reserved_far laws c pod attempts s p before index k (Deleted target) a r may = absurd cc
+reserved_far laws c pod attempts s p before index k (Reserved q plan) a r may = absurd cc
+reserved_far laws c pod attempts s p before index k (Refused q plan why) a r may = absurd cc
+reserved_far laws c pod attempts s p before index k (Wrote q claim seen) a r may = writes_more laws c pod s p before q claim seen r (pod_is q pod (attempts_of c.command) attempts (a.kept.of_command ∙ a.command)) a.stands
+reserved_far laws c pod attempts s p before index k (Conflict q claim had now) a r may = let e = a.fine in absurd cc
+reserved_far laws c pod attempts s p before index k (Unreserved q) a r may = absurd cc
+reserved_far laws c pod attempts s p before index k (Bound q node) a r may = binds c pod s p before q node r (pod_is q pod (attempts_of c.command) attempts (a.kept.of_command ∙ a.command)) a.stands
+reserved_far laws c pod attempts s p before index k (VerdictGiven q verdict) a r may = absurd cc
+reserved_far laws c pod attempts s p before index k (Contended q n) a r may = absurd cc
+reserved_far laws c pod attempts s p before index k (Released q) a r may = absurd cc
+reserved_far laws c pod attempts s p before index k (Adopted claim status) a r may = absurd cc
+reserved_far laws c pod attempts s p before index k (Denied command refusal) a r may = absurd cc
 
 -- a job that has ended makes no entry
-none_ended : (place : ℕ) (ev : Event) → allows (job_state.Ended place) ev ≡ true → ⊥
-none_ended place (Applied object mode) may = cc
-none_ended place (Deleted target) may = cc
-none_ended place (Reserved q plan) may = cc
-none_ended place (Refused q plan why) may = cc
-none_ended place (Wrote q claim seen) may = cc
-none_ended place (Conflict q claim had now) may = cc
-none_ended place (Unreserved q) may = cc
-none_ended place (Bound q node) may = cc
-none_ended place (VerdictGiven q verdict) may = cc
-none_ended place (Contended q n) may = cc
-none_ended place (Released q) may = cc
-none_ended place (Adopted claim status) may = cc
-none_ended place (Denied command refusal) may = cc
+none_ended : (index : ℕ) (ev : Event) → allows (job_state.Ended index) ev ≡ true → ⊥
+none_ended index (Applied object mode) may = cc
+none_ended index (Deleted target) may = cc
+none_ended index (Reserved q plan) may = cc
+none_ended index (Refused q plan why) may = cc
+none_ended index (Wrote q claim seen) may = cc
+none_ended index (Conflict q claim had now) may = cc
+none_ended index (Unreserved q) may = cc
+none_ended index (Bound q node) may = cc
+none_ended index (VerdictGiven q verdict) may = cc
+none_ended index (Contended q n) may = cc
+none_ended index (Released q) may = cc
+none_ended index (Adopted claim status) may = cc
+none_ended index (Denied command refusal) may = cc
 
 -- ---- entry after entry
 
-own_far : Laws → (c : Run) (pod : Key) (attempts : ℕ) (s : State) (p : PodState) (before : List Entry) (st : JobState) (place : ℕ) (ev : Event) → IsNext c pod attempts s p before ev → Far c pod s p before st → allows st ev ≡ true
-    → Far c pod s p (before ++ own c ev ∷ []) (job_state_after st place ev)
-own_far laws c pod attempts s p before job_state.Fresh place ev a far may = fresh_far laws c pod attempts s p before place ev a far may
-own_far laws c pod attempts s p before (job_state.Reserved k) place ev a far may = reserved_far laws c pod attempts s p before place k ev a far may
-own_far laws c pod attempts s p before (job_state.Conflicted k) place ev a far may = absurd far
-own_far laws c pod attempts s p before (job_state.Failed k) place ev a far may = absurd far
-own_far laws c pod attempts s p before (job_state.Ended n) place ev a far may = absurd (none_ended n ev may)
+own_far : Laws → (c : Run) (pod : Key) (attempts : ℕ) (s : State) (p : PodState) (before : List Entry) (st : JobState) (index : ℕ) (ev : Event) → IsNext c pod attempts s p before ev → Far c pod s p before st → allows st ev ≡ true
+    → Far c pod s p (before ++ own c ev ∷ []) (job_state_after st index ev)
+own_far laws c pod attempts s p before job_state.Fresh index ev a far may = fresh_far laws c pod attempts s p before index ev a far may
+own_far laws c pod attempts s p before (job_state.Reserved k) index ev a far may = reserved_far laws c pod attempts s p before index k ev a far may
+own_far laws c pod attempts s p before (job_state.Conflicted k) index ev a far may = absurd far
+own_far laws c pod attempts s p before (job_state.Failed k) index ev a far may = absurd far
+own_far laws c pod attempts s p before (job_state.Ended n) index ev a far may = absurd (none_ended n ev may)
 
 -- before the job begins it has no entry
 early_far : (c : Run) (pod : Key) (s : State) (p : PodState) (before : List Entry) (e : Entry) (st : JobState) → Far c pod s p before st → length before < c.from → Far c pod s p (before ++ e ∷ []) st
@@ -346,7 +346,7 @@ early_far c pod s p before e (job_state.Reserved k) far small = absurd (
     )
 early_far c pod s p before e (job_state.Conflicted k) far small = absurd far
 early_far c pod s p before e (job_state.Failed k) far small = absurd far
-early_far c pod s p before e (job_state.Ended place) far small = absurd (
+early_far c pod s p before e (job_state.Ended index) far small = absurd (
     let l = ap length far.now in
     let m = far.len in omega (arith, length-append far.prefix far.added)
     )
@@ -417,12 +417,12 @@ carries : (c : Run) (h : List Entry) (pod : Key) (p : PodState) (added : List En
 carries c h pod p added (Reserve plan) is out = record { writes = out.writes; each = out.each; entries = is ∙ out.entries }
 carries c h pod p added (Judge verdict) is out = is ∙ out
 
-ended_far : (c : Run) (h : List Entry) (pod : Key) (p : PodState) (place : ℕ) (st : JobState) → st ≡ job_state.Ended place → Far c pod (state_at h c.from) p h st → Decided c h pod p
-ended_far c h pod p place job_state.Fresh is far = absurd cc
-ended_far c h pod p place (job_state.Reserved k) is far = absurd cc
-ended_far c h pod p place (job_state.Conflicted k) is far = absurd cc
-ended_far c h pod p place (job_state.Failed k) is far = absurd cc
-ended_far c h pod p place (job_state.Ended n) is far =
+ended_far : (c : Run) (h : List Entry) (pod : Key) (p : PodState) (index : ℕ) (st : JobState) → st ≡ job_state.Ended index → Far c pod (state_at h c.from) p h st → Decided c h pod p
+ended_far c h pod p index job_state.Fresh is far = absurd cc
+ended_far c h pod p index (job_state.Reserved k) is far = absurd cc
+ended_far c h pod p index (job_state.Conflicted k) is far = absurd cc
+ended_far c h pod p index (job_state.Failed k) is far = absurd cc
+ended_far c h pod p index (job_state.Ended n) is far =
     let made : drop c.from h ≡ far.added = ap (λ (l : List Entry). drop c.from l) far.now ∙ past c.from far.prefix far.added far.len in
     record { choice = far.choice; is = far.is; out = carries c h pod p far.added far.choice made far.out }
 
@@ -430,5 +430,5 @@ ended_far c h pod p place (job_state.Ended n) is far =
 pub decided : Laws → (c : Run) (h : List Entry) (pod : Key) (p : PodState) → RanAlone c h pod p → Decided c h pod p
 decided laws c h pod p r =
     let start : Far c pod (state_at h c.from) p [] (job_state_of [] c.job) = subst (λ (st : JobState). Far c pod (state_at h c.from) p [] st) (sym (laws.fresh c.job)) (omega arith) in
-    ended_far c h pod p r.run.place (job_state_of h c.job) r.run.ended
+    ended_far c h pod p r.run.index (job_state_of h c.job) r.run.ended
     (far_from laws c pod r.attempts (state_at h c.from) p [] h r.command r.idle refl r.legal r.run.kept r.alone (laws.never c h r.legal r.run.kept r.alone) start)

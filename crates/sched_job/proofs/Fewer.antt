@@ -134,27 +134,27 @@ written_in users pod (Some u) is e = ap is_written (changed_there pod (λ (u : U
 assumed_in : (users : Users) (pod : Key) (had : ℕ) → at_key users pod ≡ Some (Assumed had) → is_written (at_key (changed_at pod (λ (u : Use). Written) users) pod) ≡ true
 assumed_in users pod had is = ap is_written (changed_there pod (λ (u : Use). Written) users (Assumed had) is)
 
-kept_by : (s : State) (place : ℕ) (pod claim : Key) (o : Option ClaimState) → at_key s.claims claim ≡ o → is_written (use_in pod o) ≡ true → has_written (with_written place pod claim s) pod claim ≡ true
-kept_by s place pod claim None is e = absurd cc
-kept_by s place pod claim (Some c) is e =
-    ap (λ (x : Option ClaimState). is_written (use_in pod x)) (changed_there claim (written_by place pod) s.claims c is) ∙ written_in c.users pod (at_key c.users pod) refl e
+kept_by : (s : State) (index : ℕ) (pod claim : Key) (o : Option ClaimState) → at_key s.claims claim ≡ o → is_written (use_in pod o) ≡ true → has_written (with_written index pod claim s) pod claim ≡ true
+kept_by s index pod claim None is e = absurd cc
+kept_by s index pod claim (Some c) is e =
+    ap (λ (x : Option ClaimState). is_written (use_in pod x)) (changed_there claim (written_by index pod) s.claims c is) ∙ written_in c.users pod (at_key c.users pod) refl e
 
 -- a use that is written stays so
-written_more : (s : State) (place : ℕ) (pod claim k : Key) → has_written s pod k ≡ true → has_written (with_written place pod claim s) pod k ≡ true
-written_more s place pod claim k e =
-    ⊎_elim (λ same. subst (λ (x : Key). has_written (with_written place pod claim s) pod x ≡ true) (sym same) (kept_by s place pod claim (at_key s.claims claim) refl (subst (λ (x : Key). has_written s pod x ≡ true) same e)))
-    (λ differ. ap (λ (x : Option ClaimState). is_written (use_in pod x)) (changed_other claim k (written_by place pod) s.claims differ) ∙ e) (same_or_not k claim)
+written_more : (s : State) (index : ℕ) (pod claim k : Key) → has_written s pod k ≡ true → has_written (with_written index pod claim s) pod k ≡ true
+written_more s index pod claim k e =
+    ⊎_elim (λ same. subst (λ (x : Key). has_written (with_written index pod claim s) pod x ≡ true) (sym same) (kept_by s index pod claim (at_key s.claims claim) refl (subst (λ (x : Key). has_written s pod x ≡ true) same e)))
+    (λ differ. ap (λ (x : Option ClaimState). is_written (use_in pod x)) (changed_other claim k (written_by index pod) s.claims differ) ∙ e) (same_or_not k claim)
 
-now_by : (s : State) (place : ℕ) (pod claim : Key) (had : ℕ) (o : Option ClaimState) → at_key s.claims claim ≡ o → use_in pod o ≡ Some (Assumed had) → has_written (with_written place pod claim s) pod claim ≡ true
-now_by s place pod claim had None is e = absurd cc
-now_by s place pod claim had (Some c) is e = ap (λ (x : Option ClaimState). is_written (use_in pod x)) (changed_there claim (written_by place pod) s.claims c is) ∙ assumed_in c.users pod had e
+now_by : (s : State) (index : ℕ) (pod claim : Key) (had : ℕ) (o : Option ClaimState) → at_key s.claims claim ≡ o → use_in pod o ≡ Some (Assumed had) → has_written (with_written index pod claim s) pod claim ≡ true
+now_by s index pod claim had None is e = absurd cc
+now_by s index pod claim had (Some c) is e = ap (λ (x : Option ClaimState). is_written (use_in pod x)) (changed_there claim (written_by index pod) s.claims c is) ∙ assumed_in c.users pod had e
 
 -- the write of the next use leaves fewer
-wrote_less : (s : State) (place : ℕ) (pod : Key) (job : ℕ) (claim : Key) (had : ℕ) → MayWrite s pod job claim had → unwritten (with_written place pod claim s) pod < unwritten s pod
-wrote_less s place pod job claim had may =
+wrote_less : (s : State) (index : ℕ) (pod : Key) (job : ℕ) (claim : Key) (had : ℕ) → MayWrite s pod job claim had → unwritten (with_written index pod claim s) pod < unwritten s pod
+wrote_less s index pod job claim had may =
     let there : at_key s.pods pod ≡ Some may.state = may.taken.there in
-    let less = unwritten_less s (with_written place pod claim s) pod (claims_of may.state) claim (λ k e. written_more s place pod claim k e) may.next (now_by s place pod claim had (at_key s.claims claim) refl may.assumed) in
-    subst (λ (o : Option PodState). unwritten_by (with_written place pod claim s) pod o < unwritten_by s pod o) (sym there) less
+    let less = unwritten_less s (with_written index pod claim s) pod (claims_of may.state) claim (λ k e. written_more s index pod claim k e) may.next (now_by s index pod claim had (at_key s.claims claim) refl may.assumed) in
+    subst (λ (o : Option PodState). unwritten_by (with_written index pod claim s) pod o < unwritten_by s pod o) (sym there) less
 
 conflict_left : (s : State) (pod : Key) (job : ℕ) (claim : Key) (had now : ℕ) → MayConflict s pod job claim had now → 0 < unwritten s pod
 conflict_left s pod job claim had now may =
@@ -170,69 +170,69 @@ once_some (job_state.Failed k) open_yet = omega arith
 once_some (job_state.Ended p) open_yet = absurd cc
 
 -- the one of a job that isn't to schedule a pod ends it
-once_ends : (attempts : ℕ) (st : JobState) (place : ℕ) (ev : Event) → is_schedule (command_of attempts ev) ≡ false → once_left (job_state_after st place ev) ≡ 0
-once_ends attempts st place (Applied object mode) e = refl
-once_ends attempts st place (Deleted target) e = refl
-once_ends attempts st place (Reserved pod plan) e = absurd cc
-once_ends attempts st place (Refused pod plan why) e = absurd cc
-once_ends attempts st place (Wrote pod claim seen) e = absurd cc
-once_ends attempts st place (Conflict pod claim had now) e = absurd cc
-once_ends attempts st place (Unreserved pod) e = absurd cc
-once_ends attempts st place (Bound pod node) e = refl
-once_ends attempts st place (VerdictGiven pod verdict) e = refl
-once_ends attempts st place (Contended pod failed) e = refl
-once_ends attempts st place (Released pod) e = refl
-once_ends attempts st place (Adopted claim status) e = refl
-once_ends attempts st place (Denied command refusal) e = refl
+once_ends : (attempts : ℕ) (st : JobState) (index : ℕ) (ev : Event) → is_schedule (command_of attempts ev) ≡ false → once_left (job_state_after st index ev) ≡ 0
+once_ends attempts st index (Applied object mode) e = refl
+once_ends attempts st index (Deleted target) e = refl
+once_ends attempts st index (Reserved pod plan) e = absurd cc
+once_ends attempts st index (Refused pod plan why) e = absurd cc
+once_ends attempts st index (Wrote pod claim seen) e = absurd cc
+once_ends attempts st index (Conflict pod claim had now) e = absurd cc
+once_ends attempts st index (Unreserved pod) e = absurd cc
+once_ends attempts st index (Bound pod node) e = refl
+once_ends attempts st index (VerdictGiven pod verdict) e = refl
+once_ends attempts st index (Contended pod failed) e = refl
+once_ends attempts st index (Released pod) e = refl
+once_ends attempts st index (Adopted claim status) e = refl
+once_ends attempts st index (Denied command refusal) e = refl
 
 pod_is : (p pod : Key) (a b : ℕ) → Schedule p a ≡ Schedule pod b → p ≡ pod
 pod_is p pod a b e = cc
 
 -- the turns that a job to schedule a pod has left after it
-less_some : (c : Run) (h : List Entry) (pod : Key) (attempts place job : ℕ) (kept : Stage) (st : JobState) (ev : Event) → c.command ≡ Schedule pod attempts → job_state_of h c.job ≡ st → allows st ev ≡ true → MayFollow h job ev → JobStep c h ev
-    → 0 < attempts_left (state_of h) pod attempts kept st → unwritten (after place job ev (state_of h)) pod ≤ 32
-    → attempts_left (after place job ev (state_of h)) pod attempts Ready (job_state_after st place ev) < attempts_left (state_of h) pod attempts kept st
-less_some c h pod attempts place job kept st (Applied object mode) cmd sd may stands k positive most = positive
-less_some c h pod attempts place job kept st (Deleted target) cmd sd may stands k positive most = positive
-less_some c h pod attempts place job kept job_state.Fresh (Reserved p plan) cmd sd may stands k positive most =
+less_some : (c : Run) (h : List Entry) (pod : Key) (attempts index job : ℕ) (kept : Stage) (st : JobState) (ev : Event) → c.command ≡ Schedule pod attempts → job_state_of h c.job ≡ st → allows st ev ≡ true → MayFollow h job ev → JobStep c h ev
+    → 0 < attempts_left (state_of h) pod attempts kept st → unwritten (after index job ev (state_of h)) pod ≤ 32
+    → attempts_left (after index job ev (state_of h)) pod attempts Ready (job_state_after st index ev) < attempts_left (state_of h) pod attempts kept st
+less_some c h pod attempts index job kept st (Applied object mode) cmd sd may stands k positive most = positive
+less_some c h pod attempts index job kept st (Deleted target) cmd sd may stands k positive most = positive
+less_some c h pod attempts index job kept job_state.Fresh (Reserved p plan) cmd sd may stands k positive most =
     let l = k.timed.try.left in let f : failures (job_state_of h c.job) ≡ 0 = ap failures sd in let n : attempts_of c.command ≡ attempts = ap attempts_of cmd in omega arith
-less_some c h pod attempts place job kept (job_state.Reserved m) (Reserved p plan) cmd sd may stands k positive most = absurd cc
-less_some c h pod attempts place job kept (job_state.Conflicted m) (Reserved p plan) cmd sd may stands k positive most = absurd cc
-less_some c h pod attempts place job kept (job_state.Failed m) (Reserved p plan) cmd sd may stands k positive most =
+less_some c h pod attempts index job kept (job_state.Reserved m) (Reserved p plan) cmd sd may stands k positive most = absurd cc
+less_some c h pod attempts index job kept (job_state.Conflicted m) (Reserved p plan) cmd sd may stands k positive most = absurd cc
+less_some c h pod attempts index job kept (job_state.Failed m) (Reserved p plan) cmd sd may stands k positive most =
     let l = k.timed.try.left in let f : failures (job_state_of h c.job) ≡ m = ap failures sd in let n : attempts_of c.command ≡ attempts = ap attempts_of cmd in omega arith
-less_some c h pod attempts place job kept (job_state.Ended m) (Reserved p plan) cmd sd may stands k positive most = absurd cc
-less_some c h pod attempts place job kept job_state.Fresh (Refused p plan why) cmd sd may stands k positive most =
+less_some c h pod attempts index job kept (job_state.Ended m) (Reserved p plan) cmd sd may stands k positive most = absurd cc
+less_some c h pod attempts index job kept job_state.Fresh (Refused p plan why) cmd sd may stands k positive most =
     let l = k.timed.try.left in let f : failures (job_state_of h c.job) ≡ 0 = ap failures sd in let n : attempts_of c.command ≡ attempts = ap attempts_of cmd in omega arith
-less_some c h pod attempts place job kept (job_state.Reserved m) (Refused p plan why) cmd sd may stands k positive most = absurd cc
-less_some c h pod attempts place job kept (job_state.Conflicted m) (Refused p plan why) cmd sd may stands k positive most = absurd cc
-less_some c h pod attempts place job kept (job_state.Failed m) (Refused p plan why) cmd sd may stands k positive most =
+less_some c h pod attempts index job kept (job_state.Reserved m) (Refused p plan why) cmd sd may stands k positive most = absurd cc
+less_some c h pod attempts index job kept (job_state.Conflicted m) (Refused p plan why) cmd sd may stands k positive most = absurd cc
+less_some c h pod attempts index job kept (job_state.Failed m) (Refused p plan why) cmd sd may stands k positive most =
     let l = k.timed.try.left in let f : failures (job_state_of h c.job) ≡ m = ap failures sd in let n : attempts_of c.command ≡ attempts = ap attempts_of cmd in omega arith
-less_some c h pod attempts place job kept (job_state.Ended m) (Refused p plan why) cmd sd may stands k positive most = absurd cc
-less_some c h pod attempts place job kept job_state.Fresh (Wrote p claim had) cmd sd may stands k positive most = absurd cc
-less_some c h pod attempts place job kept (job_state.Reserved m) (Wrote p claim had) cmd sd may stands k positive most =
+less_some c h pod attempts index job kept (job_state.Ended m) (Refused p plan why) cmd sd may stands k positive most = absurd cc
+less_some c h pod attempts index job kept job_state.Fresh (Wrote p claim had) cmd sd may stands k positive most = absurd cc
+less_some c h pod attempts index job kept (job_state.Reserved m) (Wrote p claim had) cmd sd may stands k positive most =
     let same : p ≡ pod = pod_is p pod (attempts_of c.command) attempts (k.of_command ∙ cmd) in
-    let less = subst (λ (x : Key). unwritten (with_written place p claim (state_of h)) x < unwritten (state_of h) x) same (wrote_less (state_of h) place p job claim had stands) in omega arith
-less_some c h pod attempts place job kept (job_state.Conflicted m) (Wrote p claim had) cmd sd may stands k positive most = absurd cc
-less_some c h pod attempts place job kept (job_state.Failed m) (Wrote p claim had) cmd sd may stands k positive most = absurd cc
-less_some c h pod attempts place job kept (job_state.Ended m) (Wrote p claim had) cmd sd may stands k positive most = absurd cc
-less_some c h pod attempts place job kept job_state.Fresh (Conflict p claim had now) cmd sd may stands k positive most = absurd cc
-less_some c h pod attempts place job kept (job_state.Reserved m) (Conflict p claim had now) cmd sd may stands k positive most =
+    let less = subst (λ (x : Key). unwritten (with_written index p claim (state_of h)) x < unwritten (state_of h) x) same (wrote_less (state_of h) index p job claim had stands) in omega arith
+less_some c h pod attempts index job kept (job_state.Conflicted m) (Wrote p claim had) cmd sd may stands k positive most = absurd cc
+less_some c h pod attempts index job kept (job_state.Failed m) (Wrote p claim had) cmd sd may stands k positive most = absurd cc
+less_some c h pod attempts index job kept (job_state.Ended m) (Wrote p claim had) cmd sd may stands k positive most = absurd cc
+less_some c h pod attempts index job kept job_state.Fresh (Conflict p claim had now) cmd sd may stands k positive most = absurd cc
+less_some c h pod attempts index job kept (job_state.Reserved m) (Conflict p claim had now) cmd sd may stands k positive most =
     let same : p ≡ pod = pod_is p pod (attempts_of c.command) attempts (k.of_command ∙ cmd) in
     let some = subst (λ (x : Key). 0 < unwritten (state_of h) x) same (conflict_left (state_of h) p job claim had now stands) in omega arith
-less_some c h pod attempts place job kept (job_state.Conflicted m) (Conflict p claim had now) cmd sd may stands k positive most = absurd cc
-less_some c h pod attempts place job kept (job_state.Failed m) (Conflict p claim had now) cmd sd may stands k positive most = absurd cc
-less_some c h pod attempts place job kept (job_state.Ended m) (Conflict p claim had now) cmd sd may stands k positive most = absurd cc
-less_some c h pod attempts place job kept job_state.Fresh (Unreserved p) cmd sd may stands k positive most = absurd cc
-less_some c h pod attempts place job kept (job_state.Reserved m) (Unreserved p) cmd sd may stands k positive most = absurd cc
-less_some c h pod attempts place job kept (job_state.Conflicted m) (Unreserved p) cmd sd may stands k positive most = omega arith
-less_some c h pod attempts place job kept (job_state.Failed m) (Unreserved p) cmd sd may stands k positive most = absurd cc
-less_some c h pod attempts place job kept (job_state.Ended m) (Unreserved p) cmd sd may stands k positive most = absurd cc
-less_some c h pod attempts place job kept st (Bound p node) cmd sd may stands k positive most = positive
-less_some c h pod attempts place job kept st (VerdictGiven p verdict) cmd sd may stands k positive most = positive
-less_some c h pod attempts place job kept st (Contended p failed) cmd sd may stands k positive most = positive
-less_some c h pod attempts place job kept st (Released p) cmd sd may stands k positive most = positive
-less_some c h pod attempts place job kept st (Adopted claim status) cmd sd may stands k positive most = positive
-less_some c h pod attempts place job kept st (Denied command refusal) cmd sd may stands k positive most = positive
+less_some c h pod attempts index job kept (job_state.Conflicted m) (Conflict p claim had now) cmd sd may stands k positive most = absurd cc
+less_some c h pod attempts index job kept (job_state.Failed m) (Conflict p claim had now) cmd sd may stands k positive most = absurd cc
+less_some c h pod attempts index job kept (job_state.Ended m) (Conflict p claim had now) cmd sd may stands k positive most = absurd cc
+less_some c h pod attempts index job kept job_state.Fresh (Unreserved p) cmd sd may stands k positive most = absurd cc
+less_some c h pod attempts index job kept (job_state.Reserved m) (Unreserved p) cmd sd may stands k positive most = absurd cc
+less_some c h pod attempts index job kept (job_state.Conflicted m) (Unreserved p) cmd sd may stands k positive most = omega arith
+less_some c h pod attempts index job kept (job_state.Failed m) (Unreserved p) cmd sd may stands k positive most = absurd cc
+less_some c h pod attempts index job kept (job_state.Ended m) (Unreserved p) cmd sd may stands k positive most = absurd cc
+less_some c h pod attempts index job kept st (Bound p node) cmd sd may stands k positive most = positive
+less_some c h pod attempts index job kept st (VerdictGiven p verdict) cmd sd may stands k positive most = positive
+less_some c h pod attempts index job kept st (Contended p failed) cmd sd may stands k positive most = positive
+less_some c h pod attempts index job kept st (Released p) cmd sd may stands k positive most = positive
+less_some c h pod attempts index job kept st (Adopted claim status) cmd sd may stands k positive most = positive
+less_some c h pod attempts index job kept st (Denied command refusal) cmd sd may stands k positive most = positive
 
 -- ---- a work that hasn't ended has a turn left
 
@@ -266,20 +266,20 @@ pub record Turns : Type 0 where
   pub moves : MovesOn
 
 -- an entry of the job, by its command
-entry_less : (c : Run) (h : List Entry) (place job : ℕ) (kept : Stage) (ev : Event) (cmd : Command) → c.command ≡ cmd → 0 < attempts_of cmd → is_ended (job_state_of h c.job) ≡ false → allows (job_state_of h c.job) ev ≡ true → MayFollow h job ev → JobStep c h ev → IsStaged c h cmd kept
-    → ((pod : Key) → unwritten (after place job ev (state_of h)) pod ≤ 32) → left_by (after place job ev (state_of h)) Ready (job_state_after (job_state_of h c.job) place ev) cmd < left_by (state_of h) kept (job_state_of h c.job) cmd
-entry_less c h place job kept ev (Apply object mode) is some open_yet may stands k s most =
-    let z = once_ends (attempts_of c.command) (job_state_of h c.job) place ev (ap is_schedule (k.of_command ∙ is)) in let o = once_some (job_state_of h c.job) open_yet in omega arith
-entry_less c h place job kept ev (Invalid error) is some open_yet may stands k s most =
-    let z = once_ends (attempts_of c.command) (job_state_of h c.job) place ev (ap is_schedule (k.of_command ∙ is)) in let o = once_some (job_state_of h c.job) open_yet in omega arith
-entry_less c h place job kept ev (Delete target) is some open_yet may stands k s most =
-    let z = once_ends (attempts_of c.command) (job_state_of h c.job) place ev (ap is_schedule (k.of_command ∙ is)) in let o = once_some (job_state_of h c.job) open_yet in omega arith
-entry_less c h place job kept ev (Schedule pod attempts) is some open_yet may stands k s most =
-    less_some c h pod attempts place job kept (job_state_of h c.job) ev is refl may stands k (positive_left c h pod attempts kept (job_state_of h c.job) is some refl open_yet s) (most pod)
-entry_less c h place job kept ev (Release pod) is some open_yet may stands k s most =
-    let z = once_ends (attempts_of c.command) (job_state_of h c.job) place ev (ap is_schedule (k.of_command ∙ is)) in let o = once_some (job_state_of h c.job) open_yet in omega arith
-entry_less c h place job kept ev (Adopt claim status) is some open_yet may stands k s most =
-    let z = once_ends (attempts_of c.command) (job_state_of h c.job) place ev (ap is_schedule (k.of_command ∙ is)) in let o = once_some (job_state_of h c.job) open_yet in omega arith
+entry_less : (c : Run) (h : List Entry) (index job : ℕ) (kept : Stage) (ev : Event) (cmd : Command) → c.command ≡ cmd → 0 < attempts_of cmd → is_ended (job_state_of h c.job) ≡ false → allows (job_state_of h c.job) ev ≡ true → MayFollow h job ev → JobStep c h ev → IsStaged c h cmd kept
+    → ((pod : Key) → unwritten (after index job ev (state_of h)) pod ≤ 32) → left_by (after index job ev (state_of h)) Ready (job_state_after (job_state_of h c.job) index ev) cmd < left_by (state_of h) kept (job_state_of h c.job) cmd
+entry_less c h index job kept ev (Apply object mode) is some open_yet may stands k s most =
+    let z = once_ends (attempts_of c.command) (job_state_of h c.job) index ev (ap is_schedule (k.of_command ∙ is)) in let o = once_some (job_state_of h c.job) open_yet in omega arith
+entry_less c h index job kept ev (Invalid error) is some open_yet may stands k s most =
+    let z = once_ends (attempts_of c.command) (job_state_of h c.job) index ev (ap is_schedule (k.of_command ∙ is)) in let o = once_some (job_state_of h c.job) open_yet in omega arith
+entry_less c h index job kept ev (Delete target) is some open_yet may stands k s most =
+    let z = once_ends (attempts_of c.command) (job_state_of h c.job) index ev (ap is_schedule (k.of_command ∙ is)) in let o = once_some (job_state_of h c.job) open_yet in omega arith
+entry_less c h index job kept ev (Schedule pod attempts) is some open_yet may stands k s most =
+    less_some c h pod attempts index job kept (job_state_of h c.job) ev is refl may stands k (positive_left c h pod attempts kept (job_state_of h c.job) is some refl open_yet s) (most pod)
+entry_less c h index job kept ev (Release pod) is some open_yet may stands k s most =
+    let z = once_ends (attempts_of c.command) (job_state_of h c.job) index ev (ap is_schedule (k.of_command ∙ is)) in let o = once_some (job_state_of h c.job) open_yet in omega arith
+entry_less c h index job kept ev (Adopt claim status) is some open_yet may stands k s most =
+    let z = once_ends (attempts_of c.command) (job_state_of h c.job) index ev (ap is_schedule (k.of_command ∙ is)) in let o = once_some (job_state_of h c.job) open_yet in omega arith
 
 -- a snapshot, by the command
 waits_less : (s : State) (pod : Key) (attempts : ℕ) (kept made : Stage) (st : JobState) → tries attempts st ≡ true → waits made < waits kept → attempts_left s pod attempts made st < attempts_left s pod attempts kept st

@@ -181,7 +181,7 @@ same_verdict v at why e f = of_parts v.at v.reason at why e f
     of_parts a r b q e f = cc
 
 judged : (c : Run) (h : List Entry) (pod : Key) (p : PodState) (v : Verdict) (why : Reason) → IsJudge (state_at h c.from) pod c.budget c.from v → v.reason ≡ why → CarriesOut c h pod p (Judge v) → JudgedBy c h pod why
-judged c h pod p v why is because out = out ∙ ap (λ (x : Verdict). own c (VerdictGiven pod x) ∷ []) (same_verdict v c.from why is.place because)
+judged c h pod p v why is because out = out ∙ ap (λ (x : Verdict). own c (VerdictGiven pod x) ∷ []) (same_verdict v c.from why is.index because)
 
 some_node : (m n : List ℕ) → Some m ≡ Some n → m ≡ n
 some_node m n e = cc

@@ -30,9 +30,9 @@ last_more h e job =
     let eq : 0 + length h + 1 ≡ length h + 1 = omega arith in
     told_more (next_last job) 0 0 h e ∙ ap (λ (k : ℕ). next_last job (told (next_last job) 0 0 h) k e) eq
 
-last_within_if : (b : Bool) (place last n : ℕ) → place ≤ n → last ≤ n → cond b place last ≤ n
-last_within_if true place last n p q = p
-last_within_if false place last n p q = q
+last_within_if : (b : Bool) (index last n : ℕ) → index ≤ n → last ≤ n → cond b index last ≤ n
+last_within_if true index last n p q = p
+last_within_if false index last n p q = q
 
 last_from_within : (job last n : ℕ) (es : List Entry) → last ≤ n → told (next_last job) last n es ≤ n + length es
 unfolding told

@@ -135,15 +135,15 @@ written_users users pod q (Some u) is e =
     ⊎_elim (λ same. ap is_written (subst (λ (x : Key). at_key (changed_at x (λ (v : Use). Written) users) pod ≡ Some Written) same (changed_there pod (λ (v : Use). Written) users u is)))
     (λ differ. ap is_written (changed_other q pod (λ (v : Use). Written) users differ ∙ is) ∙ e) (same_or_not pod q)
 
-freed_users : (place : ℕ) (pod q : Key) (c : ClaimState) (o : Option Use) → (pod ≡ q → ⊥) → wrote pod (Some c) ≡ true → wrote pod (Some (freed_by place q o c)) ≡ true
-freed_users place pod q c None differ e = e
-freed_users place pod q c (Some u) differ e = ap is_written (remove_other q pod c.users differ) ∙ e
+freed_users : (index : ℕ) (pod q : Key) (c : ClaimState) (o : Option Use) → (pod ≡ q → ⊥) → wrote pod (Some c) ≡ true → wrote pod (Some (freed_by index q o c)) ≡ true
+freed_users index pod q c None differ e = e
+freed_users index pod q c (Some u) differ e = ap is_written (remove_other q pod c.users differ) ∙ e
 
-stay_freed : (place : ℕ) (pod q : Key) (ks : List Key) (claims : Claims) → (pod ≡ q → ⊥) → Stay pod claims (with_freed place q ks claims)
-stay_freed place pod q [] claims differ = stay_same pod claims
-stay_freed place pod q (k ∷ ks) claims differ =
-    stay_join pod claims (changed_at k (freed place q) claims) (with_freed place q ks (changed_at k (freed place q) claims))
-    (stay_changed pod k (freed place q) claims (λ c e. freed_users place pod q c (at_key c.users q) differ e)) (stay_freed place pod q ks (changed_at k (freed place q) claims) differ)
+stay_freed : (index : ℕ) (pod q : Key) (ks : List Key) (claims : Claims) → (pod ≡ q → ⊥) → Stay pod claims (with_freed index q ks claims)
+stay_freed index pod q [] claims differ = stay_same pod claims
+stay_freed index pod q (k ∷ ks) claims differ =
+    stay_join pod claims (changed_at k (freed index q) claims) (with_freed index q ks (changed_at k (freed index q) claims))
+    (stay_changed pod k (freed index q) claims (λ c e. freed_users index pod q c (at_key c.users q) differ e)) (stay_freed index pod q ks (changed_at k (freed index q) claims) differ)
 
 -- ---- refusals that don't hold
 
@@ -225,32 +225,32 @@ not_in_use s t e = when_none (is_in_use s t) refusal.InUse (or_none (when (not (
 
 -- ---- an entry of another job
 
-stays_written : (h : List Entry) (place job other : ℕ) (pod : Key) (p : PodState) (ev : Event) → Held (state_of h) pod job p → (other ≡ job → ⊥) → MayFollow h other ev → Stay pod (state_of h).claims (after place other ev (state_of h)).claims
-stays_written h place job other pod p (Applied (object.Node x) mode) held differ stands = stay_same pod (state_of h).claims
-stays_written h place job other pod p (Applied (object.Slice x) mode) held differ stands = stay_same pod (state_of h).claims
-stays_written h place job other pod p (Applied (object.Class x) mode) held differ stands = stay_same pod (state_of h).claims
-stays_written h place job other pod p (Applied (object.Claim x) mode) held differ stands = stay_put pod x.key (new_claim place x) (updated_claim place x) (state_of h).claims (at_key (state_of h).claims x.key) refl (λ c e. e)
-stays_written h place job other pod p (Applied (object.Pod x) mode) held differ stands = stay_same pod (state_of h).claims
-stays_written h place job other pod p (Deleted (target.Node name)) held differ stands = stay_same pod (state_of h).claims
-stays_written h place job other pod p (Deleted (target.Slice name)) held differ stands = stay_same pod (state_of h).claims
-stays_written h place job other pod p (Deleted (target.Class name)) held differ stands = stay_same pod (state_of h).claims
-stays_written h place job other pod p (Deleted (target.Claim key)) held differ stands = stay_removed pod key (state_of h).claims (not_in_use (state_of h) (target.Claim key) stands.unrefused)
-stays_written h place job other pod p (Deleted (target.Pod key)) held differ stands = stay_same pod (state_of h).claims
-stays_written h place job other pod p (Reserved q plan) held differ stands =
+stays_written : (h : List Entry) (index job other : ℕ) (pod : Key) (p : PodState) (ev : Event) → Held (state_of h) pod job p → (other ≡ job → ⊥) → MayFollow h other ev → Stay pod (state_of h).claims (after index other ev (state_of h)).claims
+stays_written h index job other pod p (Applied (object.Node x) mode) held differ stands = stay_same pod (state_of h).claims
+stays_written h index job other pod p (Applied (object.Slice x) mode) held differ stands = stay_same pod (state_of h).claims
+stays_written h index job other pod p (Applied (object.Class x) mode) held differ stands = stay_same pod (state_of h).claims
+stays_written h index job other pod p (Applied (object.Claim x) mode) held differ stands = stay_put pod x.key (new_claim index x) (updated_claim index x) (state_of h).claims (at_key (state_of h).claims x.key) refl (λ c e. e)
+stays_written h index job other pod p (Applied (object.Pod x) mode) held differ stands = stay_same pod (state_of h).claims
+stays_written h index job other pod p (Deleted (target.Node name)) held differ stands = stay_same pod (state_of h).claims
+stays_written h index job other pod p (Deleted (target.Slice name)) held differ stands = stay_same pod (state_of h).claims
+stays_written h index job other pod p (Deleted (target.Class name)) held differ stands = stay_same pod (state_of h).claims
+stays_written h index job other pod p (Deleted (target.Claim key)) held differ stands = stay_removed pod key (state_of h).claims (not_in_use (state_of h) (target.Claim key) stands.unrefused)
+stays_written h index job other pod p (Deleted (target.Pod key)) held differ stands = stay_same pod (state_of h).claims
+stays_written h index job other pod p (Reserved q plan) held differ stands =
     let apart : pod ≡ q → ⊥ = apart_idle (state_of h) pod q job p stands.holds_now.state held stands.holds_now.idle.there stands.holds_now.idle.idle in
     stay_join pod (state_of h).claims (with_grants plan.node q plan.grants (state_of h).claims) (with_joins q plan.joins (with_grants plan.node q plan.grants (state_of h).claims))
     (stay_grants plan.node pod q plan.grants (state_of h).claims apart) (stay_joins pod q plan.joins (with_grants plan.node q plan.grants (state_of h).claims) apart)
-stays_written h place job other pod p (Refused q plan why) held differ stands = stay_same pod (state_of h).claims
-stays_written h place job other pod p (Wrote q claim seen) held differ stands = stay_changed pod claim (written_by place q) (state_of h).claims (λ c e. written_users c.users pod q (at_key c.users pod) refl e)
-stays_written h place job other pod p (Conflict q claim had now) held differ stands = stay_same pod (state_of h).claims
-stays_written h place job other pod p (Unreserved q) held differ stands =
-    stay_freed place pod q (claims_by (at_key (state_of h).pods q)) (state_of h).claims (apart_taken (state_of h) pod q job other stands.node p stands.state held differ stands.taken)
-stays_written h place job other pod p (Bound q node) held differ stands = stay_same pod (state_of h).claims
-stays_written h place job other pod p (VerdictGiven q verdict) held differ stands = stay_same pod (state_of h).claims
-stays_written h place job other pod p (Contended q failed) held differ stands = stay_same pod (state_of h).claims
-stays_written h place job other pod p (Released q) held differ stands = stay_freed place pod q (claims_by (at_key (state_of h).pods q)) (state_of h).claims (apart_bound (state_of h) pod q job p held stands.unrefused)
-stays_written h place job other pod p (Adopted claim status) held differ stands = stay_changed pod claim (adopted_by place status) (state_of h).claims (λ c e. e)
-stays_written h place job other pod p (Denied command refused) held differ stands = stay_same pod (state_of h).claims
+stays_written h index job other pod p (Refused q plan why) held differ stands = stay_same pod (state_of h).claims
+stays_written h index job other pod p (Wrote q claim seen) held differ stands = stay_changed pod claim (written_by index q) (state_of h).claims (λ c e. written_users c.users pod q (at_key c.users pod) refl e)
+stays_written h index job other pod p (Conflict q claim had now) held differ stands = stay_same pod (state_of h).claims
+stays_written h index job other pod p (Unreserved q) held differ stands =
+    stay_freed index pod q (claims_by (at_key (state_of h).pods q)) (state_of h).claims (apart_taken (state_of h) pod q job other stands.node p stands.state held differ stands.taken)
+stays_written h index job other pod p (Bound q node) held differ stands = stay_same pod (state_of h).claims
+stays_written h index job other pod p (VerdictGiven q verdict) held differ stands = stay_same pod (state_of h).claims
+stays_written h index job other pod p (Contended q failed) held differ stands = stay_same pod (state_of h).claims
+stays_written h index job other pod p (Released q) held differ stands = stay_freed index pod q (claims_by (at_key (state_of h).pods q)) (state_of h).claims (apart_bound (state_of h) pod q job p held stands.unrefused)
+stays_written h index job other pod p (Adopted claim status) held differ stands = stay_changed pod claim (adopted_by index status) (state_of h).claims (λ c e. e)
+stays_written h index job other pod p (Denied command refused) held differ stands = stay_same pod (state_of h).claims
 
 uid_same : (p q : PodState) → Some p ≡ Some q → p.pod.uid ≡ q.pod.uid
 uid_same p q e = ap (λ (x : PodState). x.pod.uid) (some_pod p q e)
@@ -269,30 +269,30 @@ uid_put pod j n f pods None p q is fine there now =
     let apart : pod ≡ j → ⊥ = λ same. none_some p (at_key pods j) (subst (λ (x : Key). at_key pods x ≡ Some p) same there) is in uid_same p q (sym there ∙ sym (insert_other j pod pods n apart) ∙ now)
 uid_put pod j n f pods (Some r) p q is fine there now = uid_changed pod j f pods p q fine there (ap (λ (t : Pods). at_key t pod) (some_put j n f pods r is) ∙ now)
 
-keeps_uid : (h : List Entry) (place job other : ℕ) (pod : Key) (p q : PodState) (ev : Event) → Held (state_of h) pod job p → MayFollow h other ev → at_key (after place other ev (state_of h)).pods pod ≡ Some q → p.pod.uid ≡ q.pod.uid
-keeps_uid h place job other pod p q (Applied (object.Node x) mode) held stands now = uid_same p q (sym held.there ∙ now)
-keeps_uid h place job other pod p q (Applied (object.Slice x) mode) held stands now = uid_same p q (sym held.there ∙ now)
-keeps_uid h place job other pod p q (Applied (object.Class x) mode) held stands now = uid_same p q (sym held.there ∙ now)
-keeps_uid h place job other pod p q (Applied (object.Claim x) mode) held stands now = uid_same p q (sym held.there ∙ now)
-keeps_uid h place job other pod p q (Applied (object.Pod x) mode) held stands now = uid_put pod x.key (new_pod place x) (updated_pod place x) (state_of h).pods (at_key (state_of h).pods x.key) p q refl (λ r. refl) held.there now
-keeps_uid h place job other pod p q (Deleted (target.Node name)) held stands now = uid_same p q (sym held.there ∙ now)
-keeps_uid h place job other pod p q (Deleted (target.Slice name)) held stands now = uid_same p q (sym held.there ∙ now)
-keeps_uid h place job other pod p q (Deleted (target.Class name)) held stands now = uid_same p q (sym held.there ∙ now)
-keeps_uid h place job other pod p q (Deleted (target.Claim key)) held stands now = uid_same p q (sym held.there ∙ now)
-keeps_uid h place job other pod p q (Deleted (target.Pod key)) held stands now =
+keeps_uid : (h : List Entry) (index job other : ℕ) (pod : Key) (p q : PodState) (ev : Event) → Held (state_of h) pod job p → MayFollow h other ev → at_key (after index other ev (state_of h)).pods pod ≡ Some q → p.pod.uid ≡ q.pod.uid
+keeps_uid h index job other pod p q (Applied (object.Node x) mode) held stands now = uid_same p q (sym held.there ∙ now)
+keeps_uid h index job other pod p q (Applied (object.Slice x) mode) held stands now = uid_same p q (sym held.there ∙ now)
+keeps_uid h index job other pod p q (Applied (object.Class x) mode) held stands now = uid_same p q (sym held.there ∙ now)
+keeps_uid h index job other pod p q (Applied (object.Claim x) mode) held stands now = uid_same p q (sym held.there ∙ now)
+keeps_uid h index job other pod p q (Applied (object.Pod x) mode) held stands now = uid_put pod x.key (new_pod index x) (updated_pod index x) (state_of h).pods (at_key (state_of h).pods x.key) p q refl (λ r. refl) held.there now
+keeps_uid h index job other pod p q (Deleted (target.Node name)) held stands now = uid_same p q (sym held.there ∙ now)
+keeps_uid h index job other pod p q (Deleted (target.Slice name)) held stands now = uid_same p q (sym held.there ∙ now)
+keeps_uid h index job other pod p q (Deleted (target.Class name)) held stands now = uid_same p q (sym held.there ∙ now)
+keeps_uid h index job other pod p q (Deleted (target.Claim key)) held stands now = uid_same p q (sym held.there ∙ now)
+keeps_uid h index job other pod p q (Deleted (target.Pod key)) held stands now =
     let apart : pod ≡ key → ⊥ = apart_unused (state_of h) pod key job p held (not_in_use (state_of h) (target.Pod key) stands.unrefused) in
     uid_same p q (sym held.there ∙ sym (remove_other key pod (state_of h).pods apart) ∙ now)
-keeps_uid h place job other pod p q (Reserved r plan) held stands now = uid_changed pod r (λ x. record x { phase = phase.Taken other plan.node }) (state_of h).pods p q (λ x. refl) held.there now
-keeps_uid h place job other pod p q (Refused r plan why) held stands now = uid_same p q (sym held.there ∙ now)
-keeps_uid h place job other pod p q (Wrote r claim seen) held stands now = uid_same p q (sym held.there ∙ now)
-keeps_uid h place job other pod p q (Conflict r claim had new) held stands now = uid_same p q (sym held.there ∙ now)
-keeps_uid h place job other pod p q (Unreserved r) held stands now = uid_changed pod r (λ x. record x { phase = phase.Idle }) (state_of h).pods p q (λ x. refl) held.there now
-keeps_uid h place job other pod p q (Bound r node) held stands now = uid_changed pod r (λ x. record x { phase = phase.Bound node }) (state_of h).pods p q (λ x. refl) held.there now
-keeps_uid h place job other pod p q (VerdictGiven r verdict) held stands now = uid_same p q (sym held.there ∙ now)
-keeps_uid h place job other pod p q (Contended r failed) held stands now = uid_same p q (sym held.there ∙ now)
-keeps_uid h place job other pod p q (Released r) held stands now = uid_changed pod r (λ x. record x { phase = phase.Idle }) (state_of h).pods p q (λ x. refl) held.there now
-keeps_uid h place job other pod p q (Adopted claim status) held stands now = uid_same p q (sym held.there ∙ now)
-keeps_uid h place job other pod p q (Denied command refused) held stands now = uid_same p q (sym held.there ∙ now)
+keeps_uid h index job other pod p q (Reserved r plan) held stands now = uid_changed pod r (λ x. record x { phase = phase.Taken other plan.node }) (state_of h).pods p q (λ x. refl) held.there now
+keeps_uid h index job other pod p q (Refused r plan why) held stands now = uid_same p q (sym held.there ∙ now)
+keeps_uid h index job other pod p q (Wrote r claim seen) held stands now = uid_same p q (sym held.there ∙ now)
+keeps_uid h index job other pod p q (Conflict r claim had new) held stands now = uid_same p q (sym held.there ∙ now)
+keeps_uid h index job other pod p q (Unreserved r) held stands now = uid_changed pod r (λ x. record x { phase = phase.Idle }) (state_of h).pods p q (λ x. refl) held.there now
+keeps_uid h index job other pod p q (Bound r node) held stands now = uid_changed pod r (λ x. record x { phase = phase.Bound node }) (state_of h).pods p q (λ x. refl) held.there now
+keeps_uid h index job other pod p q (VerdictGiven r verdict) held stands now = uid_same p q (sym held.there ∙ now)
+keeps_uid h index job other pod p q (Contended r failed) held stands now = uid_same p q (sym held.there ∙ now)
+keeps_uid h index job other pod p q (Released r) held stands now = uid_changed pod r (λ x. record x { phase = phase.Idle }) (state_of h).pods p q (λ x. refl) held.there now
+keeps_uid h index job other pod p q (Adopted claim status) held stands now = uid_same p q (sym held.there ∙ now)
+keeps_uid h index job other pod p q (Denied command refused) held stands now = uid_same p q (sym held.there ∙ now)
 
 -- ---- the turns left
 

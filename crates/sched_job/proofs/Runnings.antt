@@ -107,7 +107,7 @@ running_other g c h w e other r = record {
 }
 
 pub run_other : Grows → (c : Run) (h : List Entry) (e : Entry) → eqb e.job c.job ≡ false → JobRun c h → JobRun c (h ++ e ∷ [])
-run_other g c h e other r = record { kept = kept_other c h e other r.kept; place = r.place; ended = job_state_other g h e c.job other ∙ r.ended }
+run_other g c h e other r = record { kept = kept_other c h e other r.kept; index = r.index; ended = job_state_other g h e c.job other ∙ r.ended }
 
 pub begun_other : Grows → (c : Run) (h : List Entry) (e : Entry) → eqb e.job c.job ≡ false → JobBegun c h → JobBegun c (h ++ e ∷ [])
 begun_other g c h e other r = record { kept = kept_other c h e other r.kept; open_yet = ap is_ended (job_state_other g h e c.job other) ∙ r.open_yet }
@@ -118,34 +118,34 @@ under_way : (c : Run) (pod : Key) (failed : ℕ) → Schedule pod (attempts_of c
 under_way c pod failed is left = record { schedules = sym (ap is_schedule is); left = left }
 
 -- how far the job has come after it
-counted : (c : Run) (h : List Entry) (st : JobState) (place : ℕ) (ev : Event) → job_state_of h c.job ≡ st → command_of (attempts_of c.command) ev ≡ c.command → Timed c h ev → allows st ev ≡ true → Counted c.command st → Counted c.command (job_state_after st place ev)
-counted c h st place (Applied object mode) is of timed may count = tt
-counted c h st place (Deleted target) is of timed may count = tt
-counted c h st place (Reserved pod plan) is of timed may count = under_way c pod (failures st) of (subst (λ (x : JobState). failures x < attempts_of c.command) is timed.try.left)
-counted c h st place (Refused pod plan why) is of timed may count =
+counted : (c : Run) (h : List Entry) (st : JobState) (index : ℕ) (ev : Event) → job_state_of h c.job ≡ st → command_of (attempts_of c.command) ev ≡ c.command → Timed c h ev → allows st ev ≡ true → Counted c.command st → Counted c.command (job_state_after st index ev)
+counted c h st index (Applied object mode) is of timed may count = tt
+counted c h st index (Deleted target) is of timed may count = tt
+counted c h st index (Reserved pod plan) is of timed may count = under_way c pod (failures st) of (subst (λ (x : JobState). failures x < attempts_of c.command) is timed.try.left)
+counted c h st index (Refused pod plan why) is of timed may count =
     let l : failures st < attempts_of c.command = subst (λ (x : JobState). failures x < attempts_of c.command) is timed.try.left in
     record { schedules = sym (ap is_schedule of); within = omega arith }
-counted c h (job_state.Reserved k) place (Wrote pod claim seen) is of timed may count = count
-counted c h job_state.Fresh place (Wrote pod claim seen) is of timed may count = absurd cc
-counted c h (job_state.Conflicted k) place (Wrote pod claim seen) is of timed may count = absurd cc
-counted c h (job_state.Failed k) place (Wrote pod claim seen) is of timed may count = absurd cc
-counted c h (job_state.Ended p) place (Wrote pod claim seen) is of timed may count = absurd cc
-counted c h (job_state.Reserved k) place (Conflict pod claim had now) is of timed may count = count
-counted c h job_state.Fresh place (Conflict pod claim had now) is of timed may count = absurd cc
-counted c h (job_state.Conflicted k) place (Conflict pod claim had now) is of timed may count = absurd cc
-counted c h (job_state.Failed k) place (Conflict pod claim had now) is of timed may count = absurd cc
-counted c h (job_state.Ended p) place (Conflict pod claim had now) is of timed may count = absurd cc
-counted c h (job_state.Conflicted k) place (Unreserved pod) is of timed may count = let l = count.left in record { schedules = count.schedules; within = omega arith }
-counted c h job_state.Fresh place (Unreserved pod) is of timed may count = absurd cc
-counted c h (job_state.Reserved k) place (Unreserved pod) is of timed may count = absurd cc
-counted c h (job_state.Failed k) place (Unreserved pod) is of timed may count = absurd cc
-counted c h (job_state.Ended p) place (Unreserved pod) is of timed may count = absurd cc
-counted c h st place (Bound pod node) is of timed may count = tt
-counted c h st place (VerdictGiven pod verdict) is of timed may count = tt
-counted c h st place (Contended pod failed) is of timed may count = tt
-counted c h st place (Released pod) is of timed may count = tt
-counted c h st place (Adopted claim status) is of timed may count = tt
-counted c h st place (Denied command refusal) is of timed may count = tt
+counted c h (job_state.Reserved k) index (Wrote pod claim seen) is of timed may count = count
+counted c h job_state.Fresh index (Wrote pod claim seen) is of timed may count = absurd cc
+counted c h (job_state.Conflicted k) index (Wrote pod claim seen) is of timed may count = absurd cc
+counted c h (job_state.Failed k) index (Wrote pod claim seen) is of timed may count = absurd cc
+counted c h (job_state.Ended p) index (Wrote pod claim seen) is of timed may count = absurd cc
+counted c h (job_state.Reserved k) index (Conflict pod claim had now) is of timed may count = count
+counted c h job_state.Fresh index (Conflict pod claim had now) is of timed may count = absurd cc
+counted c h (job_state.Conflicted k) index (Conflict pod claim had now) is of timed may count = absurd cc
+counted c h (job_state.Failed k) index (Conflict pod claim had now) is of timed may count = absurd cc
+counted c h (job_state.Ended p) index (Conflict pod claim had now) is of timed may count = absurd cc
+counted c h (job_state.Conflicted k) index (Unreserved pod) is of timed may count = let l = count.left in record { schedules = count.schedules; within = omega arith }
+counted c h job_state.Fresh index (Unreserved pod) is of timed may count = absurd cc
+counted c h (job_state.Reserved k) index (Unreserved pod) is of timed may count = absurd cc
+counted c h (job_state.Failed k) index (Unreserved pod) is of timed may count = absurd cc
+counted c h (job_state.Ended p) index (Unreserved pod) is of timed may count = absurd cc
+counted c h st index (Bound pod node) is of timed may count = tt
+counted c h st index (VerdictGiven pod verdict) is of timed may count = tt
+counted c h st index (Contended pod failed) is of timed may count = tt
+counted c h st index (Released pod) is of timed may count = tt
+counted c h st index (Adopted claim status) is of timed may count = tt
+counted c h st index (Denied command refusal) is of timed may count = tt
 
 pub staged_ready : (c : Run) (h : List Entry) (cmd : Command) → IsStaged c h cmd Ready
 staged_ready c h (Apply object mode) = tt
@@ -377,5 +377,5 @@ fits_command c h (Adopt claim status) kept s = tt
 pub running_fits : (c : Run) (h : List Entry) (w : Work) → Running c h w → Fits h w
 running_fits c h w r = subst (λ (x : Command). FitsCommand h x w.stage) (sym r.command) (fits_command c h c.command w.stage r.staged)
 
-pub running_ended : (c : Run) (h : List Entry) (w : Work) (place : ℕ) → Running c h w → job_state_of h c.job ≡ job_state.Ended place → JobRun c h
-running_ended c h w place r e = record { kept = r.kept; place = place; ended = e }
+pub running_ended : (c : Run) (h : List Entry) (w : Work) (index : ℕ) → Running c h w → job_state_of h c.job ≡ job_state.Ended index → JobRun c h
+running_ended c h w index r e = record { kept = r.kept; index = index; ended = e }

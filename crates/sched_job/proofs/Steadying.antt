@@ -63,8 +63,8 @@ written_use pod users None had is e = absurd (let old : at_key users pod ≡ Som
 written_use pod users (Some u) had is e = absurd (let now = changed_there pod (λ (u : Use). Written) users u is in cc)
 
 -- the write of its use
-pub steady_written : (s : State) (place : ℕ) (pod claim : Key) → Steady pod s.claims → Steady pod (with_written place pod claim s).claims
-steady_written s place pod claim old = steady_changed pod claim (written_by place pod) s.claims (λ c had e. absurd (written_use pod c.users (at_key c.users pod) had refl e)) old
+pub steady_written : (s : State) (index : ℕ) (pod claim : Key) → Steady pod s.claims → Steady pod (with_written index pod claim s).claims
+steady_written s index pod claim old = steady_changed pod claim (written_by index pod) s.claims (λ c had e. absurd (written_use pod c.users (at_key c.users pod) had refl e)) old
 
 unused : (pod : Key) (claims : Claims) (claim : Key) (o : Option ClaimState) → at_key claims claim ≡ o → ((c : ClaimState) → o ≡ Some c → is_some (at_key c.users pod) ≡ false) → SteadyAt pod o
 unused pod claims claim None is never_used had e = absurd cc

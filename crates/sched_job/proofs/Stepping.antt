@@ -31,24 +31,24 @@ use Rattle.sched_job.proofs.Runnings.{running_fits, running_ended, staged_ready,
 abbrev pub GoesOn : Type 0
 GoesOn = (c : Run) (h : List Entry) (w : Work) (e : Entry) → eqb e.job c.job ≡ false → Running c h w → Running c (h ++ e ∷ []) w
 
-not_fresh : (st : JobState) (place : ℕ) (ev : Event) → job_state_after st place ev ≡ job_state.Fresh → ⊥
-not_fresh st place (Applied object mode) e = cc
-not_fresh st place (Deleted target) e = cc
-not_fresh st place (Reserved pod plan) e = cc
-not_fresh st place (Refused pod plan why) e = cc
-not_fresh st place (Wrote pod claim seen) e = cc
-not_fresh st place (Conflict pod claim had now) e = cc
-not_fresh st place (Unreserved pod) e = cc
-not_fresh st place (Bound pod node) e = cc
-not_fresh st place (VerdictGiven pod verdict) e = cc
-not_fresh st place (Contended pod failed) e = cc
-not_fresh st place (Released pod) e = cc
-not_fresh st place (Adopted claim status) e = cc
-not_fresh st place (Denied command refusal) e = cc
+not_fresh : (st : JobState) (index : ℕ) (ev : Event) → job_state_after st index ev ≡ job_state.Fresh → ⊥
+not_fresh st index (Applied object mode) e = cc
+not_fresh st index (Deleted target) e = cc
+not_fresh st index (Reserved pod plan) e = cc
+not_fresh st index (Refused pod plan why) e = cc
+not_fresh st index (Wrote pod claim seen) e = cc
+not_fresh st index (Conflict pod claim had now) e = cc
+not_fresh st index (Unreserved pod) e = cc
+not_fresh st index (Bound pod node) e = cc
+not_fresh st index (VerdictGiven pod verdict) e = cc
+not_fresh st index (Contended pod failed) e = cc
+not_fresh st index (Released pod) e = cc
+not_fresh st index (Adopted claim status) e = cc
+not_fresh st index (Denied command refusal) e = cc
 
-fresh_pick : (b : Bool) (st : JobState) (place : ℕ) (ev : Event) → cond b (job_state_after st place ev) st ≡ job_state.Fresh → (st ≡ job_state.Fresh) × (b ≡ true → ⊥)
-fresh_pick true st place ev e = absurd (not_fresh st place ev e)
-fresh_pick false st place ev e = (e, λ t. cc)
+fresh_pick : (b : Bool) (st : JobState) (index : ℕ) (ev : Event) → cond b (job_state_after st index ev) st ≡ job_state.Fresh → (st ≡ job_state.Fresh) × (b ≡ true → ⊥)
+fresh_pick true st index ev e = absurd (not_fresh st index ev e)
+fresh_pick false st index ev e = (e, λ t. cc)
 
 fresh_from : (job : ℕ) (st : JobState) (n : ℕ) (before es : List Entry) → told (next_job_state job) st n es ≡ job_state.Fresh → (st ≡ job_state.Fresh) × Each (λ b d. d.job ≡ job → ⊥) before es
 unfolding told Each
@@ -93,7 +93,7 @@ all_fit from budget h (w ∷ ws) all = (running_fits (run_of from budget w) h w 
 
 pub all_ends : (from budget : ℕ) (h : List Entry) (ws : List Work) → AllRunning from budget h ws → AllEnds from budget h ws
 all_ends from budget h [] all = tt
-all_ends from budget h (w ∷ ws) all = (λ place e. running_ended (run_of from budget w) h w place all.0 e, λ e. record { kept = all.0.kept; open_yet = e }, all_ends from budget h ws all.1)
+all_ends from budget h (w ∷ ws) all = (λ index e. running_ended (run_of from budget w) h w index all.0 e, λ e. record { kept = all.0.kept; open_yet = e }, all_ends from budget h ws all.1)
 
 pub fit_at : (h : List Entry) (ws : List Work) (at : ℕ) (d : Work) → at < length ws → AllFit h ws → Fits h (get_or ws at d)
 fit_at h [] at d lt all = absurd (omega arith)

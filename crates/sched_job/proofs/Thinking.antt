@@ -19,15 +19,15 @@ use Rattle.sched_job.specs.Steps.{IsSearched, Thought, ThoughtOf}
 -- a decision over a snapshot of the history's state
 decided : (c : Run) (h : List Entry) (pod : Key) (seen : Snapshot) (choice : Decision) → IsSeen c h seen → IsDecision seen.state pod c.budget seen.at choice → IsChosen c h pod choice
 decided c h pod seen (Reserve plan) s d =
-    let at : state_at h seen.at ≡ state_at h plan.at = ap (state_at h) (sym d.place) in
+    let at : state_at h seen.at ≡ state_at h plan.at = ap (state_at h) (sym d.index) in
     record {
-      tried = record { try = subst (IsTry c h) (sym d.place) s.try; by = subst (λ (t : State). PlanBy t pod c.budget plan) (s.state ∙ at) d.found };
+      tried = record { try = subst (IsTry c h) (sym d.index) s.try; by = subst (λ (t : State). PlanBy t pod c.budget plan) (s.state ∙ at) d.found };
       holds = subst (λ (t : State). PlanTrue t pod plan) (s.state ∙ at) d.holds;
     }
 decided c h pod seen (Judge verdict) s d =
-    let at : state_at h seen.at ≡ state_at h verdict.at = ap (state_at h) (sym d.place) in
+    let at : state_at h seen.at ≡ state_at h verdict.at = ap (state_at h) (sym d.index) in
     record {
-      tried = record { try = subst (IsTry c h) (sym d.place) s.try; by = subst (λ (t : State). VerdictBy t pod c.budget verdict) (s.state ∙ at) d.found };
+      tried = record { try = subst (IsTry c h) (sym d.index) s.try; by = subst (λ (t : State). VerdictBy t pod c.budget verdict) (s.state ∙ at) d.found };
       holds = subst (λ (t : State). VerdictTrue t pod verdict) (s.state ∙ at) d.holds;
     }
 

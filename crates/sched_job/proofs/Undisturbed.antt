@@ -48,7 +48,7 @@ calm job_state.Fresh = true
 calm (job_state.Reserved k) = true
 calm (job_state.Conflicted k) = false
 calm (job_state.Failed k) = false
-calm (job_state.Ended place) = true
+calm (job_state.Ended index) = true
 
 record Calm (c : Run) (pod : Key) (h : List Entry) : Type 0 where
   early : length h ≤ c.from → job_state_of h c.job ≡ job_state.Fresh
@@ -101,39 +101,39 @@ record After (pod : Key) (s' : State) (st' : JobState) (ev : Event) : Type 0 whe
 pod_is : (p pod : Key) (a b : ℕ) → Schedule p a ≡ Schedule pod b → p ≡ pod
 pod_is p pod a b e = cc
 
-own_after : Laws → (c : Run) (pod : Key) (attempts : ℕ) (h : List Entry) (st : JobState) (place job : ℕ) (ev : Event) → c.command ≡ Schedule pod attempts → Legal h → Calm c pod h → c.from ≤ length h → job_state_of h c.job ≡ st
-    → allows st ev ≡ true → MayFollow h job ev → JobStep c h ev → After pod (after place job ev (state_of h)) (job_state_after st place ev) ev
-own_after laws c pod attempts h st place job (Applied object mode) cmd legal q le sd may stands k = record { fine = refl; stands = refl; steady = λ held. absurd cc }
-own_after laws c pod attempts h st place job (Deleted target) cmd legal q le sd may stands k = record { fine = refl; stands = refl; steady = λ held. absurd cc }
-own_after laws c pod attempts h st place job (Reserved p plan) cmd legal q le sd may stands k =
+own_after : Laws → (c : Run) (pod : Key) (attempts : ℕ) (h : List Entry) (st : JobState) (index job : ℕ) (ev : Event) → c.command ≡ Schedule pod attempts → Legal h → Calm c pod h → c.from ≤ length h → job_state_of h c.job ≡ st
+    → allows st ev ≡ true → MayFollow h job ev → JobStep c h ev → After pod (after index job ev (state_of h)) (job_state_after st index ev) ev
+own_after laws c pod attempts h st index job (Applied object mode) cmd legal q le sd may stands k = record { fine = refl; stands = refl; steady = λ held. absurd cc }
+own_after laws c pod attempts h st index job (Deleted target) cmd legal q le sd may stands k = record { fine = refl; stands = refl; steady = λ held. absurd cc }
+own_after laws c pod attempts h st index job (Reserved p plan) cmd legal q le sd may stands k =
     let same : p ≡ pod = pod_is p pod (attempts_of c.command) attempts (k.of_command ∙ cmd) in
     let idle = stands.holds_now.idle in
     let busy : is_busy (at_key (state_of h).pods p) ≡ false = ap is_busy idle.there ∙ ap (λ (ph : Phase). not (is_idle ph)) idle.idle in
     let unused : is_user (state_of h) p ≡ false = laws.idle h p legal busy in
     record { fine = refl; stands = refl; steady = λ held. subst (λ (x : Key). Steady x (with_reserved job p plan (state_of h)).claims) same (steady_reserved (state_of h) job p plan (steady_unused (state_of h) p unused)) }
-own_after laws c pod attempts h st place job (Refused p plan why) cmd legal q le sd may stands k =
+own_after laws c pod attempts h st index job (Refused p plan why) cmd legal q le sd may stands k =
     let at : state_at h plan.at ≡ state_of h = state_here h plan.at (here c h pod plan.at q le k.timed.try) in
     let none : failing (state_of h) p plan ≡ None = laws.holds h p plan legal (subst (λ (t : State). PlanTrue t p plan) at stands.true_then) in
     absurd (some_none why (sym stands.fails ∙ none))
   where
     some_none : (x : Failure) → Some x ≡ None → ⊥
     some_none x e = cc
-own_after laws c pod attempts h st place job (Wrote p claim had) cmd legal q le sd may stands k =
+own_after laws c pod attempts h st index job (Wrote p claim had) cmd legal q le sd may stands k =
     let same : p ≡ pod = pod_is p pod (attempts_of c.command) attempts (k.of_command ∙ cmd) in
     let before : Steady pod (state_of h).claims = q.steady (ap has_reserved sd ∙ may) in
-    record { fine = refl; stands = refl; steady = λ held. subst (λ (x : Key). Steady pod (with_written place x claim (state_of h)).claims) (sym same) (steady_written (state_of h) place pod claim before) }
-own_after laws c pod attempts h st place job (Conflict p claim had now) cmd legal q le sd may stands k =
+    record { fine = refl; stands = refl; steady = λ held. subst (λ (x : Key). Steady pod (with_written index x claim (state_of h)).claims) (sym same) (steady_written (state_of h) index pod claim before) }
+own_after laws c pod attempts h st index job (Conflict p claim had now) cmd legal q le sd may stands k =
     let same : p ≡ pod = pod_is p pod (attempts_of c.command) attempts (k.of_command ∙ cmd) in
     let before : Steady p (state_of h).claims = subst (λ (x : Key). Steady x (state_of h).claims) (sym same) (q.steady (ap has_reserved sd ∙ may)) in
     let fits : version_of (state_of h) claim ≡ had = before.each claim had stands.use_next.assumed in
     absurd (stands.differ (sym fits ∙ sym stands.version))
-own_after laws c pod attempts h st place job (Unreserved p) cmd legal q le sd may stands k = absurd (not_conflicted st p (ap calm (sym sd) ∙ q.stands) may)
-own_after laws c pod attempts h st place job (Bound p node) cmd legal q le sd may stands k = record { fine = refl; stands = refl; steady = λ held. absurd cc }
-own_after laws c pod attempts h st place job (VerdictGiven p v) cmd legal q le sd may stands k = record { fine = refl; stands = refl; steady = λ held. absurd cc }
-own_after laws c pod attempts h st place job (Contended p n) cmd legal q le sd may stands k = absurd (not_failed st p n (ap calm (sym sd) ∙ q.stands) may)
-own_after laws c pod attempts h st place job (Released p) cmd legal q le sd may stands k = record { fine = refl; stands = refl; steady = λ held. absurd cc }
-own_after laws c pod attempts h st place job (Adopted claim status) cmd legal q le sd may stands k = record { fine = refl; stands = refl; steady = λ held. absurd cc }
-own_after laws c pod attempts h st place job (Denied command refusal) cmd legal q le sd may stands k = record { fine = refl; stands = refl; steady = λ held. absurd cc }
+own_after laws c pod attempts h st index job (Unreserved p) cmd legal q le sd may stands k = absurd (not_conflicted st p (ap calm (sym sd) ∙ q.stands) may)
+own_after laws c pod attempts h st index job (Bound p node) cmd legal q le sd may stands k = record { fine = refl; stands = refl; steady = λ held. absurd cc }
+own_after laws c pod attempts h st index job (VerdictGiven p v) cmd legal q le sd may stands k = record { fine = refl; stands = refl; steady = λ held. absurd cc }
+own_after laws c pod attempts h st index job (Contended p n) cmd legal q le sd may stands k = absurd (not_failed st p n (ap calm (sym sd) ∙ q.stands) may)
+own_after laws c pod attempts h st index job (Released p) cmd legal q le sd may stands k = record { fine = refl; stands = refl; steady = λ held. absurd cc }
+own_after laws c pod attempts h st index job (Adopted claim status) cmd legal q le sd may stands k = record { fine = refl; stands = refl; steady = λ held. absurd cc }
+own_after laws c pod attempts h st index job (Denied command refusal) cmd legal q le sd may stands k = record { fine = refl; stands = refl; steady = λ held. absurd cc }
 
 -- an entry of the job is no setback, and leaves all calm
 own_step : Laws → (c : Run) (pod : Key) (attempts : ℕ) (h : List Entry) (e : Entry) → c.command ≡ Schedule pod attempts → Calm c pod h → All c h e → e.job ≡ c.job → (is_setback e.event ≡ false) × Calm c pod (h ++ e ∷ [])

@@ -9,7 +9,7 @@ Each P before [] = Unit {0}
 Each P before (e ∷ es) = P before e × Each P (before ++ e ∷ []) es
 
 abbrev pub next_last : ℕ → ℕ → ℕ → Entry → ℕ
-next_last job last place e = if e.job == job then place else last
+next_last job last index e = if e.job == job then index else last
 
 -- the index of the job's last entry, or 0
 unfoldable pub last_place : List Entry → ℕ → ℕ

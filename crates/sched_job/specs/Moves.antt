@@ -113,7 +113,7 @@ schedule_move s job pod attempts stage job_state.Fresh = try_move s pod stage
 schedule_move s job pod attempts stage (job_state.Reserved failed) = finish_move s job pod
 schedule_move s job pod attempts stage (job_state.Conflicted failed) = give_up_move s job pod
 schedule_move s job pod attempts stage (job_state.Failed failed) = if nat_le attempts failed then Some (Contended pod failed) else try_move s pod stage
-schedule_move s job pod attempts stage (job_state.Ended place) = None
+schedule_move s job pod attempts stage (job_state.Ended index) = None
 
 -- the one event of a job that isn't to schedule a pod
 abbrev pub once : JobState → Event → Option Event
@@ -148,7 +148,7 @@ tries attempts job_state.Fresh = true
 tries attempts (job_state.Reserved failed) = false
 tries attempts (job_state.Conflicted failed) = false
 tries attempts (job_state.Failed failed) = if nat_le attempts failed then false else true
-tries attempts (job_state.Ended place) = false
+tries attempts (job_state.Ended index) = false
 
 abbrev pub schedule_stage : List Entry → JobState → ℕ → Option Event → Stage
 schedule_stage h st attempts None = if tries attempts st then looked h else stage.Ready
@@ -177,7 +177,7 @@ answer job_state.Fresh stage = answer_by stage
 answer (job_state.Reserved failed) stage = answer_by stage
 answer (job_state.Conflicted failed) stage = answer_by stage
 answer (job_state.Failed failed) stage = answer_by stage
-answer (job_state.Ended place) stage = next.Ended place
+answer (job_state.Ended index) stage = next.Ended index
 
 -- ---- the condition of a turn
 

@@ -122,15 +122,15 @@ JobKept c h = Each (λ before e. e.job ≡ c.job → JobStep c before e.event) [
 -- the job was run to its end
 pub record JobRun (c : Run) (h : List Entry) : Type 0 where
   pub kept : JobKept c h
-  pub place : ℕ
-  pub ended : job_state_of h c.job ≡ job_state.Ended place
+  pub index : ℕ
+  pub ended : job_state_of h c.job ≡ job_state.Ended index
 
 abbrev pub is_ended : JobState → Bool
 is_ended job_state.Fresh = false
 is_ended (job_state.Reserved failed) = false
 is_ended (job_state.Conflicted failed) = false
 is_ended (job_state.Failed failed) = false
-is_ended (job_state.Ended place) = true
+is_ended (job_state.Ended index) = true
 
 -- the job isn't ended, and its entries are a part of its run
 pub record JobBegun (c : Run) (h : List Entry) : Type 0 where
@@ -155,7 +155,7 @@ Counted c job_state.Fresh = Unit {0}
 Counted c (job_state.Reserved failed) = IsUnderWay c failed
 Counted c (job_state.Conflicted failed) = IsUnderWay c failed
 Counted c (job_state.Failed failed) = HasFailed c failed
-Counted c (job_state.Ended place) = Unit {0}
+Counted c (job_state.Ended index) = Unit {0}
 
 -- the snapshot is of the state at its index, at which an attempt may be made
 pub record IsSeen (c : Run) (h : List Entry) (seen : Snapshot) : Type 0 where

@@ -113,7 +113,7 @@ AllRunning from budget h (w ∷ ws) = Running (run_of from budget w) h w × AllR
 -- each job that is ended was run to its end, and each other one was begun
 abbrev pub AllEnds : ℕ → ℕ → List Entry → List Work → Type 0
 AllEnds from budget h [] = Unit {0}
-AllEnds from budget h (w ∷ ws) = ((place : ℕ) → job_state_of h w.job ≡ job_state.Ended place → JobRun (run_of from budget w) h) × (is_ended (job_state_of h w.job) ≡ false → JobBegun (run_of from budget w) h) × AllEnds from budget h ws
+AllEnds from budget h (w ∷ ws) = ((index : ℕ) → job_state_of h w.job ≡ job_state.Ended index → JobRun (run_of from budget w) h) × (is_ended (job_state_of h w.job) ≡ false → JobBegun (run_of from budget w) h) × AllEnds from budget h ws
 
 -- What some steps did: the history extends the old one by entries of the jobs, and each work has made all of its job's.
 pub record Ran (from budget : ℕ) (jobs : List ℕ) (h h' : List Entry) (ws : List Work) : Type 0 where

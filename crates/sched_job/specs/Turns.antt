@@ -44,7 +44,7 @@ attempts_left s pod attempts kept job_state.Fresh = attempt_turns * attempts + w
 attempts_left s pod attempts kept (job_state.Reserved failed) = attempt_turns * (attempts - failed - 1) + 2 + unwritten s pod
 attempts_left s pod attempts kept (job_state.Conflicted failed) = attempt_turns * (attempts - failed - 1) + 2
 attempts_left s pod attempts kept (job_state.Failed failed) = attempt_turns * (attempts - failed) + waits kept
-attempts_left s pod attempts kept (job_state.Ended place) = 0
+attempts_left s pod attempts kept (job_state.Ended index) = 0
 
 -- a job that isn't to schedule a pod makes one entry
 abbrev pub once_left : JobState → ℕ
@@ -52,7 +52,7 @@ once_left job_state.Fresh = 1
 once_left (job_state.Reserved failed) = 1
 once_left (job_state.Conflicted failed) = 1
 once_left (job_state.Failed failed) = 1
-once_left (job_state.Ended place) = 0
+once_left (job_state.Ended index) = 0
 
 abbrev pub left_by : State → Stage → JobState → Command → ℕ
 left_by s kept st (Apply object mode) = once_left st

@@ -30,7 +30,7 @@ pub fn run_alone(
     requires attempts { 0 < attempts_of command }
     ensures extends { Extends (job ∷ []) ledger.old.entries ledger.new.entries }
     ensures run { OnOk result (JobRun (record { job = job; command = command; from = length ledger.old.entries; budget = budget }) ledger.new.entries) }
-    ensures place { IfOk result (λ place. job_state_of ledger.new.entries job ≡ Ended place) }
+    ensures index { IfOk result (λ index. job_state_of ledger.new.entries job ≡ Ended index) }
     ensures begun { OnErr result (JobBegun (record { job = job; command = command; from = length ledger.old.entries; budget = budget }) ledger.new.entries) }
     ensures full { (n : ℕ) → IsErrOf result (LedgerError.Full n) → (length ledger.new.entries ≡ n) × (ledger.new.limit ≤ n) }
     ensures limit { ledger.new.limit ≡ ledger.old.limit }
@@ -54,7 +54,7 @@ fn run_work(
     requires attempts { 0 < attempts_of work.old.command }
     ensures extends { Extends (work.old.job ∷ []) ledger.old.entries ledger.new.entries }
     ensures run { OnOk result (JobRun (run_of (length ledger.old.entries) budget work.old) ledger.new.entries) }
-    ensures place { IfOk result (λ place. job_state_of ledger.new.entries work.old.job ≡ Ended place) }
+    ensures index { IfOk result (λ index. job_state_of ledger.new.entries work.old.job ≡ Ended index) }
     ensures begun { OnErr result (JobBegun (run_of (length ledger.old.entries) budget work.old) ledger.new.entries) }
     ensures full { (n : ℕ) → IsErrOf result (LedgerError.Full n) → (length ledger.new.entries ≡ n) × (ledger.new.limit ≤ n) }
     ensures limit { ledger.new.limit ≡ ledger.old.limit }
@@ -66,8 +66,8 @@ fn run_work(
     turns_are_few();
     let _len = ledger.len();
     'turns: loop {
-        if let JobState::Ended(place) = ledger.job_state(work.job) {
-            return Ok(place);
+        if let JobState::Ended(index) = ledger.job_state(work.job) {
+            return Ok(index);
         }
         go(alloc, ledger, work, budget)?;
     }

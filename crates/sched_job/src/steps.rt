@@ -60,7 +60,7 @@ fn go_at(
     at: usize,
     budget: u64,
 ) -> Result<u64, LedgerError>
-    requires place { at < length works.old }
+    requires index { at < length works.old }
     requires fit { AllFit ledger.old.entries works.old }
     ensures went { IfOk result (λ turns. WentAt budget ledger.old ledger.new works.old works.new at turns) }
     ensures full { (n : ℕ) → IsErrOf result (LedgerError.Full n) → (length ledger.new.entries ≡ n) × (ledger.new.limit ≤ n) }

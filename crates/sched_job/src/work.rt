@@ -102,7 +102,7 @@ fn answer(job_state: JobState, stage: &Stage) -> Next
     ensures { result ≡ answer job_state stage.now }
 {
     match job_state {
-        JobState::Ended(place) => Next::Ended(place),
+        JobState::Ended(index) => Next::Ended(index),
         JobState::Fresh | JobState::Reserved(_) | JobState::Conflicted(_) | JobState::Failed(_) =>
             match stage {
                 Stage::Seen(_) => Next::Think,

@@ -2,9 +2,9 @@ use Rattle.sched_job.proofs.Stepping.{fit_at, ran_moved}
 use Rattle.sched_job.proofs.steps.go_at.Goals as goal
 
 pub go-requires : goal.go-requires
-go-requires c = fit_at c.args.ledger.now.entries c.args.works.now c.args.at c.index-works-at.result c.requires.place c.requires.fit
+go-requires c = fit_at c.args.ledger.now.entries c.args.works.now c.args.at c.index-works-at.result c.requires.index c.requires.fit
 
 pub returns-clause-ran : goal.returns-clause-ran
 returns-clause-ran c = λ from jobs h differ ran.
-    ran_moved c.runs_go_on.ensures.running from c.args.budget jobs h c.args.ledger.now.entries c.go.new.ledger.entries c.args.works.now c.args.at c.index-works-at.result c.go.new.work c.requires.place differ
+    ran_moved c.runs_go_on.ensures.running from c.args.budget jobs h c.args.ledger.now.entries c.go.new.ledger.entries c.args.works.now c.args.at c.index-works-at.result c.go.new.work c.requires.index differ
     c.go.ensures.extends c.go.ensures.job c.go.ensures.command c.go.ensures.running ran

@@ -6,10 +6,10 @@ use Rattle.cluster.proofs.state.State.free.Goals as goal
 
 pub returns-clause-ok : goal.returns-clause-ok
 returns-clause-ok c =
-    let place = c.args.place in
+    let index = c.args.index in
     let pod = c.args.pod.now in
     let claims = c.args.self.now.claims in
     let there = at_key c.args.self.now.pods pod in
-    let made : c.leave.new.claims ≡ with_freed place pod (claims_by there) claims =
-    c.leave.ensures ∙ rw (c.in_ok-claims.ensures.value, c.in_ok-left.ensures, c.deref.ensures, c.get.ensures, c.deref-2.ensures) (left_is place pod claims there) in
+    let made : c.leave.new.claims ≡ with_freed index pod (claims_by there) claims =
+    c.leave.ensures ∙ rw (c.in_ok-claims.ensures.value, c.in_ok-left.ensures, c.deref.ensures, c.get.ensures, c.deref-2.ensures) (left_is index pod claims there) in
     rw (made, c.set_phase.ensures, c.in_ok-pods.ensures.value) refl

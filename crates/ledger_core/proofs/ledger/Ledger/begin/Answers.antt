@@ -18,7 +18,7 @@ returns-in_ok-snapshot-in-None-clause-begins c =
     record {
       unrefused = unrefused;
       same = c.self.view_is;
-      place = ap (λ (x : Seen). x.at) c.in_ok-snapshot-in-None.ensures.seen ∙ c.len-at.ensures.length;
+      index = ap (λ (x : Seen). x.at) c.in_ok-snapshot-in-None.ensures.seen ∙ c.len-at.ensures.length;
       state_is = ap (λ (x : Seen). x.state) c.in_ok-snapshot-in-None.ensures.seen ∙ state_is;
       state = idle.0;
       idle = idle.1;

@@ -17,7 +17,7 @@ use Rattle.ledger_core.proofs.ledger.Ledger.bind.Goals as goal
 pub invariant_of-self-2 : goal.invariant_of-self-2
 invariant_of-self-2 c =
     let kept = c.self.invariant in
-    let room = c.in_ok-place.ensures in
+    let room = c.in_ok-index.ensures in
     let pod = c.args.pod.now in
     let n = taken_node (state_of c.self.inside.entries.items) pod in
     let e : Entry = record { job = c.args.job; event = Bound pod n } in
@@ -36,4 +36,4 @@ pub returns-clause-legal : goal.returns-clause-legal
 returns-clause-legal c = (invariant_of-self-2 c).legal
 
 pub append-requires-clause-tries : goal.append-requires-clause-tries
-append-requires-clause-tries c = few_tries _ _ _ _ _ _ c.args.job c.self.invariant c.in_ok-place.ensures.stands
+append-requires-clause-tries c = few_tries _ _ _ _ _ _ c.args.job c.self.invariant c.in_ok-index.ensures.stands

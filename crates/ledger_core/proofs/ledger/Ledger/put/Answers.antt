@@ -19,7 +19,7 @@ invariant_of-self-2 c =
     let parts = c.into_parts-object.ensures in
     let e : Entry = record { job = c.args.job; event = Applied c.args.ready c.args.mode } in
     let step = subst (λ (h : History). Step h.entries e) (sym c.self.view_is) (record { allowed = c.requires.job_state; stands = c.requires.applied }) in
-    let placed = c.in_ok-place.ensures in
+    let placed = c.in_ok-index.ensures in
     let made : c.put_object.new.state ≡ after (length c.self.inside.entries.items + 1) c.args.job (Applied c.args.ready c.args.mode) c.self.inside.state =
     placed.ok ∙ ap (λ (x : Object). with_object (length c.self.inside.entries.items + 1) x c.self.inside.state) parts.kept.same in
     let holders = subst (λ (s : State). AreHeld c.self.inside.holders (held s)) (sym made) (applied_held c.self.inside.state (length c.self.inside.entries.items + 1) c.args.ready c.self.inside.holders kept.holders_are) in

@@ -12,7 +12,7 @@ use Rattle.ledger_core.proofs.ledger.Ledger.record_contended.Goals as goal
 pub invariant_of-self-2 : goal.invariant_of-self-2
 invariant_of-self-2 c =
     let kept = c.self.invariant in
-    let room = c.in_ok-place.ensures in
+    let room = c.in_ok-index.ensures in
     let e : Entry = record { job = c.args.job; event = Contended c.args.pod.now (failures (job_state_of c.self.inside.entries.items c.args.job)) } in
     let step =
     subst (λ (h : History). Step h.entries (record { job = c.args.job; event = Contended c.args.pod.now (failures (job_state_of h.entries c.args.job)) })) (sym c.self.view_is)
@@ -25,4 +25,4 @@ pub returns-clause-legal : goal.returns-clause-legal
 returns-clause-legal c = (invariant_of-self-2 c).legal
 
 pub append-requires-clause-tries : goal.append-requires-clause-tries
-append-requires-clause-tries c = few_tries _ _ _ _ _ _ c.args.job c.self.invariant c.in_ok-place.ensures.stands
+append-requires-clause-tries c = few_tries _ _ _ _ _ _ c.args.job c.self.invariant c.in_ok-index.ensures.stands

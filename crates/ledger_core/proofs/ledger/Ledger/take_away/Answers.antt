@@ -13,7 +13,7 @@ use Rattle.ledger_core.proofs.ledger.Ledger.take_away.Goals as goal
 pub invariant_of-self-2 : goal.invariant_of-self-2
 invariant_of-self-2 c =
     let kept = c.self.invariant in
-    let room = c.in_ok-place.ensures in
+    let room = c.in_ok-index.ensures in
     let e : Entry = record { job = c.args.job; event = Deleted c.args.target.now } in
     let step = subst (λ (h : History). Step h.entries e) (sym c.self.view_is) (record { allowed = c.requires.job_state; stands = c.requires.deleted }) in
     let made = c.in_ok-target.ensures in
@@ -25,4 +25,4 @@ pub returns-clause-legal : goal.returns-clause-legal
 returns-clause-legal c = (invariant_of-self-2 c).legal
 
 pub append-requires-clause-tries : goal.append-requires-clause-tries
-append-requires-clause-tries c = few_tries _ _ _ _ _ _ c.args.job c.self.invariant c.in_ok-place.ensures.stands
+append-requires-clause-tries c = few_tries _ _ _ _ _ _ c.args.job c.self.invariant c.in_ok-index.ensures.stands
