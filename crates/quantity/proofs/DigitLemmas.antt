@@ -11,12 +11,12 @@ use Rattle.quantity.specs.Value.{sign_of, digits_of, AreDigits}
 pub digit_is : (c : ℕ) → 48 ≤ c → c < 58 → is_ascii_digit c ≡ true
 digit_is c low high = grind (arith, nat_tests)
 
-prefix_len : (ds rest : List ℕ) → AreDigits ds → prefix_len is_ascii_digit rest ≡ 0 → prefix_len is_ascii_digit (ds ++ rest) ≡ length ds
-prefix_len [] rest a e = e
-prefix_len (d ∷ ds) rest a e = rw (digit_is d a.0 a.1) (omega (arith, prefix_len ds rest a.2 e))
+front_len : (ds rest : List ℕ) → AreDigits ds → prefix_len is_ascii_digit rest ≡ 0 → prefix_len is_ascii_digit (ds ++ rest) ≡ length ds
+front_len [] rest a e = e
+front_len (d ∷ ds) rest a e = rw (digit_is d a.0 a.1) (omega (arith, front_len ds rest a.2 e))
 
 pub digits_of-append : (ds rest : List ℕ) → AreDigits ds → prefix_len is_ascii_digit rest ≡ 0 → digits_of (ds ++ rest) ≡ (ds, rest)
-digits_of-append ds rest a e = rw (prefix_len ds rest a e, take-append_seam ds rest, drop-append_seam ds rest) refl
+digits_of-append ds rest a e = rw (front_len ds rest a e, take-append_seam ds rest, drop-append_seam ds rest) refl
 
 pub digits_of-all : (ds : List ℕ) → AreDigits ds → digits_of ds ≡ (ds, [])
 digits_of-all ds a = ap digits_of (sym (append-nil ds)) ∙ digits_of-append ds [] a refl

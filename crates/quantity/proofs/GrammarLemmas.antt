@@ -9,7 +9,7 @@ use Rattle.quantity.specs.Value.{digits_value, sign_of, digits_of, fraction_of, 
 use Rattle.quantity.specs.Grammar.{Sign, Unsigned, Plus, Minus, sign_text, is_minus, Number, Whole, Pointed, number_text, IsNumber, whole, fraction, Suffix, Bare, Decimal, Binary, Exponent, exponent_letter, suffix_text, IsSuffix, factor, spelled, IsSpelled}
 use Rattle.quantity.specs.declared.error.QuantityError.{QuantityError}
 use Rattle.quantity.specs.declared.error.QuantityError.TheVariants.{BadText}
-use Rattle.quantity.proofs.NumberLemmas.{AreDigits-prefix, AreDigits-from_numeral}
+use Rattle.quantity.proofs.NumberLemmas.{AreDigits-front, AreDigits-from_numeral}
 use Rattle.quantity.proofs.DigitLemmas.{digit_is, digits_of-append, sign_of-digit}
 use Rattle.quantity.proofs.ValueLemmas.{value_is}
 
@@ -171,7 +171,7 @@ point_split true ds c cs e a =
     let parts : fs ++ rest ≡ cs = take-append-drop (prefix_len is_ascii_digit cs) cs in
     elim (none_or_some (length ds + length fs)) [
       | inl none ↦ inl none
-      | inr more ↦ inr (Pointed ds fs, (a, AreDigits-prefix cs, more), ap (λ n. ds ++ n ∷ cs) (eqb-true c 46 e) ∙ ap (λ t. ds ++ 46 ∷ t) (sym parts) ∙ sym (append_assoc ds (46 ∷ fs) rest))
+      | inr more ↦ inr (Pointed ds fs, (a, AreDigits-front cs, more), ap (λ n. ds ++ n ∷ cs) (eqb-true c 46 e) ∙ ap (λ t. ds ++ 46 ∷ t) (sym parts) ∙ sym (append_assoc ds (46 ∷ fs) rest))
     ]
 
 number_split : (ds r : List ℕ) → AreDigits ds → NumberSplit ds (ds ++ r) (fraction_of r)
@@ -219,7 +219,7 @@ magnitude_split cs =
     let ds = (digits_of cs).0 in
     let r = (digits_of cs).1 in
     let parts : ds ++ r ≡ cs = take-append-drop (prefix_len is_ascii_digit cs) cs in
-    elim (number_split ds r (AreDigits-prefix cs)) [
+    elim (number_split ds r (AreDigits-front cs)) [
       | inl none ↦ inl (rw (eq-eqb _ _ none) refl)
       | inr number ↦ elim (suffix_split (fraction_of r).1) [
         | inl bad ↦ inl (either_bad (length ds + length (fraction_of r).0 == 0) (magnitude_times ds (fraction_of r).0 (suffix_factor (fraction_of r).1)) (ap (magnitude_times ds (fraction_of r).0) bad))

@@ -106,9 +106,9 @@ AreDigits-step true c n cs e a =
     let digit = is_digit c e in
     rw more (digit.0, digit.1, a)
 
-pub AreDigits-prefix : (cs : List ℕ) → AreDigits (take (prefix_len is_ascii_digit cs) cs)
-AreDigits-prefix [] = tt
-AreDigits-prefix (c ∷ cs) = AreDigits-step (is_ascii_digit c) c (prefix_len is_ascii_digit cs) cs refl (AreDigits-prefix cs)
+pub AreDigits-front : (cs : List ℕ) → AreDigits (take (prefix_len is_ascii_digit cs) cs)
+AreDigits-front [] = tt
+AreDigits-front (c ∷ cs) = AreDigits-step (is_ascii_digit c) c (prefix_len is_ascii_digit cs) cs refl (AreDigits-front cs)
 
 pub AreDigits-from_all : (ds : List ℕ) → list_all is_ascii_digit ds ≡ true → AreDigits ds
 AreDigits-from_all [] e = tt

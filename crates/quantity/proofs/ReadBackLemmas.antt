@@ -99,11 +99,11 @@ text_value m h =
     let f = m % 10 ^ 9 in
     let fits : w < 2 ^ 64 = omega (arith, h) in
     let part : f < 10 ^ 9 = omega arith in
-    let prefix = digits_of-append (decimal w) (fraction_text f) (digits_decimal own w fits) (no_digit f) in
+    let front = digits_of-append (decimal w) (fraction_text f) (digits_decimal own w fits) (no_digit f) in
     let sum : digits_value (decimal w ++ places_text 9 f) ≡ w * 10 ^ length (places_text 9 f) + digits_value (places_text 9 f) =
     digits_value-append (decimal w) (places_text 9 f) ∙ ap (λ n. n * 10 ^ length (places_text 9 f) + digits_value (places_text 9 f)) (digits_value-decimal own w fits) in
     let value = ap (λ n. n * 10 ^ 9) sum ∙ with_places w (10 ^ 9) (10 ^ length (places_text 9 f)) (digits_value (places_text 9 f)) m f (div-add-mod' m (10 ^ 9)) (places_value 9 f part) in
-    ap (λ (p : List ℕ × List ℕ). number_value p.0 (fraction_of p.1).0 (fraction_of p.1).1) prefix
+    ap (λ (p : List ℕ × List ℕ). number_value p.0 (fraction_of p.1).0 (fraction_of p.1).1) front
     ∙ ap (λ (p : List ℕ × List ℕ). number_value (decimal w) p.0 p.1) (fraction_of-text f part)
     ∙ number_value-whole (decimal w) (places_text 9 f) m (decimal_nonempty w fits) h value
 
