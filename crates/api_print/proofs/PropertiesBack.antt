@@ -21,7 +21,7 @@ use Rattle.object_fields.specs.declared.path.Step.TheVariants.{Key, Member}
 use Rattle.object_fields.specs.declared.qualified.QualName.{QualName}
 use Rattle.api_claim.specs.Limits as claim
 use Rattle.api_slice.specs.Attributes.{attribute_of, attributes_of, attributes_with, chars_most, new_name, qual_cmp}
-use Rattle.api_slice.specs.Capacity.{amount_of, capacity_of, capacity_with, together_at, together_most}
+use Rattle.api_slice.specs.Capacity.{capacity_of, capacity_with, together_at, together_most, value_without_policy}
 use Rattle.api_slice.specs.Lists.{count_at}
 use Rattle.api_slice.specs.Properties.{IsFullName, IsValue}
 use Rattle.api_slice.specs.declared.types.Attribute.{Attribute}
@@ -147,7 +147,7 @@ attributes_back driver path d (e ∷ es) h sorted names values =
 
 -- ---- capacities
 
-amount_back : (p : List Step) (n : ℤ) → QuantityInRange n → amount_of p (amount_json n) ≡ Ok n
+amount_back : (p : List Step) (n : ℤ) → QuantityInRange n → value_without_policy p (amount_json n) ≡ Ok n
 amount_back p n h = rw h.reads refl
 
 capacity_read : (driver : List ℕ) (path : List Step) (before xs : List (QualName × ℤ)) → AreFresh qual_cmp xs before → AreApart qual_cmp xs → AllBoth IsFullName QuantityInRange xs → capacity_with driver path before (named full_name amount_json xs) ≡ Ok (inserted qual_cmp before xs)

@@ -21,7 +21,7 @@ use Rattle.object_fields.specs.declared.path.Step.TheVariants as step
 use Rattle.object_fields.specs.declared.qualified.QualName.{QualName}
 use Rattle.api_slice.specs.Amounts as amounts
 use Rattle.api_slice.specs.Attributes.{attribute_of, attributes_in, attributes_with, chars_most, is_long, is_version, new_name, one_value, qual_cmp, short_text_at, version_at, version_text}
-use Rattle.api_slice.specs.Capacity.{amount_of, capacity_in, capacity_with}
+use Rattle.api_slice.specs.Capacity.{capacity_in, capacity_with, value_without_policy}
 use Rattle.api_slice.specs.Consumption.{amounts_at, amounts_most, amounts_with, consumes_of, draws_from, draws_on, find_set, has_counter, known_counter, new_draw_on}
 use Rattle.api_slice.specs.Counters.{counter_name, counter_sets_at, counters_at, counters_most, counters_with, has_set, new_set_name, sets_from}
 use Rattle.api_slice.specs.Drivers.{IsDriver}
@@ -130,9 +130,9 @@ capacity_table driver path most before no_members out d t h =
     along (IsTable IsFullName IsAnyAmount (most + 0)) before out e more
 capacity_table driver path most before (member key value ms) out d t h =
     let n = gave (new_name (path ++ step.Key key ∷ []) driver before key) (λ name.
-    amount_of (path ++ step.Key key ∷ []) value >>= λ x.
+    value_without_policy (path ++ step.Key key ∷ []) value >>= λ x.
     capacity_with driver path (insert_entry qual_cmp before name x) ms) out h in
-    let v = gave (amount_of (path ++ step.Key key ∷ []) value) (λ x.
+    let v = gave (value_without_policy (path ++ step.Key key ∷ []) value) (λ x.
     capacity_with driver path (insert_entry qual_cmp before n.value x) ms) out n.second in
     let full = full_name (path ++ step.Key key ∷ []) driver key before n.value d n.first in
     let r = capacity_table driver path (most + 1) (insert_entry qual_cmp before n.value v.value) ms out d (one_more qual_cmp IsFullName IsAnyAmount most before n.value v.value t full tt) v.second in

@@ -16,9 +16,9 @@ use Rattle.api_slice.specs.Lists.{count_at}
 abbrev pub together_most : ℕ
 together_most = 32
 
--- `value`; a `requestPolicy` is left out
-abbrev pub amount_of : List Step → Data → Result ℤ FieldError
-amount_of path value =
+-- `value`, a quantity that may be negative; a `requestPolicy` isn't supported
+abbrev pub value_without_policy : List Step → Data → Result ℤ FieldError
+value_without_policy path value =
     object_value path value >>= λ d.
     quantity_at path (codes "value") d >>= λ amount.
     unset_at path (codes "requestPolicy") d >>= λ nothing.
@@ -29,7 +29,7 @@ abbrev pub capacity_with : List ℕ → List Step → List (QualName × ℤ) →
 capacity_with driver path before no_members = Ok before
 capacity_with driver path before (member key d ms) =
     new_name (path ++ Key key ∷ []) driver before key >>= λ name.
-    amount_of (path ++ Key key ∷ []) d >>= λ amount.
+    value_without_policy (path ++ Key key ∷ []) d >>= λ amount.
     capacity_with driver path (insert_entry qual_cmp before name amount) ms
 
 abbrev pub capacity_in : List ℕ → List Step → Option Members → Result (List (QualName × ℤ)) FieldError

@@ -70,7 +70,7 @@ fn capacity_with(
 
 /// A capacity's value, at its own path.
 fn read_one(alloc: Global, value: &Value, path: &Path) -> Result<Quantity, FieldError>
-    ensures { Reads result (fields.amount_of path.now (view value.now)) }
+    ensures { Reads result (fields.value_without_policy path.now (view value.now)) }
 {
     let object = value_object(alloc, value, path)?;
     let amount = read_quantity(alloc, object, path, "value")?;

@@ -15,7 +15,7 @@ use Rattle.object_fields.specs.declared.path.Step.TheVariants as step
 use Rattle.object_fields.specs.declared.qualified.QualName.{QualName}
 use Rattle.api_slice.specs.Amounts.{quantity_at}
 use Rattle.api_slice.specs.Attributes.{attribute_of, attributes_with, has_name, is_long, is_version, new_name, one_value, qual_cmp, short_text_at, version_at, version_text}
-use Rattle.api_slice.specs.Capacity.{amount_of, capacity_in, capacity_of, capacity_with, together_at, together_most}
+use Rattle.api_slice.specs.Capacity.{capacity_in, capacity_of, capacity_with, together_at, together_most, value_without_policy}
 use Rattle.api_slice.specs.Lists.{count_at}
 use Rattle.slice_laws.specs.NewKeys.{IsOverTogether}
 use Rattle.api_slice.specs.declared.types.Attribute.{Attribute}
@@ -89,7 +89,7 @@ never_unset : (kind : FieldErrorKind) (g : FieldError) → (g.kind ≡ kind → 
 never_unset kind g n None = never_done kind tt
 never_unset kind g n (Some d) = never_unless kind g (not (is_unset d)) tt n
 
-pub never_capacity : (kind : FieldErrorKind) → Plain kind → (path : List Step) (d : Data) → Never kind (amount_of path d)
+pub never_capacity : (kind : FieldErrorKind) → Plain kind → (path : List Step) (d : Data) → Never kind (value_without_policy path d)
 never_capacity kind p path value =
     never_then kind (object_value path value) (λ d. quantity_at path (codes "value") d >>= λ amount. unset_at path (codes "requestPolicy") d >>= λ nothing. done amount)
     (never_object kind p path value)
@@ -109,12 +109,12 @@ attributes_are driver path before (member key d ms) =
     (λ name. go (attribute_of at d) (λ value. attributes_with driver path (insert_entry qual_cmp before name value) ms) (λ value. table_from attribute_of driver path (insert_entry qual_cmp before name value) ms)
     (λ value. attributes_are driver path (insert_entry qual_cmp before name value) ms))
 
-pub capacities_are : (driver : List ℕ) (path : List Step) (before : List (QualName × ℤ)) (ms : Members) → capacity_with driver path before ms ≡ table_from amount_of driver path before ms
+pub capacities_are : (driver : List ℕ) (path : List Step) (before : List (QualName × ℤ)) (ms : Members) → capacity_with driver path before ms ≡ table_from value_without_policy driver path before ms
 capacities_are driver path before no_members = refl
 capacities_are driver path before (member key d ms) =
     let at : List Step = path ++ step.Key key ∷ [] in
-    go (new_name at driver before key) (λ name. amount_of at d >>= λ value. capacity_with driver path (insert_entry qual_cmp before name value) ms) (λ name. amount_of at d >>= λ value. table_from amount_of driver path (insert_entry qual_cmp before name value) ms)
-    (λ name. go (amount_of at d) (λ value. capacity_with driver path (insert_entry qual_cmp before name value) ms) (λ value. table_from amount_of driver path (insert_entry qual_cmp before name value) ms)
+    go (new_name at driver before key) (λ name. value_without_policy at d >>= λ value. capacity_with driver path (insert_entry qual_cmp before name value) ms) (λ name. value_without_policy at d >>= λ value. table_from value_without_policy driver path (insert_entry qual_cmp before name value) ms)
+    (λ name. go (value_without_policy at d) (λ value. capacity_with driver path (insert_entry qual_cmp before name value) ms) (λ value. table_from value_without_policy driver path (insert_entry qual_cmp before name value) ms)
     (λ value. capacities_are driver path (insert_entry qual_cmp before name value) ms))
 
 -- ---- both together
@@ -123,9 +123,9 @@ never_table_of : (driver : List ℕ) (path : List Step) (before : List (QualName
 never_table_of driver path before no_members = never_done TooMany before
 never_table_of driver path before (member key d ms) =
     let at : List Step = path ++ step.Key key ∷ [] in
-    never_then TooMany (new_name at driver before key) (λ name. amount_of at d >>= λ value. capacity_with driver path (insert_entry qual_cmp before name value) ms)
+    never_then TooMany (new_name at driver before key) (λ name. value_without_policy at d >>= λ value. capacity_with driver path (insert_entry qual_cmp before name value) ms)
     (never_then TooMany (qual_name_in at driver key) (λ name. unless (error_at at Doubled) (has_name name before) name) (never_key TooMany not_many at driver key) (λ name. never_unless TooMany (error_at at Doubled) (has_name name before) name (λ h. cc)))
-    (λ name. never_then TooMany (amount_of at d) (λ value. capacity_with driver path (insert_entry qual_cmp before name value) ms) (never_capacity TooMany not_many at d) (λ value. never_table_of driver path (insert_entry qual_cmp before name value) ms))
+    (λ name. never_then TooMany (value_without_policy at d) (λ value. capacity_with driver path (insert_entry qual_cmp before name value) ms) (never_capacity TooMany not_many at d) (λ value. never_table_of driver path (insert_entry qual_cmp before name value) ms))
 
 never_in : (driver : List ℕ) (path : List Step) (o : Option Members) → Never TooMany (capacity_in driver path o)
 never_in driver path None = never_done TooMany []

@@ -8,7 +8,7 @@ ghost use Rattle.object_fields.specs.declared.path.Step.{Step};
 ghost use Rattle.object_fields.specs.declared.path.Step.TheVariants.{Key};
 ghost use Rattle.object_fields.specs.declared.qualified.QualName.{QualName};
 ghost use Rattle.api_slice.specs.Attributes.{attribute_of, attributes_with};
-ghost use Rattle.api_slice.specs.Capacity.{amount_of, capacity_of, capacity_with, together_most};
+ghost use Rattle.api_slice.specs.Capacity.{capacity_of, capacity_with, together_most, value_without_policy};
 ghost use Rattle.api_slice.specs.Lists.{count_at};
 ghost use Rattle.slice_laws.specs.NewKeys.{AreNewNames, IsOverTogether, IsRepeatedKey, is_name_among, keys_in, names_alone};
 
@@ -29,9 +29,9 @@ pub fn attribute_names_are_new()
 /// if there are more than 32 attributes and capacities together.
 pub fn capacity_names_are_new()
     ensures new { (driver : List ℕ) (path : List Step) (ms : Members) (names : List QualName) →
-        names_alone amount_of driver path ms ≡ Ok names → AreNewNames [] names → is_ok (capacity_with driver path [] ms) ≡ true }
+        names_alone value_without_policy driver path ms ≡ Ok names → AreNewNames [] names → is_ok (capacity_with driver path [] ms) ≡ true }
     ensures doubled { (driver : List ℕ) (path : List Step) (ms : Members) (before behind : List QualName) (name : QualName) (key : List ℕ) →
-        names_alone amount_of driver path ms ≡ Ok (before ++ name ∷ behind) → AreNewNames [] before → is_name_among name before ≡ true → slice_get (keys_in ms) (length before) ≡ Some key →
+        names_alone value_without_policy driver path ms ≡ Ok (before ++ name ∷ behind) → AreNewNames [] before → is_name_among name before ≡ true → slice_get (keys_in ms) (length before) ≡ Some key →
         capacity_with driver path [] ms ≡ Err (error_at (path ++ Key key ∷ []) Doubled) }
     ensures only { (driver : List ℕ) (path : List Step) (ms : Members) (e : FieldError) →
         capacity_with driver path [] ms ≡ Err e → e.kind ≡ Doubled → IsRepeatedKey driver path ms e }
