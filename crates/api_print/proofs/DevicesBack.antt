@@ -8,6 +8,7 @@ use Rattle.std.specs.Map.{keys_of, values_of}
 use Rattle.serde_json.specs.Data.{Data, string}
 use Rattle.serde_json.specs.Find.{get}
 use Rattle.object_fields.specs.Fields.{items_length}
+use Rattle.object_fields.specs.Lists.{alone, each_from}
 use Rattle.object_fields.specs.declared.error.FieldError.{FieldError}
 use Rattle.object_fields.specs.declared.path.Step.{Step}
 use Rattle.object_fields.specs.declared.path.Step.TheVariants.{Member, Place}
@@ -17,7 +18,6 @@ use Rattle.api_slice.specs.Capacity.{capacity_of}
 use Rattle.api_slice.specs.Consumption.{consumes_of}
 use Rattle.api_slice.specs.Devices.{devices_at, devices_most, devices_with, names_from, new_device_name, nothing_more, nothing_more_from, rows_of}
 use Rattle.api_slice.specs.Limits.{AreDifferent, DrawsOn, IsLabel, KeepsLimits}
-use Rattle.api_slice.specs.Lists.{each_from}
 use Rattle.api_slice.specs.Nodes.{device_nodes_of}
 use Rattle.api_slice.specs.Properties.{IsFullName, IsValue}
 use Rattle.api_slice.specs.declared.types.Attribute.{Attribute}
@@ -110,7 +110,7 @@ weaker P Q [] f h = tt
 weaker P Q (x ∷ xs) f h = (f x h.0, weaker P Q xs f h.1)
 
 column_back : {A B : Type 0} (reading : List Step → Data → Result B FieldError) (json : A → Data) (read_as : A → B) (path : List Step) (place : ℕ) (before : List B) (xs : List A) → AllByRecursion (λ x. (p : List Step) → reading p (json x) ≡ Ok (read_as x)) xs
-    → each_from reading path place before (listed json xs) ≡ Ok (before ++ map read_as xs)
+    → each_from (alone reading) path place before (listed json xs) ≡ Ok (before ++ map read_as xs)
 column_back reading json read_as path place before [] h = rw (append-nil before) refl
 column_back reading json read_as path place before (x ∷ xs) h =
     rw (h.0 (path ++ Place place ∷ [])) (column_back reading json read_as path (place + 1) (before ++ read_as x ∷ []) xs h.1 ∙ ap Ok (append_assoc before (read_as x ∷ []) (map read_as xs)))

@@ -20,11 +20,11 @@ use Rattle.node_select.specs.declared.requirement.Test.{Test}
 use Rattle.node_select.specs.declared.requirement.Test.TheVariants.{OneOf, NoneOf, Present, Absent, Above, Below}
 use Rattle.node_select.specs.declared.selector.Selector.{Selector}
 use Rattle.object_fields.specs.Fields.{text_value}
+use Rattle.object_fields.specs.Lists.{alone, each, each_from}
 use Rattle.object_fields.specs.declared.error.FieldError.{FieldError}
 use Rattle.object_fields.specs.declared.path.Step.{Step}
 use Rattle.object_fields.specs.declared.path.Step.TheVariants.{Member, Place}
 use Rattle.api_slice.specs.Limits.{HasValues, IsDue, IsExpression, IsField, IsNodes, IsSelector, IsSliceNodes, is_of_values}
-use Rattle.api_slice.specs.Lists.{each, each_from}
 use Rattle.api_slice.specs.Nodes.{device_nodes_of, slice_nodes_at}
 use Rattle.api_slice.specs.Selectors.{expression_of, expressions_at, field_of, fields_at, selector_of, term_of}
 use Rattle.api_slice.specs.declared.types.Nodes.{Nodes}
@@ -72,7 +72,7 @@ whole_back (negsuc n) h =
 
 -- ---- items that are read one after another
 
-pub each_same : {A : Type 0} (reading : List Step → Data → Result A FieldError) (json : A → Data) (path : List Step) (place : ℕ) (before xs : List A) → AllByRecursion (λ x. (p : List Step) → reading p (json x) ≡ Ok x) xs → each_from reading path place before (listed json xs) ≡ Ok (before ++ xs)
+pub each_same : {A : Type 0} (reading : List Step → Data → Result A FieldError) (json : A → Data) (path : List Step) (place : ℕ) (before xs : List A) → AllByRecursion (λ x. (p : List Step) → reading p (json x) ≡ Ok x) xs → each_from (alone reading) path place before (listed json xs) ≡ Ok (before ++ xs)
 each_same reading json path place before [] h = rw (append-nil before) refl
 each_same reading json path place before (x ∷ xs) h =
     rw (h.0 (path ++ Place place ∷ [])) (each_same reading json path (place + 1) (before ++ x ∷ []) xs h.1 ∙ ap Ok (append_assoc before (x ∷ []) xs))

@@ -6,6 +6,7 @@ use Rattle.std.specs.List.{All}
 use Rattle.serde_json.specs.Data.{Data, Items, no_items, item}
 use Rattle.object_fields.specs.Fields.{dns_label_at, field_error, items_length, name_in, natural_at, object_at, pool_name_at, object_value, optional_at, short_list_at, table_at, text_at, unless, ◌>>=◌}
 use Rattle.object_fields.specs.Limits.{MetaKept, VersionKept}
+use Rattle.object_fields.specs.Lists.{alone, each, each_from}
 use Rattle.object_fields.specs.Meta.{meta_at, name_most}
 use Rattle.object_fields.specs.Names.{is_dns_name, is_pool_name, pool_most}
 use Rattle.object_fields.specs.declared.error.FieldError.{FieldError}
@@ -24,7 +25,7 @@ use Rattle.api_slice.specs.Devices.{columns_of, devices_at, devices_most, device
 use Rattle.api_slice.specs.Drivers.{IsDriver, driver_most}
 use Rattle.api_slice.specs.Limits.{AreDifferent, IsLabel, IsPool, IsWithinLimits, KeepsLimits}
 use Rattle.api_slice.specs.Properties.{ArePaired, AreProperties}
-use Rattle.api_slice.specs.Lists.{count_at, each, each_from, items_or_none}
+use Rattle.api_slice.specs.Lists.{count_at, items_or_none}
 use Rattle.api_slice.specs.Nodes.{device_nodes_of, is_per_device, slice_nodes_at}
 use Rattle.api_slice.specs.Slices.{driver_at, pool_at, pool_in, signed_most, slice_of, spec_in}
 use Rattle.api_slice.specs.declared.device.Columns.{Columns}
@@ -84,10 +85,10 @@ record Behind {A : Type 0} (r : List Step → Data → Result A FieldError) (pat
   is : before ++ own ≡ xs
   column : Column r path place own ds
 
-behind : {A : Type 0} (r : List Step → Data → Result A FieldError) (path : List Step) (place : ℕ) (before : List A) (ds : Items) (xs : List A) → each_from r path place before ds ≡ Ok xs → Behind r path place before ds xs
+behind : {A : Type 0} (r : List Step → Data → Result A FieldError) (path : List Step) (place : ℕ) (before : List A) (ds : Items) (xs : List A) → each_from (alone r) path place before ds ≡ Ok xs → Behind r path place before ds xs
 behind r path place before no_items xs h = record { own = []; is = append-nil before ∙ the_same before xs h; column = tt }
 behind r path place before (item d ds) xs h =
-    let g = gave (r (path ++ step.Place place ∷ []) d) (λ x. each_from r path (place + 1) (before ++ x ∷ []) ds) xs h in
+    let g = gave (r (path ++ step.Place place ∷ []) d) (λ x. each_from (alone r) path (place + 1) (before ++ x ∷ []) ds) xs h in
     let b = behind r path (place + 1) (before ++ g.value ∷ []) ds xs g.second in
     record { own = g.value ∷ b.own; is = sym (append_assoc before (g.value ∷ []) b.own) ∙ b.is; column = (g.first, b.column) }
 

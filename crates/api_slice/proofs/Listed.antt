@@ -5,7 +5,7 @@ use Rattle.std.proofs.lemmas.List.{append-nil}
 use Rattle.serde_json.specs.Data.{Data, null, boolean, number, string, array, object, Items, no_items, item, Members}
 use Rattle.serde_json.specs.Find.{as_array, as_object}
 use Rattle.object_fields.specs.Fields.{dns_label_at, field_at, field_error, if_there, list_at, member_of, object_at, object_value, optional_at, items_length, short_list_at, some_or, table_at, unless, ◌>>=◌}
-use Rattle.object_fields.specs.Lists.{each_beside, each_from as fields_from}
+use Rattle.object_fields.specs.Lists.{each, each_beside, each_from}
 use Rattle.object_fields.specs.Meta.{meta_at}
 use Rattle.object_fields.specs.NewNames.{IsNewNameReading, IsTakenName, doubled_at, is_among, label_of, named, names_in}
 use Rattle.object_fields.specs.declared.error.FieldError.{FieldError}
@@ -20,7 +20,7 @@ use Rattle.api_slice.specs.Consumption.{consumes_of}
 use Rattle.api_slice.specs.Counters.{counter_sets_at, counters_at, has_set, new_set_name, sets_from}
 use Rattle.api_slice.specs.Devices.{columns_of, devices_at, devices_most, devices_of, devices_with, has_device, names_from, new_device_name, nothing_more_from, rows_of}
 use Rattle.api_slice.specs.Documents.{listed}
-use Rattle.api_slice.specs.Lists.{each, items_or_none}
+use Rattle.api_slice.specs.Lists.{items_or_none}
 use Rattle.api_slice.specs.Nodes.{device_nodes_of, is_per_device, slice_nodes_at}
 use Rattle.api_slice.specs.Slices.{driver_at, pool_at, slice_of, spec_in}
 use Rattle.api_slice.specs.declared.device.Columns.{Columns}
@@ -75,7 +75,7 @@ go (Ok a) h = h a
 go (Err e) h = refl
 
 -- the reading of the names is that of a list of names that are to be new
-names_are : (path : List Step) (place : ℕ) (before : List (List ℕ)) (ds : Items) → names_from path place before ds ≡ fields_from new_device_name path place before ds
+names_are : (path : List Step) (place : ℕ) (before : List (List ℕ)) (ds : Items) → names_from path place before ds ≡ each_from new_device_name path place before ds
 names_are path place before no_items = refl
 names_are path place before (item d ds) = go (new_device_name (path ++ step.Place place ∷ []) before d) (λ n. names_are path (place + 1) (before ++ n ∷ []) ds)
 

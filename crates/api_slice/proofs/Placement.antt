@@ -10,12 +10,13 @@ use Rattle.node_select.specs.declared.requirement.Test.{Test}
 use Rattle.node_select.specs.declared.requirement.Test.TheVariants.{OneOf, NoneOf, Present, Absent, Above, Below}
 use Rattle.node_select.specs.declared.selector.Selector.{Selector}
 use Rattle.object_fields.specs.Fields.{error_at, field_at, field_error, list_at, member_of, object_value, optional_at, some_or, text_at, text_value, unless, ◌>>=◌}
+use Rattle.object_fields.specs.Lists.{alone, each, each_from}
 use Rattle.object_fields.specs.declared.error.FieldError.{FieldError}
 use Rattle.object_fields.specs.declared.kind.FieldErrorKind.TheVariants.{NotOne, NotSupported}
 use Rattle.object_fields.specs.declared.path.Step.{Step}
 use Rattle.object_fields.specs.declared.path.Step.TheVariants as step
 use Rattle.api_slice.specs.Limits.{HasValues, IsDue, IsExpression, IsField, IsNodes, IsSelector, IsSliceNodes, is_of_values}
-use Rattle.api_slice.specs.Lists.{each, each_from, items_or_none}
+use Rattle.api_slice.specs.Lists.{items_or_none}
 use Rattle.api_slice.specs.Nodes.{all_set, as_due, device_nodes_of, everywhere, flag_at, named, node_name_at, not_empty, one_of_slice, only, places_at, selected, selector_at, slice_nodes_at}
 use Rattle.api_slice.specs.Selectors.{expression_of, expressions_at, field_key_at, field_of, field_operator_at, fields_at, is_membership, no_texts, one_number, one_term, operator_at, selector_of, some_texts, term_of, test_at, test_of, values_at}
 use Rattle.api_slice.specs.declared.nodes.Places.{Places}
@@ -31,17 +32,17 @@ use Rattle.api_slice.proofs.Readings.{gave, the_same, not_refused, kept, was_som
 
 -- what the reading guarantees for one holds for all
 each_keeps : {A : Type 0} (P : A → Type 0) (r : List Step → Data → Result A FieldError) → ((path : List Step) (d : Data) (x : A) → r path d ≡ Ok x → P x) →
-    (path : List Step) (place : ℕ) (before : List A) (ds : Items) (xs : List A) → All P before → each_from r path place before ds ≡ Ok xs → All P xs
+    (path : List Step) (place : ℕ) (before : List A) (ds : Items) (xs : List A) → All P before → each_from (alone r) path place before ds ≡ Ok xs → All P xs
 each_keeps P r one path place before no_items xs p h = along (All P) before xs (the_same before xs h) p
 each_keeps P r one path place before (item d ds) xs p h =
-    let g = gave (r (path ++ step.Place place ∷ []) d) (λ x. each_from r path (place + 1) (before ++ x ∷ []) ds) xs h in
+    let g = gave (r (path ++ step.Place place ∷ []) d) (λ x. each_from (alone r) path (place + 1) (before ++ x ∷ []) ds) xs h in
     each_keeps P r one path (place + 1) (before ++ g.value ∷ []) ds xs
     (All-append P before (g.value ∷ []) p (All-cons P g.value [] (one (path ++ step.Place place ∷ []) d g.value g.first) (All-nil P))) g.second
 
-each_longer : {A : Type 0} (r : List Step → Data → Result A FieldError) (path : List Step) (place : ℕ) (before : List A) (ds : Items) (xs : List A) → each_from r path place before ds ≡ Ok xs → length before ≤ length xs
+each_longer : {A : Type 0} (r : List Step → Data → Result A FieldError) (path : List Step) (place : ℕ) (before : List A) (ds : Items) (xs : List A) → each_from (alone r) path place before ds ≡ Ok xs → length before ≤ length xs
 each_longer r path place before no_items xs h = along (λ ys. length before ≤ length ys) before xs (the_same before xs h) (omega arith)
 each_longer r path place before (item d ds) xs h =
-    let g = gave (r (path ++ step.Place place ∷ []) d) (λ x. each_from r path (place + 1) (before ++ x ∷ []) ds) xs h in
+    let g = gave (r (path ++ step.Place place ∷ []) d) (λ x. each_from (alone r) path (place + 1) (before ++ x ∷ []) ds) xs h in
     let l = each_longer r path (place + 1) (before ++ g.value ∷ []) ds xs g.second in
     let s = length-append before (g.value ∷ []) in
     omega (arith, l, s)
@@ -51,7 +52,7 @@ each_longer r path place before (item d ds) xs h =
 some_values : (path : List Step) (ds : Items) (texts : List (List ℕ)) → some_texts path ds ≡ Ok texts → 1 ≤ length texts
 some_values path no_items texts h = absurd (let no_value : ⊥ = cc in no_value)
 some_values path (item d ds) texts h =
-    let g = gave (text_value (path ++ step.Place 0 ∷ []) d) (λ x. each_from text_value path 1 (x ∷ []) ds) texts h in
+    let g = gave (text_value (path ++ step.Place 0 ∷ []) d) (λ x. each_from (alone text_value) path 1 (x ∷ []) ds) texts h in
     each_longer text_value path 1 (g.value ∷ []) ds texts g.second
 
 -- its values, and whether it is of In or of NotIn

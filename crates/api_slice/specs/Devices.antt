@@ -4,6 +4,7 @@ use Rattle.std.specs.List.{list_any}
 use Rattle.std.specs.Str.{bytes_eq}
 use Rattle.serde_json.specs.Data.{Data, Items, no_items, item}
 use Rattle.object_fields.specs.Fields.{dns_label_at, field_error, object_value, optional_at, short_list_at, unless, unset_at, ◌>>=◌}
+use Rattle.object_fields.specs.Lists.{each}
 use Rattle.object_fields.specs.declared.error.FieldError.{FieldError}
 use Rattle.object_fields.specs.declared.kind.FieldErrorKind.TheVariants.{Doubled}
 use Rattle.object_fields.specs.declared.path.Step.{Step}
@@ -12,7 +13,7 @@ use Rattle.object_fields.specs.declared.qualified.QualName.{QualName}
 use Rattle.api_slice.specs.Attributes.{attributes_of}
 use Rattle.api_slice.specs.Capacity.{capacity_of}
 use Rattle.api_slice.specs.Consumption.{consumes_of}
-use Rattle.api_slice.specs.Lists.{each, items_or_none}
+use Rattle.api_slice.specs.Lists.{items_or_none}
 use Rattle.api_slice.specs.Nodes.{device_nodes_of}
 use Rattle.api_slice.specs.declared.device.Columns.{Columns}
 use Rattle.api_slice.specs.declared.types.Attribute.{Attribute}

@@ -1,23 +1,11 @@
--- Readings of lists and objects whose parts are read one after another.
-use Rattle.std.specs.Prelude.{ℕ, ◌+◌, nat_lt, List, [], ◌∷◌, ◌++◌, Option, Some, None, Result, Ok, option_and_then}
-use Rattle.serde_json.specs.Data.{Data, Items, no_items, item, Members, no_members, member}
+-- The parts of lists and objects that may be missing, and how many parts there are.
+use Rattle.std.specs.Prelude.{ℕ, ◌+◌, nat_lt, List, Option, Some, None, Result, option_and_then}
+use Rattle.serde_json.specs.Data.{Data, Items, no_items, Members, no_members, member}
 use Rattle.serde_json.specs.Find.{as_object}
-use Rattle.object_fields.specs.Fields.{error_at, member_of, unless, ◌>>=◌}
+use Rattle.object_fields.specs.Fields.{error_at, member_of, unless}
 use Rattle.object_fields.specs.declared.error.FieldError.{FieldError}
 use Rattle.object_fields.specs.declared.kind.FieldErrorKind.TheVariants.{TooMany}
 use Rattle.object_fields.specs.declared.path.Step.{Step}
-use Rattle.object_fields.specs.declared.path.Step.TheVariants.{Place}
-
--- What a reading returns for each item from an index on, in order, after what came before. The first
--- error is returned.
-abbrev pub each_from : {A : Type 0} → (List Step → Data → Result A FieldError) → List Step → ℕ → List A → Items → Result (List A) FieldError
-each_from reading path place before no_items = Ok before
-each_from reading path place before (item d ds) =
-    reading (path ++ Place place ∷ []) d >>= λ x. each_from reading path (place + 1) (before ++ x ∷ []) ds
-
--- what it returns for each item of a list
-abbrev pub each : {A : Type 0} → (List Step → Data → Result A FieldError) → List Step → Items → Result (List A) FieldError
-each reading path ds = each_from reading path 0 [] ds
 
 -- the items of a list that may be missing
 abbrev pub items_or_none : Option Items → Items

@@ -1,11 +1,11 @@
 ghost use Rattle.std.specs.Prelude.{◌≡◌, [], IfOk};
 ghost use Rattle.serde_json.specs.View.{items_view, view};
 ghost use Rattle.object_fields.specs.Fields.{Reads};
+ghost use Rattle.object_fields.specs.Lists.{each};
 ghost use Rattle.api_slice.specs.Devices as fields;
 ghost use Rattle.api_slice.specs.Attributes.{attributes_of};
 ghost use Rattle.api_slice.specs.Capacity.{capacity_of};
 ghost use Rattle.api_slice.specs.Consumption.{consumes_of};
-ghost use Rattle.api_slice.specs.Lists.{each};
 ghost use Rattle.api_slice.specs.Nodes.{device_nodes_of};
 ghost use Rattle.api_slice.specs.Properties.{ArePaired};
 

@@ -1,7 +1,7 @@
 ghost use Rattle.std.specs.Prelude.{◌≡◌};
 ghost use Rattle.serde_json.specs.View.{items_view, view};
 ghost use Rattle.object_fields.specs.Fields.{Gives, Reads, text_value};
-ghost use Rattle.api_slice.specs.Lists.{each};
+ghost use Rattle.object_fields.specs.Lists.{each};
 ghost use Rattle.api_slice.specs.Selectors as fields;
 
 use crate::lists::items_or_none;

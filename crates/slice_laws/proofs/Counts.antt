@@ -6,13 +6,14 @@ use Rattle.std.proofs.lemmas.Bool.Decides.{nat_tests}
 use Rattle.std.proofs.lemmas.List.{append-nil}
 use Rattle.serde_json.specs.Data.{Data, Items, no_items, item}
 use Rattle.object_fields.specs.Fields.{error_at, field_error, unless, ◌>>=◌}
+use Rattle.object_fields.specs.Lists.{each}
 use Rattle.object_fields.specs.NewNames.{AreNew, is_among}
 use Rattle.object_fields.specs.declared.error.FieldError.{FieldError}
 use Rattle.object_fields.specs.declared.kind.FieldErrorKind.TheVariants.{Doubled, TooMany}
 use Rattle.object_fields.specs.declared.path.Step.{Step}
 use Rattle.object_fields.specs.declared.path.Step.TheVariants as step
 use Rattle.slice_laws.specs.Counted.{IsOverSum, IsRepeated, counted, counted_first, text_in, texts_in}
-use Rattle.api_slice.specs.Lists.{count_at, each}
+use Rattle.api_slice.specs.Lists.{count_at}
 use Rattle.slice_laws.proofs.Read.{Column, column}
 use Rattle.slice_laws.proofs.Read.{gave}
 

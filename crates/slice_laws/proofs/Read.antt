@@ -5,13 +5,14 @@ use Rattle.std.proofs.lemmas.List.{append-nil}
 use Rattle.std.specs.Str.{bytes_eq}
 use Rattle.serde_json.specs.Data.{Data, Items, no_items, item, Members}
 use Rattle.object_fields.specs.Fields.{dns_label_at, error_at, object_value, some_or, unless, ◌>>=◌}
+use Rattle.object_fields.specs.Lists.{alone, each, each_from}
 use Rattle.object_fields.specs.NewNames.{named}
 use Rattle.object_fields.specs.declared.error.FieldError.{FieldError}
 use Rattle.object_fields.specs.declared.kind.FieldErrorKind.TheVariants.{Doubled, TooMany}
 use Rattle.object_fields.specs.declared.path.Step.{Step}
 use Rattle.object_fields.specs.declared.path.Step.TheVariants as step
 use Rattle.api_slice.specs.Consumption.{find_set}
-use Rattle.api_slice.specs.Lists.{count_on, each, each_from, members_length}
+use Rattle.api_slice.specs.Lists.{count_on, members_length}
 use Rattle.api_slice.specs.declared.types.CounterSet.{CounterSet}
 
 pub record Gave {A B : Type 0} (r : Result A FieldError) (f : A → Result B FieldError) (y : B) : Type 0 where
@@ -61,10 +62,10 @@ record Behind {A : Type 0} (r : List Step → Data → Result A FieldError) (pat
   is : before ++ own ≡ xs
   column : Column r path place own ds
 
-behind : {A : Type 0} (r : List Step → Data → Result A FieldError) (path : List Step) (place : ℕ) (before : List A) (ds : Items) (xs : List A) → each_from r path place before ds ≡ Ok xs → Behind r path place before ds xs
+behind : {A : Type 0} (r : List Step → Data → Result A FieldError) (path : List Step) (place : ℕ) (before : List A) (ds : Items) (xs : List A) → each_from (alone r) path place before ds ≡ Ok xs → Behind r path place before ds xs
 behind r path place before no_items xs h = record { own = []; is = append-nil before ∙ the_same before xs h; column = tt }
 behind r path place before (item d ds) xs h =
-    let g = gave (r (path ++ step.Place place ∷ []) d) (λ x. each_from r path (place + 1) (before ++ x ∷ []) ds) xs h in
+    let g = gave (r (path ++ step.Place place ∷ []) d) (λ x. each_from (alone r) path (place + 1) (before ++ x ∷ []) ds) xs h in
     let b = behind r path (place + 1) (before ++ g.value ∷ []) ds xs g.second in
     record { own = g.value ∷ b.own; is = sym (append_assoc before (g.value ∷ []) b.own) ∙ b.is; column = (g.first, b.column) }
 

@@ -1,7 +1,7 @@
 ghost use Rattle.std.specs.Prelude.{◌≡◌, ◌<◌, ◌≤◌, ◌++◌, ◌∷◌, [], ℕ, List, Ok, Err, codes, length, true};
 ghost use Rattle.serde_json.specs.Data.{Items};
 ghost use Rattle.object_fields.specs.Fields.{error_at, field_error};
-ghost use Rattle.api_slice.specs.Lists.{each};
+ghost use Rattle.object_fields.specs.Lists.{each};
 ghost use Rattle.object_fields.specs.NewNames.{AreNew, is_among};
 ghost use Rattle.object_fields.specs.declared.error.FieldError.{FieldError};
 ghost use Rattle.object_fields.specs.declared.kind.FieldErrorKind.TheVariants.{Doubled, TooMany};
