@@ -3,14 +3,14 @@ use Rattle.std.proofs.Common.{◌≡◌, zero, suc, ℕ, ◌<◌, ◌≤◌, min
 use Rattle.std.specs.Prelude.{◌&&◌, option_map, codes, if◌then◌else◌}
 use Rattle.std.specs.Str.{bytes_eq}
 use Rattle.cel_tree.specs.declared.tree.Tree.{Tree}
-use Rattle.cel_tree.specs.Ast.{Ast, Method, tree_view, asts_of}
-use Rattle.cel_tree.specs.Typing.{is_none, is_ident, is_bind}
-use Rattle.cel_tree.specs.Estimate.{Bounds, Names, look_up, is_device, bodies_of, bounds_of, form_bounds, comprehension_bounds, element_bounds, variable_in, bind_of, bind_bounds, nothing}
+use Rattle.cel_tree.specs.Ast.{Ast, tree_view, asts_of}
+use Rattle.cel_tree.specs.Typing.{is_none, is_ident}
+use Rattle.cel_tree.specs.Estimate.{Bounds, Names, look_up, is_device, bodies_of, comprehension_bounds, element_bounds, variable_in, bind_of, bind_bounds, nothing}
 use Rattle.cel_tree.specs.declared.tree.Span.{Span}
 use Rattle.cel_tree.specs.declared.calls.Comprehension.{Comprehension}
 use Rattle.cel_tree.specs.declared.calls.Called.TheVariants as called
 use Rattle.cel_tree.specs.Calls.{called_of}
-use Rattle.cel_cost.specs.Capped.{capped, capped_names, listed}
+use Rattle.cel_cost.specs.Capped.{capped, capped_names, method_of, listed}
 
 look-cap : (name : List ℕ) (env : Names) → look_up name (capped_names env) ≡ option_map capped (look_up name env)
 look-cap name [] = refl
@@ -48,12 +48,11 @@ rest-is (suc i) zero xs d e = absurd (omega arith)
 rest-is (suc i) (suc n) [] d e = refl
 rest-is (suc i) (suc n) (x ∷ xs) d e = rest-is i n xs (omega arith) (omega arith)
 
-pub comprehension-arm : (env : Names) (span : Span) (o : Ast) (f : List ℕ) (ts : List Tree) (c : Comprehension) → is_bind o f ≡ false → called_of f ≡ Some (called.Comprehension c) →
-    form_bounds env span (Method o f (asts_of (map tree_view ts)))
-    ≡ comprehension_bounds span c (bounds_of env o) (listed ((variable_in (asts_of (map tree_view ts)), element_bounds (bounds_of env o)) ∷ env) (drop 1 ts))
-comprehension-arm env span o f ts c d e =
-    let x = variable_in (asts_of (map tree_view ts)) in
-    let inner : Names = (x, element_bounds (bounds_of env o)) ∷ env in
-    rw (d, e) (ap (comprehension_bounds span c (bounds_of env o)) (bodies-are inner ts))
+pub comprehension-arm : (env : Names) (span : Span) (x : Bounds) (f : List ℕ) (ts : List Tree) (c : Comprehension) → called_of f ≡ Some (called.Comprehension c) →
+    method_of env span f x (asts_of (map tree_view ts))
+    ≡ comprehension_bounds span c x (listed ((variable_in (asts_of (map tree_view ts)), element_bounds x) ∷ env) (drop 1 ts))
+comprehension-arm env span x f ts c e =
+    let inner : Names = (variable_in (asts_of (map tree_view ts)), element_bounds x) ∷ env in
+    rw e (ap (comprehension_bounds span c x) (bodies-are inner ts))
 
 pub ruleset scopes = (look-in, device-in, bodies-are, short-bind)

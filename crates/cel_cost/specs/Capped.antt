@@ -2,8 +2,11 @@
 use Rattle.std.specs.Prelude.{ℕ, min, map, length, List, [], ◌∷◌, option_map}
 use Rattle.cel_tree.specs.declared.tree.Tree.{Tree}
 use Rattle.cel_tree.specs.declared.tree.Entry.{Entry}
-use Rattle.cel_tree.specs.Ast.{tree_view, entry_view, asts_of, entries_of}
-use Rattle.cel_tree.specs.Estimate.{Bounds, Names, most, each, keys_of, values_of, arguments_of, elements_type, weights_of, steps_of, last_weight}
+use Rattle.cel_tree.specs.declared.tree.Span.{Span}
+use Rattle.cel_tree.specs.Ast.{Asts, tree_view, entry_view, asts_of, entries_of}
+use Rattle.cel_tree.specs.Calls.{called_of}
+use Rattle.cel_tree.specs.Typing.{comprehension_in}
+use Rattle.cel_tree.specs.Estimate.{Bounds, Names, most, each, keys_of, values_of, arguments_of, elements_type, weights_of, steps_of, last_weight, by_comprehension, comprehension_bounds, bodies_of, variable_in, element_bounds, method_bounds}
 use Rattle.cel_cost.specs.declared.bounds.Bounds as code
 use Rattle.cel_cost.specs.declared.parts.Parts as parts
 use Rattle.cel_cost.specs.declared.scope.Scope.{Scope, Top, Bound'}
@@ -45,3 +48,10 @@ keys env es = keys_of env (entries_of (map entry_view es))
 
 abbrev pub values : Names → List Entry → List Bounds
 values env es = values_of env (entries_of (map entry_view es))
+
+-- a method that isn't `cel.bind`, after its object
+abbrev pub method_of : Names → Span → List ℕ → Bounds → Asts → Bounds
+method_of env span word object ts =
+    by_comprehension (comprehension_in (called_of word))
+    (λ c. comprehension_bounds span c object (bodies_of ((variable_in ts, element_bounds object) ∷ env) ts))
+    (method_bounds span (called_of word) object (each env ts))

@@ -1,9 +1,9 @@
 ghost use Rattle.std.specs.Prelude.{◌≡◌, drop, map, unwrap_or, option_and_then};
-ghost use Rattle.cel_tree.specs.Ast.{tree_view, entry_view, asts_of, entries_of};
+ghost use Rattle.cel_tree.specs.Ast.{Call, Member, tree_view, entry_view, asts_of, entries_of};
 ghost use Rattle.cel_tree.specs.Typing.{keys_type, key_type, literal_of};
 ghost use Rattle.cel_tree.specs.declared.types.KeyType.TheVariants as key_kind;
-ghost use Rattle.cel_tree.specs.Estimate.{Names, bounds_of, bind_of, Estimate, variable_in};
-ghost use Rattle.cel_cost.specs.Capped.{capped, capped_names, seen, names, parts_of, listed, keys, values};
+ghost use Rattle.cel_tree.specs.Estimate.{Bounds as Estimated, Names, bounds_of, form_bounds, bind_of, Estimate, variable_in};
+ghost use Rattle.cel_cost.specs.Capped.{capped, capped_names, seen, names, parts_of, method_of, listed, keys, values};
 
 use crate::bounds::{
     Bounds, binary_bounds, conditional_bounds, device_bounds, element_bounds, index_bounds,
@@ -14,7 +14,7 @@ use crate::parts::{
 };
 use crate::scope::Scope;
 use cel_tree::{
-    Called, Checked, Entry, KeyType, Kind, Literal, Tree, called_of, is_bind,
+    Called, Checked, Entry, KeyType, Kind, Literal, Span, Tree, called_of, is_bind,
     nodes_have_their_lists,
 };
 
@@ -81,37 +81,17 @@ pub fn bounds_of<'x>(tree: &'x Tree, scope: &'x Scope<'x>) -> Bounds
             bounds_of(then, scope),
             bounds_of(otherwise, scope),
         ),
-        Kind::Member(object, name) => {
-            if scope.is_device(object) {
-                device_bounds(span, name.as_str())
-            } else {
-                member_bounds(span, bounds_of(object, scope))
-            }
-        }
+        Kind::Member(object, name) => member(span, object, name.as_str(), scope),
         Kind::Index(object, index) => {
             index_bounds(span, bounds_of(object, scope), bounds_of(index, scope))
         }
-        Kind::Call(function, arguments) => {
-            call_bounds(
-                span,
-                called_of(function.as_str()),
-                parts_of(arguments, 0, scope),
-            )
-        }
+        Kind::Call(function, arguments) => call(span, function.as_str(), arguments, scope),
         Kind::Method(object, function, arguments) => {
             if is_bind(object, function.as_str()) {
                 return bind_of(arguments, scope);
             }
             let object = bounds_of(object, scope);
-            match called_of(function.as_str()) {
-                Some(Called::Comprehension(comprehension)) => {
-                    let variable = element_bounds(object);
-                    let inner = Scope::Bound(variable_in(arguments), variable, scope);
-                    let bodies = parts_of(arguments, 1, &inner);
-                    comprehension_bounds(span, comprehension, object, bodies)
-                }
-                called => method_bounds(span, called, object, parts_of(arguments, 0, scope)),
-            }
+            method(span, function.as_str(), object, arguments, scope)
         }
         Kind::List(items) => list_bounds(parts_of(items, 0, scope)),
         Kind::Map(entries) => map_bounds(
@@ -119,6 +99,55 @@ pub fn bounds_of<'x>(tree: &'x Tree, scope: &'x Scope<'x>) -> Bounds
             keys_of(entries, scope),
             values_of(entries, scope),
         ),
+    }
+}
+
+/// `object.name`
+#[cycle(bounds)]
+fn member<'x>(span: Span, object: &'x Tree, name: &'x str, scope: &'x Scope<'x>) -> Bounds
+    ensures { (env : Names) → names scope.now ≡ capped_names env
+        → seen result ≡ capped (form_bounds env span (Member (tree_view object.now) name.now)) }
+{
+    if scope.is_device(object) {
+        device_bounds(span, name)
+    } else {
+        member_bounds(span, bounds_of(object, scope))
+    }
+}
+
+/// `function(arguments)`
+#[cycle(bounds)]
+fn call<'x>(span: Span, function: &'x str, arguments: &'x Vec<Tree>, scope: &'x Scope<'x>) -> Bounds
+    ensures { (env : Names) → names scope.now ≡ capped_names env
+        → seen result ≡ capped (form_bounds env span
+        (Call function.now (asts_of (map tree_view arguments.now.items)))) }
+{
+    let called = called_of(function);
+    call_bounds(span, called, parts_of(arguments, 0, scope))
+}
+
+/// `object.function(arguments)`, where it isn't `cel.bind`, after its object.
+#[cycle(bounds)]
+#[tactic(auto, using(crate::proofs::Scopes::scopes))]
+fn method<'x>(
+    span: Span,
+    function: &'x str,
+    object: Bounds,
+    arguments: &'x Vec<Tree>,
+    scope: &'x Scope<'x>,
+) -> Bounds
+    ensures { (env : Names) → (x : Estimated) → names scope.now ≡ capped_names env → seen object ≡ capped x
+        → seen result ≡ capped
+        (method_of env span function.now x (asts_of (map tree_view arguments.now.items))) }
+{
+    match called_of(function) {
+        Some(Called::Comprehension(comprehension)) => {
+            let variable = element_bounds(object);
+            let inner = Scope::Bound(variable_in(arguments), variable, scope);
+            let bodies = parts_of(arguments, 1, &inner);
+            comprehension_bounds(span, comprehension, object, bodies)
+        }
+        called => method_bounds(span, called, object, parts_of(arguments, 0, scope)),
     }
 }
 
