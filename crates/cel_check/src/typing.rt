@@ -1,5 +1,5 @@
 ghost use Rattle.std.specs.Prelude.{◌≡◌, ◌≤◌, length, drop, map};
-ghost use Rattle.cel_tree.specs.Ast.{Call, tree_view, entry_view, asts_of, entries_of};
+ghost use Rattle.cel_tree.specs.Ast.{Call, Member, tree_view, entry_view, asts_of, entries_of};
 ghost use Rattle.cel_tree.specs.Typing.{over, type_of, form_type, has_of, comprehension_of, bind_of, types_of};
 ghost use Rattle.cel_check.specs.Scopes.{names_of};
 ghost use Rattle.cel_check.specs.Fronts.{with_last, also};
@@ -40,13 +40,7 @@ pub fn type_of<'x>(tree: &'x Tree, scope: &'x Scope<'x>) -> Result<CelType, Faul
             let otherwise = type_of(otherwise, scope)?;
             row(span, conditional_type(test, then, otherwise))
         }
-        Kind::Member(object, name) => {
-            if is_device(object, scope) {
-                return device_type(span, name.as_str());
-            }
-            let object = type_of(object, scope)?;
-            row(span, member_type(object))
-        }
+        Kind::Member(object, name) => member(span, object, name.as_str(), scope),
         Kind::Index(object, index) => {
             let object = type_of(object, scope)?;
             let index = type_of(index, scope)?;
@@ -63,6 +57,23 @@ pub fn type_of<'x>(tree: &'x Tree, scope: &'x Scope<'x>) -> Result<CelType, Faul
         Kind::List(items) => list(items, scope),
         Kind::Map(entries) => map(entries, scope),
     }
+}
+
+/// `object.name`
+#[cycle(typing)]
+fn member<'x>(
+    span: Span,
+    object: &'x Tree,
+    name: &'x str,
+    scope: &'x Scope<'x>,
+) -> Result<CelType, Fault>
+    ensures { result ≡ form_type (names_of scope.now) span (Member (tree_view object.now) name.now) }
+{
+    if is_device(object, scope) {
+        return device_type(span, name);
+    }
+    let object = type_of(object, scope)?;
+    row(span, member_type(object))
 }
 
 /// `function(arguments)`
