@@ -44,6 +44,13 @@ impl DeviceSelector {
         }
     }
 
+    /// The text that was compiled.
+    pub fn text(&self) -> &Text
+        ensures { result.now ≡ self.now }
+    {
+        &self.text
+    }
+
     /// What the selector evaluates to on a device: Yes if and only if it is true, No if and only if it is
     /// false, and else Fault. The only error is out of memory, and no Fault has it.
     pub fn matches(&self, alloc: Global, device: &DeviceEnv) -> Result<Verdict, AllocError>

@@ -9,3 +9,4 @@ pub mod Views
 pub mod Differing
 pub mod NodeIndexes
 pub mod Sorted
+pub mod Known

@@ -1,4 +1,4 @@
-ghost use Rattle.std.specs.Prelude.{◌≡◌, ◌≤◌, true, IfOk, IfSome, OnOk, OnErr};
+ghost use Rattle.std.specs.Prelude.{◌≡◌, ◌≤◌, ◌++◌, true, IfOk, IfSome, OnOk, OnErr};
 ghost use Rattle.pool_view.specs.Sorted.{AreSorted};
 ghost use Rattle.std.specs.List.Sorted.{IsStrictlySortedBy};
 ghost use Rattle.std.specs.Map.{keys_of};
@@ -7,13 +7,17 @@ ghost use Rattle.pool_view.specs.Names.{at_name, text_cmp};
 
 use crate::Stored;
 use crate::kept::SortedSlices;
+use crate::known::{KnownList, KnownSlices};
+use crate::learning::{is_sure, position, share_lists, with_found};
 use crate::sorting::sorted_slices;
 use crate::stored::put_named;
 use api_cluster::Node;
 use api_slice::ResourceSlice;
-use dra_values::{Duplicate, Shared, Table, Text};
+use device_match::DeviceSelector;
+use dra_values::{Duplicate, Seq, Shared, Table, Text};
 use std::alloc::{AllocError, Global};
 use std::marker::Model;
+use std::mem;
 
 /// The most devices that all slices may have.
 pub const MAX_DEVICES_TOTAL: usize = 65_536;
@@ -31,6 +35,10 @@ pub struct Inventory {
     devices: usize,
     /// None if the slices aren't sorted, or have changed since they were.
     sorted: Option<Shared<SortedSlices>>,
+    /// What was found out of selectors on these slices.
+    known: Vec<Shared<KnownList>>,
+    /// The names of the nodes; None if they have changed since they were listed.
+    names: Option<Shared<Seq<Text>>>,
 }
 
 impl Model for Inventory {
@@ -41,8 +49,9 @@ impl Model for Inventory {
     ghost view = { λ i. record { nodes = i.nodes; slices = i.slices } };
 
     ghost use Rattle.pool_view.specs.Sorted.{IsSorted};
+    ghost use Rattle.pool_view.specs.Known.{AreKnown, AreNames};
 
-    ghost invariant = { λ i. IsKept i.slices i.devices × IsSorted i.slices i.sorted };
+    ghost invariant = { λ i. IsKept i.slices i.devices × IsSorted i.slices i.sorted × AreKnown i.slices i.known.items × AreNames i.nodes i.names };
 }
 
 impl Inventory {
@@ -55,6 +64,8 @@ impl Inventory {
             slices: Table::new(alloc),
             devices: 0,
             sorted: None,
+            known: Vec::new(alloc),
+            names: None,
         }
     }
 
@@ -118,6 +129,7 @@ impl Inventory {
     {
         let name = node.name.copy(alloc)?;
         put_named(&mut self.nodes, place, name, node)?;
+        self.names = None;
         Ok(())
     }
 
@@ -141,6 +153,7 @@ impl Inventory {
         put_named(&mut self.slices, place, name, slice)?;
         self.devices = devices;
         self.sorted = None;
+        self.known.clear();
         Ok(())
     }
 
@@ -149,6 +162,7 @@ impl Inventory {
         ensures { self.new ≡ without_node name.now self.old }
     {
         self.nodes.remove(name);
+        self.names = None;
     }
 
     /// Removes the slice of a name, if there is one. Allocates nothing.
@@ -159,11 +173,13 @@ impl Inventory {
         self.devices -= devices_of(&self.slices, name);
         self.slices.remove(name);
         self.sorted = None;
+        self.known.clear();
     }
 
-    /// Whether the slices were sorted since they changed. Allocates nothing.
+    /// Whether the slices were sorted since they changed, and the names of the nodes listed since these did.
+    /// Allocates nothing.
     pub fn is_sorted(&self) -> bool {
-        self.sorted.is_some()
+        self.sorted.is_some() && self.names.is_some()
     }
 
     /// The slices as they are kept, sorted, if they are.
@@ -173,8 +189,49 @@ impl Inventory {
         self.sorted.as_ref()
     }
 
-    /// Sorts the slices, so that searches don't have to, until they change. The inventory stays the same.
-    /// `AllocError` only if memory runs out.
+    /// The names of the nodes in order, if they were listed since the nodes changed (`sort`). Allocates
+    /// nothing.
+    pub fn node_names(&self) -> Option<&Shared<Seq<Text>>>
+        ensures { IfSome result (λ names. names.now ≡ keys_of self.now.nodes) }
+    {
+        self.names.as_ref()
+    }
+
+    /// What is known of the selectors of a class and then of a request; `None` if nothing is. Allocates
+    /// nothing.
+    pub fn known(&self, class: &[DeviceSelector], own: &[DeviceSelector]) -> Option<KnownSlices<'_>>
+        ensures { IfSome result (λ k. k ≡ record { slices = self.now.slices; texts = class.now ++ own.now }) }
+    {
+        match position(&self.known, class, own) {
+            Some(at) => Some(KnownSlices::of(&self.slices, self.known[at].value())),
+            None => None,
+        }
+    }
+
+    /// Finds out whether the selectors of a class and then of a request have no evaluation error on any device
+    /// of the slice of a name, and keeps it until a slice changes. What is kept of other selectors may be
+    /// dropped. The inventory stays the same. `AllocError` only if memory runs out.
+    pub fn learn(
+        &mut self,
+        alloc: Global,
+        class: &[DeviceSelector],
+        own: &[DeviceSelector],
+        slice: &Text,
+    ) -> Result<(), AllocError>
+        ensures { self.new ≡ self.old }
+    {
+        let Some(stored) = self.slices.get(slice) else {
+            return Ok(());
+        };
+        let sure = is_sure(alloc, class, own, &stored.object)?;
+        let name = slice.copy(alloc)?;
+        let known = mem::replace(&mut self.known, Vec::new(alloc));
+        self.known = with_found(alloc, known, class, own, name, sure)?;
+        Ok(())
+    }
+
+    /// Sorts the slices and lists the names of the nodes, so that searches don't have to, until they change. The
+    /// inventory stays the same. `AllocError` only if memory runs out.
     pub fn sort(&mut self, alloc: Global) -> Result<(), AllocError>
         ensures { self.new ≡ self.old }
     {
@@ -182,30 +239,52 @@ impl Inventory {
             let sorted = sorted_slices(alloc, self)?;
             self.sorted = Some(Shared::new(alloc, sorted)?);
         }
+        if self.names.is_none() {
+            let names = names_of(alloc, &self.nodes)?;
+            self.names = Some(Shared::new(alloc, names)?);
+        }
         Ok(())
     }
 }
 
-/// A duplicate's slices are sorted if and only if these are, and it shares what is kept of them.
+/// A duplicate shares what is kept besides the nodes and slices.
 impl Duplicate for Inventory {
     fn duplicate(&self, alloc: Global) -> Result<Inventory, AllocError> {
         let sorted = shared(&self.sorted)?;
+        let names = shared(&self.names)?;
+        let known = share_lists(alloc, &self.known)?;
         Ok(Inventory {
             nodes: self.nodes.copy(alloc)?,
             slices: self.slices.copy(alloc)?,
             devices: self.devices,
             sorted,
+            known,
+            names,
         })
     }
 }
 
-fn shared(sorted: &Option<Shared<SortedSlices>>) -> Result<Option<Shared<SortedSlices>>, AllocError>
-    ensures { IfOk result (λ other. other ≡ sorted.now) }
+fn shared<T>(kept: &Option<Shared<T>>) -> Result<Option<Shared<T>>, AllocError>
+    ensures { IfOk result (λ other. other ≡ kept.now) }
 {
-    match sorted {
-        Some(sorted) => Ok(Some(sorted.share()?)),
+    match kept {
+        Some(value) => Ok(Some(value.share()?)),
         None => Ok(None),
     }
+}
+
+/// The names in order.
+fn names_of(
+    alloc: Global,
+    nodes: &Table<Text, Stored<Shared<Node>>>,
+) -> Result<Seq<Text>, AllocError>
+    ensures { IfOk result (λ names. names ≡ keys_of nodes.now) }
+{
+    let mut names = Seq::new(Vec::with_capacity(alloc, nodes.len())?);
+    for (name, _) in nodes.as_map() {
+        names.push(name.copy(alloc)?)?;
+    }
+    Ok(names)
 }
 
 /// How many devices the slice of a name has, or 0 if there is none.

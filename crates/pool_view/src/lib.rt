@@ -5,7 +5,9 @@ mod device;
 mod groups;
 mod inventory;
 mod kept;
+mod known;
 mod laws;
+mod learning;
 mod names;
 mod node_index;
 mod nodes;
@@ -19,6 +21,7 @@ mod visible;
 
 pub use device::DeviceRef;
 pub use inventory::{Inventory, MAX_DEVICES_TOTAL, Slices};
+pub use known::{KnownList, KnownSlices, MAX_KNOWN_LISTS};
 pub use laws::{devices_of_a_view_differ, usable_slices_differ};
 pub use names::PoolName;
 pub use nodes::named_node;
