@@ -13,3 +13,4 @@ pub mod OfNode
 mod SameSlices
 mod SliceFields
 mod NodeSees
+mod Learned
