@@ -1,6 +1,7 @@
 use Rattle.std.proofs.Common.{◌≡◌, ◌∙◌, true, length, ap, sym, subst}
 use Rattle.pool_view.specs.Inventory.{has_room_for}
 use Rattle.pool_view.proofs.Counts.{few_at, kept_with}
+use Rattle.pool_view.proofs.Learned.{forgotten}
 use Rattle.pool_view.proofs.inventory.Inventory.put_slice.Goals as goal
 
 pub overflow_sub-devices : goal.overflow_sub-devices
@@ -13,4 +14,6 @@ invariant_of-self-2 c = (
       (ap length (c.as_slice.ensures ∙ ap (λ v. v.devices) (c.behind-slice-2.view_is ∙ c.deref-2.ensures)))
       (subst (λ v. has_room_for v.slices c.args.slice ≡ true) (sym c.self.view_is) c.requires) c.in_ok-put_named.ensures.ok,
   tt,
+  forgotten _ _ c.clear.ensures.items,
+  c.self.invariant.3,
 )
