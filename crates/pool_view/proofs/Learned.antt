@@ -1,8 +1,8 @@
 -- What is known of selectors on slices, after one thing more was found.
-use Rattle.std.proofs.Common.{ℕ, ◌≡◌, ◌∙◌, List, [], ◌∷◌, ◌++◌, Bool, true, false, cond, Option, None, Some, refl, sym, ap, subst}
+use Rattle.std.proofs.Common.{ℕ, ◌≡◌, ◌∙◌, List, [], ◌∷◌, ◌++◌, Bool, true, false, cond, Option, None, Some, refl, sym, subst}
 use Rattle.std.specs.Prelude.{IfSome, slice_set, get_or}
 use Rattle.std.specs.List.{All}
-use Rattle.std.specs.BTreeMap.{insert_entry, is_at}
+use Rattle.std.specs.BTreeMap.{insert_entry}
 use Rattle.std.specs.Ordering.{is_eq}
 use Rattle.std.proofs.lemmas.List.Elements.{All-get_or, All-nil, All-push, All-set}
 use Rattle.std.proofs.lemmas.Option.{same_Some}

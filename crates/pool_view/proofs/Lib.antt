@@ -14,3 +14,4 @@ mod SameSlices
 mod SliceFields
 mod NodeSees
 mod Learned
+mod Listing

@@ -128,9 +128,13 @@ impl Inventory {
         ensures err { OnErr result (self.new ≡ self.old) }
     {
         let name = node.name.copy(alloc)?;
-        put_named(&mut self.nodes, place, name, node)?;
-        self.names = None;
-        Ok(())
+        if self.nodes.contains_key(&name) {
+            put_named(&mut self.nodes, place, name, node)
+        } else {
+            put_named(&mut self.nodes, place, name, node)?;
+            self.names = None;
+            Ok(())
+        }
     }
 
     /// Puts a slice that there is room for at its name, by the entry at this index: it is updated and
@@ -209,8 +213,8 @@ impl Inventory {
     }
 
     /// Finds out whether the selectors of a class and then of a request have no evaluation error on any device
-    /// of the slice of a name, and keeps it until a slice changes. What is kept of other selectors may be
-    /// dropped. The inventory stays the same. `AllocError` only if memory runs out.
+    /// of the slice of a name, and keeps it until a slice changes; does nothing if no slice has that name. What
+    /// is kept of other selectors may be dropped. The inventory stays the same. `AllocError` only if memory runs out.
     pub fn learn(
         &mut self,
         alloc: Global,
