@@ -339,27 +339,15 @@ fn with_one<'x>(
             ))
         }
         Comprehension::Filter => {
+            let making = Making::Filter;
             list(
-                alloc,
-                device,
-                Making::Filter,
-                elements,
-                name,
-                arguments,
-                scope,
-                steps,
+                alloc, device, making, elements, name, arguments, scope, steps,
             )
         }
         Comprehension::Map => {
+            let making = Making::Map;
             list(
-                alloc,
-                device,
-                Making::Map,
-                elements,
-                name,
-                arguments,
-                scope,
-                steps,
+                alloc, device, making, elements, name, arguments, scope, steps,
             )
         }
     }
