@@ -1,0 +1,100 @@
+"""Reads the cases of plans and of writes of a claim's status, and prints the first failure of each. The head of
+crates/plan_cases/stdin says what a case may be.
+
+usage: python3 .ci/model/plan_cases.py < crates/plan_cases/stdin
+"""
+
+import json
+import sys
+
+import fields
+from checks import Plan, failure_of_plan, failure_of_status
+from documents import commands_of, read_json
+from fields import Place
+from jobs import History, Job
+from objects import Result
+from selector_texts import UnknownText
+from values import key_of_text
+
+
+class Setup:
+    """The present state, with the number of its jobs so far, and a selector of its documents that is unknown here."""
+
+    def __init__(self):
+        self.history = History()
+        self.jobs = 0
+        self.unknown = None
+
+    def do(self, document):
+        """Does the commands of a document, and returns the lines of those that weren't done."""
+        lines = []
+        try:
+            commands = commands_of(read_json(document.encode()))
+        except UnknownText as unknown:
+            self.unknown = unknown
+            return ""
+        for command in commands:
+            before = len(self.history.lines)
+            self.jobs += 1
+            Job(self.jobs, command).run(self.history)
+            lines += [line for line in self.history.lines[before:] if line.split(" ")[2] in ("denied", "verdict")]
+        return "".join(lines)
+
+
+def read_results(text):
+    results = []
+    for one in text.split("+") if text else []:
+        name, _, device = one.removesuffix("!").partition("@")
+        results.append(Result(name, device, one.endswith("!")))
+    return results
+
+
+def read_plan(pod, node, parts):
+    pod, _, uid = pod.rpartition(":")
+    plan = Plan(int(uid), [], node, [])
+    for part in parts:
+        word, _, text = part.partition("=")
+        claim, _, rest = text.partition(":")
+        if word == "knew":
+            claim_uid, _, granted = rest.partition(":")
+            plan.known.append((key_of_text(claim), int(claim_uid), granted or None))
+        elif word == "grant":
+            plan.grants.append((key_of_text(claim), read_results(rest)))
+    return key_of_text(pod), plan
+
+
+def result_of(setup, line):
+    """What a line prints, beside a `state`, which begins another one."""
+    word, _, rest = line.partition(" ")
+    if not line or line.startswith("#"):
+        return line + "\n"
+    if line.startswith("{"):
+        return setup.do(line)
+    if word == "copies":
+        first, last, document = rest.split(" ", 2)
+        return "".join(setup.do(document.replace("#", str(i))) for i in range(int(first), int(last) + 1))
+    state = setup.history.state
+    name, rest = rest.split(" ", 1)
+    if setup.unknown:
+        return f"{name}: left out, since a selector is unknown: {setup.unknown}\n"
+    if word == "plan":
+        pod, node, *parts = rest.split(" ")
+        failure = failure_of_plan(state, *read_plan(pod, node, parts))
+    else:
+        claim, document = rest.split(" ", 1)
+        status = fields.read_status(Place(json.loads(document), ""))
+        failure = failure_of_status(state, key_of_text(claim), status)
+    return f"{name}: {failure or 'ok'}\n"
+
+
+def main():
+    setup = Setup()
+    for line in sys.stdin.read().splitlines():
+        if line == "state":
+            setup = Setup()
+        else:
+            print(result_of(setup, line), end="")
+
+
+if __name__ == "__main__":
+    main()

@@ -1,0 +1,109 @@
+"""Reads the cases of scripts that are replayed, and prints how each ends. The head of crates/replay_cases/stdin says
+what a case may be.
+
+usage: python3 .ci/model/replay_cases.py < crates/replay_cases/stdin
+"""
+
+import sys
+
+from containers import Container, print_case
+from script import Input, Output, ReadFailed, replay
+
+PLAIN = {
+    "entries": 10**6,
+    "budget": 100_000,
+    "attempts": 32,
+    "pieces": 65_536,
+    "takes": None,
+    "fail-read": 0,
+    "fail-write": 0,
+}
+
+
+class Outcome:
+    """How a replay ended."""
+
+    def __init__(self, script, options):
+        source = Input(script, options["pieces"], options["fail-read"])
+        output = Output(options["takes"], options["fail-write"])
+        status = replay(source, output, options["budget"], options["attempts"], options["entries"])
+        self.reads = source.reads
+        self.writes = output.writes
+        self.head = f"{status}, faults {source.faults} {output.faults}".encode()
+        self.left = left_in(source).encode()
+        self.content = output.content
+
+    def whole(self):
+        return self.head + b", left " + self.left + b"\n" + self.content
+
+    def in_short(self, other):
+        """The outcome on one line: how many leading lines the output shares with another, and the rest of it."""
+        lines = 0
+        end = 0
+        for line, same in zip(self.content.splitlines(True), other.splitlines(True)):
+            if line != same or not line.endswith(b"\n"):
+                break
+            lines += 1
+            end += len(line)
+        rest = self.content[end:].replace(b"\n", b";")
+        return self.head + b", lines %d" % lines + (b" then " + rest if rest else b"")
+
+
+def left_in(source):
+    """How many bytes no read had returned, which are read at the end, once more if that fails."""
+    try:
+        return str(source.read_all())
+    except ReadFailed:
+        return f"{source.read_all()} behind a fault"
+
+
+def report(outcomes):
+    """Numbered outcomes, of which equal ones in a row share one line."""
+    rows = []
+    for number, said in outcomes:
+        if rows and rows[-1][2] == said:
+            rows[-1][1] = number
+        else:
+            rows.append([number, number, said])
+    return b"".join(b"%d..%d: %s\n" % tuple(row) for row in rows)
+
+
+def varied(verb, script, options):
+    """The scripts and the options of the runs of a case that varies one of them, by number."""
+    if verb == "cuts":
+        return [(length, script[:length], options) for length in range(len(script) + 1)]
+    plain = Outcome(script, options)
+    name, numbers = {
+        "pieces": ("pieces", range(1, options["pieces"] + 1)),
+        "read-faults": ("fail-read", range(1, plain.reads + 2)),
+        "write-faults": ("fail-write", range(1, plain.writes + 2)),
+        "limits": ("entries", range(options["entries"] + 1)),
+    }[verb]
+    return [(number, script, {**options, name: number}) for number in numbers]
+
+
+def case(line, scripts):
+    """What a case prints."""
+    verb, *words = line.split(" ")
+    count = 2 if verb == "each" else 1
+    named = [scripts[name] for name in words[:count]]
+    options = {**PLAIN, **{name: int(number) for name, number in (word.split("=") for word in words[count:])}}
+    if verb == "run":
+        return Outcome(named[0], options).whole()
+    other = Outcome(named[0], options).content
+    if verb == "each":
+        lines = named[1].removesuffix(b"\n").split(b"\n") if named[1] else []
+        runs = [(number, named[0] + line, options) for number, line in enumerate(lines, 1)]
+    else:
+        runs = varied(verb, named[0], options)
+    return report((number, Outcome(script, with_options).in_short(other)) for number, script, with_options in runs)
+
+
+def main():
+    container = Container(sys.stdin.buffer.read(), "script")
+    for line in container.cases():
+        print_case(line, case, container.parts)
+
+
+if __name__ == "__main__":
+    main()
