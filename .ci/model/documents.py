@@ -51,8 +51,9 @@ DECODER = json.JSONDecoder(parse_int=read_whole, parse_float=read_float, parse_c
 
 def levels(value):
     """How many levels deep a value is nested."""
-    inner = value.values() if isinstance(value, dict) else value if isinstance(value, list) else None
-    return 0 if inner is None else 1 + max(map(levels, inner), default=0)
+    if isinstance(value, dict):
+        value = list(value.values())
+    return 1 + max(map(levels, value), default=0) if isinstance(value, list) else 0
 
 
 def has_surrogates(value):
@@ -138,7 +139,8 @@ def items_of(document, member):
 
 
 def commands_of(document):
-    """The commands of a JSON value."""
+    """The commands of a JSON value: one, or one for each item of a List. With a member that isn't allowed in it a List or
+    a Together is no command."""
     form = form_of(document)
     if form == ("v1", "List"):
         items = items_of(document, "items")

@@ -46,7 +46,8 @@ class FieldError(Exception):
 
 
 class Place:
-    """A JSON object in a document, with its path."""
+    """A JSON object in a document, with its path. Its readers return a member, or raise the first error that it has:
+    Missing, WrongType, TooLong, TooMany, an error of its form, OutOfRange."""
 
     def __init__(self, members, path):
         if not isinstance(members, dict):
@@ -239,15 +240,16 @@ def whole_of_label(text):
 
 def read_requirement(place, of_fields):
     key = place.text("key")
-    operator = place.text("operator")
     if of_fields and key != "metadata.name":
         place.fail("NotSupported", "key")
+    operator = place.text("operator")
     if operator not in (("In", "NotIn") if of_fields else COUNTS_OF_VALUES):
         place.fail("NotSupported", "operator")
-    values = [text_item(value, path) for value, path in place.list("values", None)]
+    items = place.list("values", None)
     least, most = COUNTS_OF_VALUES[operator]
-    if len(values) < least or most is not None and len(values) > most:
+    if len(items) < least or most is not None and len(items) > most:
         place.fail("NotOne", "values")
+    values = [text_item(value, path) for value, path in items]
     if operator in ("Gt", "Lt") and whole_of_label(values[0]) is None:
         place.fail("WrongType", "values")
     return Requirement(key, operator, values)
@@ -256,12 +258,12 @@ def read_requirement(place, of_fields):
 def read_node_selector(place):
     if place.get("nodeSelectorTerms") is None:
         place.fail("Missing", "nodeSelectorTerms")
-    terms = place.places("nodeSelectorTerms", None)
-    if len(terms) != 1:
+    if len(place.list("nodeSelectorTerms", None)) != 1:
         place.fail("NotOne", "nodeSelectorTerms")
+    (term,) = place.places("nodeSelectorTerms", None)
     return NodeChoice(
-        expressions=[read_requirement(item, False) for item in terms[0].places("matchExpressions", None)],
-        fields=[read_requirement(item, True) for item in terms[0].places("matchFields", None)],
+        expressions=[read_requirement(item, False) for item in term.places("matchExpressions", None)],
+        fields=[read_requirement(item, True) for item in term.places("matchFields", None)],
     )
 
 
@@ -287,12 +289,13 @@ def read_counters(spec):
         name = place.name("name", 63, is_dns_label)
         check_new(name, sets, place.at("name"))
         place.needed("counters")
-        counters = sets[name] = {}
-        for key, value, path in place.table("counters"):
-            check_name(key, 63, is_dns_label, path)
-            counters[key] = Place(there(value, path), path).quantity("value", False)
-        if sum(len(one) for one in sets.values()) > 32:
+        counters = place.table("counters")
+        if len(counters) + sum(len(one) for one in sets.values()) > 32:
             spec.fail("TooMany", "sharedCounters")
+        sets[name] = {}
+        for key, value, path in counters:
+            check_name(key, 63, is_dns_label, path)
+            sets[name][key] = Place(there(value, path), path).quantity("value", False)
     return sets
 
 
@@ -348,12 +351,13 @@ def read_draws(device, counters):
         check_new(name, seen, place.at("counterSet"))
         seen.append(name)
         place.needed("counters")
-        for key, value, path in place.table("counters"):
+        amounts = place.table("counters")
+        if len(amounts) + len(draws) > 32:
+            device.fail("TooMany", "consumesCounters")
+        for key, value, path in amounts:
             if key not in counters[name]:
                 raise FieldError("Unknown", path)
             draws.append((name, key, Place(there(value, path), path).quantity("value", False)))
-        if len(draws) > 32:
-            device.fail("TooMany", "consumesCounters")
     return draws
 
 

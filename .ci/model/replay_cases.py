@@ -93,7 +93,7 @@ def case(line, scripts):
     other = Outcome(named[0], options).content
     if verb == "each":
         lines = named[1].removesuffix(b"\n").split(b"\n") if named[1] else []
-        runs = [(number, named[0] + line, options) for number, line in enumerate(lines, 1)]
+        runs = [(number, named[0] + last, options) for number, last in enumerate(lines, 1)]
     else:
         runs = varied(verb, named[0], options)
     return report((number, Outcome(script, with_options).in_short(other)) for number, script, with_options in runs)

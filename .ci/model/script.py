@@ -16,11 +16,11 @@ class Ended(Exception):
 
 
 class ReadFailed(Exception):
-    pass
+    """A read of the input failed."""
 
 
 class WriteFailed(Exception):
-    pass
+    """A write of the output failed."""
 
 
 class Input:
@@ -135,6 +135,7 @@ def do_command(history, job, output):
 
 
 def replay_all(source, output, budget, attempts, entries):
+    """Does all commands of a script, each as the job of its number, and writes the summary."""
     history = History(entries)
     number = 0
     for at, document in documents(source):
