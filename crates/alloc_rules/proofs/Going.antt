@@ -1,5 +1,5 @@
 -- One node after another.
-use Rattle.std.proofs.Common.{ℕ, ◌≡◌, ◌∙◌, List, [], ◌∷◌, ◌++◌, refl, sym, ap, subst, append_assoc, arith}
+use Rattle.std.proofs.Common.{ℕ, ◌≡◌, ◌∙◌, List, [], ◌∷◌, ◌++◌, Some, length, slice_get, refl, sym, ap, subst, append_assoc, arith}
 use Rattle.std.specs.List.{AllByRecursion, Contains}
 use Rattle.std.specs.Map.{keys_of}
 use Rattle.std.specs.Option.{IsSome}
@@ -24,6 +24,16 @@ next_there table items rest e ps is all =
     let h : Contains (e.0 ∷ keys_of rest) e.0 = (0, omega arith, refl) in
     there_by_name table e.0
     (subst (λ (l : List (List ℕ)). Contains l e.0) (names_next ps items rest e (keys_of table) is all) (Contains-append_right (nodes_of ps) (e.0 ∷ keys_of rest) e.0 h))
+
+-- the name at the index of the next one
+at_seam : (ps : List Passed) (name : List ℕ) (more : List (List ℕ)) → slice_get (nodes_of ps ++ name ∷ more) (length ps) ≡ Some name
+at_seam [] name more = refl
+at_seam (q ∷ ps) name more = at_seam ps name more
+
+pub next_is : {V : Type 0} (ps : List Passed) (items rest : Named V) (e : List ℕ × V) (names all : List (List ℕ)) → items ≡ e ∷ rest → names ≡ all → nodes_of ps ++ keys_of items ≡ all
+    → slice_get names (length ps) ≡ Some e.0
+next_is ps items rest e names all is same whole =
+    subst (λ (l : List (List ℕ)). slice_get l (length ps) ≡ Some e.0) (names_next ps items rest e all is whole ∙ sym same) (at_seam ps e.0 (keys_of rest))
 
 nodes_more : (ps : List Passed) (p : Passed) → nodes_of (ps ++ p ∷ []) ≡ nodes_of ps ++ p.node ∷ []
 nodes_more [] p = refl

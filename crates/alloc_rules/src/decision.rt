@@ -9,9 +9,9 @@ ghost use Rattle.alloc_rules.specs.Parts.{decision_by, plan_by, unready};
 ghost use Rattle.alloc_rules.specs.Plans.{IsIdle, MaySearch};
 
 use crate::claims::{granted, known_claims, unready};
-use crate::nodes::{Taken, try_nodes};
+use crate::nodes::{Taken, node_names, try_nodes};
 use allocations::{keys_of_pod, unsat_is_true};
-use cluster::{Known, Passed, Phase, Plan, PodState, Reason, State, Verdict};
+use cluster::{Known, PassedBuilder, PassedNodes, Phase, Plan, PodState, Reason, State, Verdict};
 use counter_sets::Held;
 use dra_values::Seq;
 use node_search::PodSearch;
@@ -124,10 +124,11 @@ fn decide_among(
     state.inventory.nodes().in_order();
     let search = PodSearch::of(alloc, state, holders, &pod.pod.object)?;
     let joins = granted(alloc, state, claims)?;
-    let mut passed = Seq::empty(alloc);
+    let mut passed = PassedBuilder::new(alloc, node_names(alloc, state)?);
     let object = &pod.pod.object;
     let joins = joins.as_slice();
     let taken = try_nodes(alloc, state, object, joins, &search, budget, &mut passed)?;
+    let passed = passed.finish();
     decision_by(alloc, state, pod, claims, at, passed, taken)
 }
 
@@ -137,7 +138,7 @@ fn decision_by(
     pod: &PodState,
     claims: &[Key],
     at: u64,
-    passed: Seq<Passed>,
+    passed: PassedNodes,
     taken: Option<Taken>,
 ) -> Result<Decision, AllocError>
     requires { claims.now ≡ keys_of_pod pod.now.pod.object }
@@ -161,7 +162,7 @@ fn plan_by(
     pod: &PodState,
     claims: &[Key],
     at: u64,
-    passed: Seq<Passed>,
+    passed: PassedNodes,
     taken: Taken,
 ) -> Result<Plan, AllocError>
     requires { claims.now ≡ keys_of_pod pod.now.pod.object }

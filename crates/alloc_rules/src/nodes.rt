@@ -1,17 +1,22 @@
-ghost use Rattle.std.specs.Prelude.{◌≡◌, ◌++◌, [], ◌∷◌, IfOk, IsSome};
+ghost use Rattle.std.specs.Prelude.{◌≡◌, IfOk, IsSome, Some, length, slice_get};
 ghost use Rattle.std.specs.Map.{keys_of};
 ghost use Rattle.pool_view.specs.Names.{at_name};
+ghost use Rattle.cluster.specs.PassedOver.{none_passed, one_more};
 ghost use Rattle.allocations.specs.Claims.{joined, wanted};
 ghost use Rattle.alloc_rules.specs.Tries.{AreTried, IsTried, tried_of};
 
 use crate::claims::first_elsewhere;
 use allocator::Outcome;
-use api_cluster::Pod;
-use cluster::{Cause, Grant, Passed, State};
-use dra_values::{Seq, Text};
+use api_cluster::{Node, Pod};
+use cluster::{Cause, Grant, PassedBuilder, State};
+use dra_values::{Seq, Shared, Table, Text};
 use node_search::PodSearch;
 use object_fields::Key;
+use pool_view::Stored;
 use std::alloc::{AllocError, Global};
+
+/// Nodes by their names.
+type Nodes = Table<Text, Stored<Shared<Node>>>;
 
 /// What a node has for a pod.
 #[derive(Drop)]
@@ -63,17 +68,33 @@ fn try_node(
     }
 }
 
-/// Puts a node that isn't taken at the end.
-fn push_passed(
-    passed: &mut Seq<Passed>,
-    alloc: Global,
-    node: &Text,
-    cause: Cause,
-) -> Result<(), AllocError>
-    ensures { IfOk result (λ _. passed.new ≡ passed.old ++ record { node = node.now; cause = cause } ∷ []) }
+/// Puts the node of the next name, which isn't taken, at the end.
+fn push_passed(passed: &mut PassedBuilder, node: &Text, cause: Cause) -> Result<(), AllocError>
+    requires { slice_get passed.old.names (length passed.old.nodes) ≡ Some node.now }
+    ensures { IfOk result (λ _. passed.new ≡ one_more passed.old node.now cause) }
 {
-    let node = node.copy(alloc)?;
-    passed.push(Passed { node, cause })
+    let _next = node;
+    passed.push(cause)
+}
+
+/// The names of the nodes, in order: those that the inventory lists, or else a list of them.
+pub fn node_names(alloc: Global, state: &State) -> Result<Shared<Seq<Text>>, AllocError>
+    ensures { IfOk result (λ names. names ≡ keys_of state.now.inventory.nodes) }
+{
+    match state.inventory.node_names() {
+        Some(names) => names.share(),
+        None => Shared::new(alloc, listed_names(alloc, state.inventory.nodes())?),
+    }
+}
+
+fn listed_names(alloc: Global, nodes: &Nodes) -> Result<Seq<Text>, AllocError>
+    ensures { IfOk result (λ names. names ≡ keys_of nodes.now) }
+{
+    let mut names = Seq::empty(alloc);
+    for (name, _) in nodes.as_map() {
+        names.push(name.copy(alloc)?)?;
+    }
+    Ok(names)
 }
 
 /// Tries the nodes in the order of their names, up to the first that may be taken, and says why each
@@ -86,16 +107,16 @@ pub fn try_nodes(
     joins: &[Key],
     search: &PodSearch,
     budget: u64,
-    passed: &mut Seq<Passed>,
+    passed: &mut PassedBuilder,
 ) -> Result<Option<Taken>, AllocError>
     requires joins { joins.now ≡ joined state.now pod.now }
     requires search { search.now ≡ record { state = state.now; claims = wanted state.now pod.now } }
-    requires none { passed.old ≡ [] }
-    ensures { IfOk result (AreTried state.now pod.now budget (keys_of state.now.inventory.nodes) passed.new) }
+    requires none { passed.old ≡ none_passed (keys_of state.now.inventory.nodes) }
+    ensures { IfOk result (AreTried state.now pod.now budget (keys_of state.now.inventory.nodes) passed.new.nodes) }
 {
     for (node, _) in state.inventory.nodes().as_map() {
         match try_node(alloc, state, pod, joins, search, node, budget)? {
-            Tried::Passed(cause) => push_passed(passed, alloc, node, cause)?,
+            Tried::Passed(cause) => push_passed(passed, node, cause)?,
             Tried::Found(grants) => {
                 let node = node.copy(alloc)?;
                 return Ok(Some(Taken { node, grants }));

@@ -1,3 +1,4 @@
 pub mod Preparing
 pub mod Equal
 pub mod Freeing
+pub mod PassedNext

@@ -17,6 +17,7 @@ pub mod Freed
 pub mod Leaving
 pub mod Unreserved
 pub mod Bound
+pub mod PassedOver
 pub mod VerdictGiven
 pub mod Contended
 pub mod Released

@@ -6,6 +6,7 @@ mod failure;
 mod freed;
 mod kept;
 mod object;
+mod passed;
 mod plan;
 mod ready;
 mod refusals;
@@ -17,6 +18,7 @@ pub use entry::{Command, Entry, Event, JobState, Mode, Outcome, Refusal};
 pub use failure::{Failure, Shortfall};
 pub use kept::Kept;
 pub use object::{Object, Target};
+pub use passed::{NodeCause, PassedBuilder, PassedNodes, later_causes, next_cause};
 pub use plan::{
     Cause, DeviceResult, Grant, Known, KnownClaim, Passed, Plan, Reason, SelectorFault, Verdict,
 };

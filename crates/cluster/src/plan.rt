@@ -1,5 +1,6 @@
 ghost use Rattle.std.specs.Prelude.{◌≡◌, IfOk};
 
+use crate::passed::PassedNodes;
 use dra_values::{Duplicate, Seq, Text};
 use object_fields::{DeviceId, Key};
 use std::alloc::{AllocError, Global};
@@ -47,7 +48,7 @@ pub enum Cause {
     Other(Key),
 }
 
-/// A node that wasn't taken.
+/// A node that wasn't taken: an item of the list as which contracts see `PassedNodes`.
 #[derive(Drop)]
 pub struct Passed {
     pub node: Text,
@@ -78,7 +79,7 @@ pub struct Plan {
     pub at: u64,
     pub node: Text,
     /// The nodes before this one in the order of names.
-    pub passed: Seq<Passed>,
+    pub passed: PassedNodes,
     /// One for each claim of the pod that had no grant.
     pub grants: Seq<Grant>,
     /// The claims of the pod that had a grant.
@@ -102,7 +103,7 @@ pub enum Reason {
     /// This claim of the pod has 256 users, and the pod isn't one of them.
     Users(Key),
     /// No node can be taken: each node with its cause, in the order of names.
-    Nodes(Seq<Passed>),
+    Nodes(PassedNodes),
 }
 
 impl Duplicate for DeviceResult {
@@ -150,15 +151,6 @@ impl Cause {
             Cause::Budget(steps) => Ok(Cause::Budget(*steps)),
             Cause::Other(claim) => Ok(Cause::Other(claim.copy(alloc)?)),
         }
-    }
-}
-
-impl Duplicate for Passed {
-    fn duplicate(&self, alloc: Global) -> Result<Passed, AllocError> {
-        Ok(Passed {
-            node: self.node.copy(alloc)?,
-            cause: self.cause.copy(alloc)?,
-        })
     }
 }
 

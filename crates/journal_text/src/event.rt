@@ -1,13 +1,12 @@
 ghost use Rattle.std.specs.Prelude.{◌≡◌, IfOk, string_bytes};
 ghost use Rattle.journal_text.specs.Journal.{adopted_line, adopted_text, denial_text, event_text, is_unbound, nodes_word, object_text, plan_text, reason_text, refusal_text, release_text, target_text, verdict_text, verdict_word};
 ghost use Rattle.cluster.specs.declared.entry.Event.TheVariants.{Refused};
-ghost use Rattle.cluster.specs.VerdictGiven.{has_budget, has_fault, is_budget, is_fault};
 
 use crate::failure::failure_text;
-use crate::worded::{listed, status_results};
+use crate::worded::{listed, listed_nodes, status_results};
 use api_claim::ClaimStatus;
 use cluster::{
-    Cause, Command, Event, Failure, Object, Passed, Plan, Reason, Refusal, Target, Verdict,
+    Command, Event, Failure, Object, PassedNodes, Plan, Reason, Refusal, Target, Verdict,
 };
 use dra_values::Text;
 use object_fields::Key;
@@ -44,7 +43,7 @@ fn target_text(alloc: Global, target: &Target) -> Result<String, AllocError>
 fn plan_text(alloc: Global, pod: &Key, plan: &Plan) -> Result<String, AllocError>
     ensures { IfOk result (λ s. string_bytes s ≡ plan_text pod.now plan.now) }
 {
-    let passed = listed(alloc, plan.passed.as_slice())?;
+    let passed = listed_nodes(alloc, &plan.passed)?;
     let grants = listed(alloc, plan.grants.as_slice())?;
     let joins = listed(alloc, plan.joins.as_slice())?;
     format!(in alloc;
@@ -97,7 +96,7 @@ fn reason_text(alloc: Global, reason: &Reason) -> Result<String, AllocError>
         Reason::Missing(claim) => format!(in alloc; "claim={claim}"),
         Reason::Users(claim) => format!(in alloc; "claim={claim}"),
         Reason::Nodes(nodes) => {
-            let nodes = listed(alloc, nodes.as_slice())?;
+            let nodes = listed_nodes(alloc, nodes)?;
             format!(in alloc; "nodes={nodes}")
         }
     }
@@ -109,53 +108,21 @@ fn verdict_word(reason: &Reason) -> &'static str
     match reason {
         Reason::Missing(_) => "missing",
         Reason::Users(_) => "users",
-        Reason::Nodes(nodes) => nodes_word(nodes.as_slice()),
+        Reason::Nodes(nodes) => nodes_word(nodes),
     }
 }
 
 /// `fault` if a selector has an evaluation error on one node, else `budget` if the search of one ended with its
 /// budget, else `unsatisfiable`.
-fn nodes_word(nodes: &[Passed]) -> &'static str
+fn nodes_word(nodes: &PassedNodes) -> &'static str
     ensures { result.now ≡ nodes_word nodes.now }
 {
-    if has_fault(nodes) {
+    if nodes.has_fault() {
         "fault"
-    } else if has_budget(nodes) {
+    } else if nodes.has_budget() {
         "budget"
     } else {
         "unsatisfiable"
-    }
-}
-
-fn has_fault(nodes: &[Passed]) -> bool
-    ensures { result ≡ has_fault nodes.now }
-{
-    let mut nodes = nodes.iter();
-    nodes.any(|passed| is_fault(&passed.cause))
-}
-
-fn has_budget(nodes: &[Passed]) -> bool
-    ensures { result ≡ has_budget nodes.now }
-{
-    let mut nodes = nodes.iter();
-    nodes.any(|passed| is_budget(&passed.cause))
-}
-
-fn is_fault(cause: &Cause) -> bool
-    ensures { result ≡ is_fault cause.now }
-{
-    match cause {
-        Cause::Unsat | Cause::Budget(_) | Cause::Other(_) => false,
-        Cause::Fault(_) => true,
-    }
-}
-
-fn is_budget(cause: &Cause) -> bool
-    ensures { result ≡ is_budget cause.now }
-{
-    match cause {
-        Cause::Unsat | Cause::Fault(_) | Cause::Other(_) => false,
-        Cause::Budget(_) => true,
     }
 }
 

@@ -1,11 +1,15 @@
-ghost use Rattle.std.specs.Prelude.{◌≡◌, ◌++◌, OnOk, IfOk, List, ℕ, string_bytes, codes};
+ghost use Rattle.std.specs.Prelude.{◌≡◌, ◌++◌, OnOk, IfOk, List, ℕ, option_copied, string_bytes, codes};
 ghost use Rattle.std.specs.List.{flat_map, join_by};
+ghost use Rattle.cluster.specs.PassedOver.{cause_or_unsat, passed_from};
 ghost use Rattle.object_fields.specs.Keys.{key_text};
 ghost use Rattle.journal_text.specs.Journal.{admin_mark, cause_text, error_word, fault_text, grant_text, listed, passed_text, result_text, status_result_text, why_word};
 
 use api_claim::{ClaimStatus, StatusResult};
 use cel_value::EvalError;
-use cluster::{Cause, DeviceResult, Grant, Passed, SelectorFault};
+use cluster::{
+    Cause, DeviceResult, Grant, NodeCause, PassedNodes, SelectorFault, later_causes, next_cause,
+};
+use dra_values::Text;
 use object_fields::Key;
 use std::alloc::{AllocError, Global};
 use std::fmt::Write;
@@ -78,16 +82,6 @@ impl Worded for Cause {
             Cause::Budget(_) => Ok(out.push_str("budget")?),
             Cause::Other(claim) => write!(out, "other:{claim}"),
         }
-    }
-}
-
-/// As `node:cause`.
-impl Worded for Passed {
-    ghost words = { passed_text };
-
-    fn push_to(&self, out: &mut String) -> Result<(), AllocError> {
-        write!(out, "{}:", self.node)?;
-        self.cause.push_to(out)
     }
 }
 
@@ -180,4 +174,44 @@ pub fn listed<T: Worded>(alloc: Global, items: &[T]) -> Result<String, AllocErro
     let mut out = String::new(alloc);
     push_joined(&mut out, ",", items)?;
     Ok(out)
+}
+
+/// As `node:cause`, where no cause is Unsat.
+fn push_node(out: &mut String, name: &Text, cause: Option<&Cause>) -> Result<(), AllocError>
+    ensures { OnOk result (string_bytes out.new ≡ string_bytes out.old ++ passed_text (record { node = name.now; cause = cause_or_unsat (option_copied cause.entry) })) }
+{
+    write!(out, "{name}:")?;
+    match cause {
+        None => Ok(out.push_str("unsat")?),
+        Some(cause) => cause.push_to(out),
+    }
+}
+
+/// Writes nodes, the first of which has the index 1, each after a comma.
+fn push_nodes(out: &mut String, names: &[Text], causes: &[NodeCause]) -> Result<(), AllocError>
+    ensures { OnOk result (string_bytes out.new ≡ string_bytes out.old ++ flat_map (λ x. codes "," ++ passed_text x) (passed_from 1 names.now causes.now)) }
+{
+    let mut left = causes;
+    for at in 0..names.len() {
+        out.push_str(",")?;
+        push_node(out, &names[at], next_cause(left, at + 1))?;
+        left = later_causes(left, at + 1);
+    }
+    Ok(())
+}
+
+/// The nodes joined by `,`, and `-` if there are none.
+pub fn listed_nodes(alloc: Global, nodes: &PassedNodes) -> Result<String, AllocError>
+    ensures { IfOk result (λ s. string_bytes s ≡ listed passed_text nodes.now) }
+{
+    let causes = nodes.causes();
+    match nodes.names().split_first() {
+        None => String::from_str(alloc, "-"),
+        Some((first, rest)) => {
+            let mut out = String::new(alloc);
+            push_node(&mut out, first, next_cause(causes, 0))?;
+            push_nodes(&mut out, rest, later_causes(causes, 0))?;
+            Ok(out)
+        }
+    }
 }

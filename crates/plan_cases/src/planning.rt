@@ -1,6 +1,6 @@
 use crate::input::{CaseError, cut_word};
 use crate::spelling::{grant, key, known_claim, known_pod};
-use cluster::{Known, Plan};
+use cluster::{Known, PassedNodes, Plan};
 use dra_values::{Seq, Text};
 use object_fields::Key;
 use std::alloc::{AllocError, Global};
@@ -17,7 +17,7 @@ fn begun(alloc: Global, pod: u64, node: &str) -> Result<Plan, AllocError> {
     Ok(Plan {
         at: 0,
         node: Text::from_str(alloc, node)?,
-        passed: Seq::empty(alloc),
+        passed: PassedNodes::none(alloc)?,
         grants: Seq::empty(alloc),
         joins: Seq::empty(alloc),
         known: Known {

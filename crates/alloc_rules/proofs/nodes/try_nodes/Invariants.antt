@@ -6,6 +6,7 @@ use Rattle.alloc_rules.proofs.nodes.try_nodes.Given as goal
 
 abbrev pub invariant-loop-node : goal.invariant-loop-node
 invariant-loop-node l = record {
-  names_are : nodes_of l.passed ++ keys_of l.node-iterator ≡ keys_of l.state.inventory.nodes;
-  causes : AllByRecursion (λ p. CauseBy l.state l.pod l.budget p.node p.cause) l.passed;
+  names : l.passed.names ≡ keys_of l.state.inventory.nodes;
+  names_are : nodes_of l.passed.nodes ++ keys_of l.node-iterator ≡ keys_of l.state.inventory.nodes;
+  causes : AllByRecursion (λ p. CauseBy l.state l.pod l.budget p.node p.cause) l.passed.nodes;
 }

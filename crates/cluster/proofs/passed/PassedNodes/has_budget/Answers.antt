@@ -1,0 +1,11 @@
+use Rattle.std.proofs.Common.{◌∙◌, sym, ap, refl}
+use Rattle.std.specs.List.{list_any}
+use Rattle.cluster.specs.VerdictGiven.{has_budget, is_budget}
+use Rattle.cluster.proofs.PassedNext.{any_node}
+use Rattle.cluster.proofs.passed.PassedNodes.has_budget.Goals as goal
+
+pub returns : goal.returns
+returns c =
+    c.is_budget_among.ensures ∙ ap (list_any (λ k. is_budget k.cause)) c.as_slice.ensures
+    ∙ sym (any_node is_budget refl c.self.inside.names c.self.inside.count c.self.inside.causes c.self.invariant)
+    ∙ ap has_budget c.self.view_is
