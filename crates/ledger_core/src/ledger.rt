@@ -43,6 +43,7 @@ use cluster::{
 };
 use counter_sets::Held;
 use dra_values::{Shared, Table, Text};
+use node_search::learn_full_slices;
 use object_fields::{DeviceId, FieldError, FieldErrorKind, Key};
 use plan_check::{check, check_status, checked_is_allocation, checked_is_known};
 use std::alloc::{AllocError, Global};
@@ -243,7 +244,7 @@ impl Ledger {
         let at = self.len();
         match self.state.schedule_refusal(alloc, pod)? {
             None => {
-                let snapshot = take_snapshot(alloc, &mut self.state, &self.holders, at)?;
+                let snapshot = take_snapshot(alloc, &mut self.state, &self.holders, pod, at)?;
                 Ok(Start::Seen(snapshot))
             }
             Some(refusal) => {
@@ -868,11 +869,13 @@ fn bind(alloc: Global, state: &mut State, pod: &Key) -> Result<(Key, Text), Allo
     Ok((kept, kept_node))
 }
 
-/// A snapshot of the state, whose slices are sorted for the searches.
+/// A snapshot of the state for the searches of a pod: its slices are sorted, and the inventory has found out
+/// about those whose devices are all held what `learn_full_slices` says.
 fn take_snapshot(
     alloc: Global,
     state: &mut State,
     holders: &Shared<Held>,
+    pod: &Key,
     at: u64,
 ) -> Result<Snapshot, AllocError>
     requires { AreHeld holders.now (held state.old) }
@@ -880,7 +883,25 @@ fn take_snapshot(
     ensures seen { IfOk result (λ snapshot. snapshot ≡ record { at = at; state = state.old }) }
 {
     state.sort(alloc)?;
+    learn(alloc, state, holders, pod)?;
     let state = state.share()?;
     let holders = holders.share()?;
     Ok(Snapshot::of(at, state, holders))
+}
+
+/// Lets the inventory find out about slices for the searches of a pod, if it exists. The state stays the same.
+fn learn(alloc: Global, state: &mut State, holders: &Held, pod: &Key) -> Result<(), AllocError>
+    ensures { state.new ≡ state.old }
+{
+    match state.pods.get(pod) {
+        None => Ok(()),
+        Some(stored) => learn_full_slices(
+            alloc,
+            &mut state.inventory,
+            &state.classes,
+            &state.claims,
+            &stored.pod.object,
+            holders,
+        ),
+    }
 }

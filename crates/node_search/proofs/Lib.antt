@@ -10,5 +10,7 @@ pub mod Held
 pub mod Keys
 pub mod FullWalks
 pub mod FullInputs
+pub mod WantedAt
+pub mod Unfaulted
 pub mod FullNodes
 pub mod NodeTotals

@@ -5,3 +5,5 @@ pub mod Apart
 pub mod Counted
 pub mod Full
 pub mod NodeTotals
+pub mod Sure
+pub mod Wanted

@@ -1,18 +1,15 @@
-//! Pods that ask plainly for devices, and nodes that have none left for them.
+//! Pods that ask for devices of their own, and nodes that have none left for them.
 
-ghost use Rattle.std.specs.Prelude.{◌≡◌, not};
+ghost use Rattle.std.specs.Prelude.{◌≡◌};
 ghost use Rattle.std.specs.List.{list_all, list_any};
-ghost use Rattle.pool_view.specs.Names.{at_name};
-ghost use Rattle.request_rows.specs.Columns.{class_selectors, has_any};
 ghost use Rattle.node_search.specs.Full as spec;
-ghost use Rattle.node_search.specs.Full.{all_held, are_plain, asks_some, is_plain, is_unselective};
+ghost use Rattle.node_search.specs.Full.{all_held, are_exclusive, asks_some, is_exclusive};
 
-use api_claim::{AllocationMode, DeviceAsk, DeviceRequest, RequestKind};
+use api_claim::{AllocationMode, DeviceRequest, RequestKind};
 use api_slice::ResourceSlice;
 use counter_sets::{Held, HeldInPool};
-use dra_values::Text;
 use pool_view::DeviceRef;
-use request_rows::{Classes, WantedClaim};
+use request_rows::WantedClaim;
 
 /// Whether a claim holds each of the devices. A pool is looked up once for its devices that follow
 /// each other; the first device that no claim holds ends the search.
@@ -47,61 +44,43 @@ fn all_held_from<'a>(devices: &[DeviceRef<'a>], pool: HeldInPool<'a>) -> bool
     true
 }
 
-/// Whether each of the claims asks plainly for devices, and one of them asks for any.
-#[tactic(auto, unfolding(crate::specs::Full::are_plain))]
-pub fn are_plain(classes: &Classes, claims: &[WantedClaim]) -> bool
-    ensures { result ≡ are_plain classes.now claims.now }
+/// Whether each request of the claims is exclusive, and there is one.
+#[tactic(auto, unfolding(crate::specs::Full::are_exclusive))]
+pub fn are_exclusive(claims: &[WantedClaim]) -> bool
+    ensures { result ≡ are_exclusive claims.now }
 {
-    each_plain(classes, claims) && any_asks(claims)
+    each_exclusive(claims) && any_asks(claims)
 }
 
-fn each_plain(classes: &Classes, claims: &[WantedClaim]) -> bool
-    ensures { result ≡ list_all (λ c. list_all (λ r. is_plain classes.now r.kind) c.requests) claims.now }
+fn each_exclusive(claims: &[WantedClaim]) -> bool
+    ensures { result ≡ list_all (λ c. list_all (λ r. is_exclusive r.kind) c.requests) claims.now }
 {
     for wanted in claims {
-        if !requests_plain(classes, wanted.claim.claim().requests.as_slice()) {
+        if !requests_exclusive(wanted.claim.claim().requests.as_slice()) {
             return false;
         }
     }
     true
 }
 
-fn requests_plain(classes: &Classes, requests: &[DeviceRequest]) -> bool
-    ensures { result ≡ list_all (λ r. is_plain classes.now r.kind) requests.now }
+fn requests_exclusive(requests: &[DeviceRequest]) -> bool
+    ensures { result ≡ list_all (λ r. is_exclusive r.kind) requests.now }
 {
     for request in requests {
-        if !is_plain(classes, &request.kind) {
+        if !is_exclusive(&request.kind) {
             return false;
         }
     }
     true
 }
 
-/// Whether it has neither alternatives nor admin access nor selectors, and asks for a device.
-fn is_plain(classes: &Classes, kind: &RequestKind) -> bool
-    ensures { result ≡ is_plain classes.now kind.now }
+/// Whether it has neither alternatives nor admin access, and asks for a device.
+fn is_exclusive(kind: &RequestKind) -> bool
+    ensures { result ≡ is_exclusive kind.now }
 {
     match kind {
-        RequestKind::Exactly(exactly) => {
-            !exactly.admin && is_unselective(classes, &exactly.ask) && asks_some(&exactly.ask.mode)
-        }
+        RequestKind::Exactly(exactly) => !exactly.admin && asks_some(&exactly.ask.mode),
         RequestKind::FirstAvailable(_) => false,
-    }
-}
-
-fn is_unselective(classes: &Classes, ask: &DeviceAsk) -> bool
-    ensures { result ≡ is_unselective classes.now ask.now }
-{
-    ask.selectors.as_slice().is_empty() && is_without_selectors(classes, &ask.class)
-}
-
-/// Whether the class has no selector, or doesn't exist.
-fn is_without_selectors(classes: &Classes, class: &Text) -> bool
-    ensures { result ≡ not (has_any (class_selectors (at_name classes.now class.now))) }
-{
-    match classes.get(class) {
-        None => true,
-        Some(class) => class.object.selectors().is_empty(),
     }
 }
 

@@ -8,15 +8,15 @@ ghost use Rattle.allocator.specs.Answered.{answer_of};
 
 use crate::apart::{devices_differ, slices_differ};
 use crate::counted::totals_for;
-use crate::full::{all_held, are_plain};
 use crate::laws::full_nodes_have_nothing;
+use crate::sure::{is_full, known_for};
 use crate::wanted::wanted_claims;
 use allocator::{Outcome, search_devices};
 use api_cluster::Pod;
 use cluster::State;
 use counter_sets::Held;
-use dra_values::Text;
-use pool_view::Pools;
+use dra_values::{Seq, Text};
+use pool_view::{KnownSlices, Pools};
 use request_rows::Wants;
 use std::alloc::{AllocError, Global};
 use std::marker::Model;
@@ -29,8 +29,8 @@ pub struct PodSearch<'a> {
     pools: Pools<'a>,
     wants: Wants<'a>,
     holders: &'a Held,
-    /// Whether the claims ask plainly for devices.
-    plain: bool,
+    /// What the inventory knows of the selectors of the claims' requests, if each of these is exclusive.
+    known: Option<Seq<KnownSlices<'a>>>,
 }
 
 impl<'a> Model for PodSearch<'a> {
@@ -40,7 +40,7 @@ impl<'a> Model for PodSearch<'a> {
 
     ghost view = { λ s. record { state = s.state.now; claims = s.wants.claims } };
 
-    ghost invariant = { λ s. IsSearch s.state.now s.pools s.wants.classes s.wants.claims s.holders.now s.plain };
+    ghost invariant = { λ s. IsSearch s.state.now s.pools s.wants.classes s.wants.claims s.holders.now s.known };
 }
 
 impl<'a> PodSearch<'a> {
@@ -58,7 +58,7 @@ impl<'a> PodSearch<'a> {
     {
         let pools = Pools::of(alloc, &state.inventory)?;
         let claims = wanted_claims(alloc, state, pod)?;
-        let plain = are_plain(&state.classes, &claims);
+        let known = known_for(alloc, state, &claims)?;
         let wants = Wants {
             claims,
             classes: &state.classes,
@@ -68,7 +68,7 @@ impl<'a> PodSearch<'a> {
             pools,
             wants,
             holders,
-            plain,
+            known,
         })
     }
 
@@ -78,8 +78,9 @@ impl<'a> PodSearch<'a> {
     /// The result is exactly that of the walk within the budget: the least allocation as a grant for
     /// each claim, a selector error that comes before each allocation, that there is neither, or that the
     /// budget is spent before one of these is known. What held devices draw is counted for the slices
-    /// of the node's devices alone. If the claims ask plainly for devices and all of the node's are
-    /// held, nothing is counted or matched. `AllocError` only if memory runs out.
+    /// of the node's devices alone. If each request of the claims is exclusive, all of the node's devices
+    /// are held, and the inventory knows that no selector has an evaluation error on them, nothing is
+    /// counted or matched. `AllocError` only if memory runs out.
     pub fn outcome(&self, alloc: Global, node: &Text, budget: u64) -> Result<Outcome, AllocError>
         requires { IsSome (at_name self.now.state.inventory.nodes node.now) }
         ensures { IfOk result (λ found. answer_of (input_of self.now.state self.now.claims node.now) budget ≡ Some found) }
@@ -88,7 +89,7 @@ impl<'a> PodSearch<'a> {
         devices_differ(&self.state.inventory, node);
         full_nodes_have_nothing();
         let devices = self.pools.devices(alloc, node)?;
-        if self.plain && budget > 0 && all_held(&devices, self.holders) {
+        if budget > 0 && is_full(&self.known, &devices, self.holders) {
             return Ok(Outcome::Unsat);
         }
         let broken = self.pools.has_broken(node);

@@ -2,7 +2,8 @@
 
 ghost use Rattle.std.specs.Prelude.{◌≡◌, ◌++◌, [], IfOk, IfSome, OnOk, option_map};
 ghost use Rattle.pool_view.specs.Names.{at_key};
-ghost use Rattle.allocations.specs.Claims.{add_wanted, wanted, wanted_of};
+ghost use Rattle.allocations.specs.Claims.{add_wanted, keys_of_pod, wanted};
+ghost use Rattle.node_search.specs.Wanted.{wanted_at};
 
 use allocations::keys_of_pod;
 use api_cluster::Pod;
@@ -42,21 +43,33 @@ fn add_claim<'a>(
 /// Those of the claims that are there and have no grant, in order.
 fn wanted_among<'a>(
     alloc: Global,
-    state: &'a State,
+    claims: &'a Table<Key, ClaimState>,
     keys: &[Key],
 ) -> Result<Vec<WantedClaim<'a>>, AllocError>
-    ensures { IfOk result (λ wanted. wanted.items ≡ wanted_of state.now keys.now) }
+    ensures { IfOk result (λ wanted. wanted.items ≡ wanted_at claims.now keys.now) }
 {
     let mut wanted = Vec::new(alloc);
     for key in keys {
-        add_claim(&mut wanted, &state.claims, key)?;
+        add_claim(&mut wanted, claims, key)?;
     }
     Ok(wanted)
 }
 
+/// What `wanted_claims` returns, by the table of the claims.
+pub fn wanted_in<'a>(
+    alloc: Global,
+    claims: &'a Table<Key, ClaimState>,
+    pod: &Pod,
+) -> Result<Vec<WantedClaim<'a>>, AllocError>
+    ensures { IfOk result (λ wanted. wanted.items ≡ wanted_at claims.now (keys_of_pod pod.now)) }
+{
+    let keys = keys_of_pod(alloc, pod)?;
+    wanted_among(alloc, claims, keys.as_slice())
+}
+
 /// The claims of a pod that are there and have no grant, each at its first occurrence, under the key by which
 /// the pod names it. `AllocError` only if memory runs out.
-#[tactic(auto, unfolding(allocations::specs::Claims::wanted))]
+#[tactic(auto, using(crate::proofs::WantedAt::wanted_by))]
 pub fn wanted_claims<'a>(
     alloc: Global,
     state: &'a State,
@@ -64,6 +77,5 @@ pub fn wanted_claims<'a>(
 ) -> Result<Vec<WantedClaim<'a>>, AllocError>
     ensures { IfOk result (λ claims. claims.items ≡ wanted state.now pod.now) }
 {
-    let keys = keys_of_pod(alloc, pod)?;
-    wanted_among(alloc, state, keys.as_slice())
+    wanted_in(alloc, &state.claims, pod)
 }

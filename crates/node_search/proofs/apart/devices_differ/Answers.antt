@@ -11,3 +11,9 @@ returns-clause-listed c = record {
   in_slices = λ i o e. c.devices_of_a_view_differ.ensures.usable c.args.inventory.now c.args.node.now i o e;
   in_slice = λ i o e. c.devices_of_a_view_differ.ensures.listed c.args.inventory.now c.args.node.now i o e;
 }
+
+pub returns-clause-named : goal.returns-clause-named
+returns-clause-named c = record {
+  at_names = λ i o e.
+      c.usable_slices_differ.ensures.stored c.args.inventory.now o.slice c.keeps_names.ensures c.keeps_order.ensures (c.devices_of_a_view_differ.ensures.usable c.args.inventory.now c.args.node.now i o e);
+}
