@@ -1,7 +1,7 @@
 -- Selectors that are known to have no evaluation error on slices, and the requests that have these selectors.
-use Rattle.std.proofs.Common.{ℕ, zero, suc, ◌≡◌, List, [], ◌∷◌, ◌++◌, Bool, true, false, not, ◌&&◌, ◌||◌, Option, None, Some, map, refl, sym, ap, subst, ◌∙◌}
+use Rattle.std.proofs.Common.{ℕ, zero, suc, ◌≡◌, List, [], ◌∷◌, ◌++◌, Bool, true, not, Option, None, Some, refl, sym, ap, ◌∙◌}
 use Rattle.std.specs.Prelude.{Contains, IfSome, slice_get}
-use Rattle.std.specs.List.{flat_map, list_all}
+use Rattle.std.specs.List.{list_all}
 use Rattle.std.proofs.lemmas.Bool.{and_from, and_parts}
 use Rattle.std.proofs.lemmas.List.Folds.{list_all-append}
 use Rattle.api_claim.specs.declared.types.DeviceRequest.{DeviceRequest}
@@ -24,7 +24,7 @@ use Rattle.request_rules.specs.Asked.{is_fault}
 use Rattle.request_rows.specs.Match.{ClassTable, match_class, matched_by, seen}
 use Rattle.node_search.specs.Apart.{AreListed, AreNamed}
 use Rattle.node_search.specs.Full.{are_unfaulted, is_unfaulted}
-use Rattle.node_search.specs.Sure.{all_sure_at, are_sure, ask_texts, is_sure_at, is_sure_by, kind_texts, known_of, requests_texts, some_texts, texts_of}
+use Rattle.node_search.specs.Sure.{all_sure_at, are_sure, ask_texts, is_sure_by, kind_texts, known_of, requests_texts, some_texts, texts_of}
 use Rattle.node_search.proofs.Places.{at_place}
 
 -- ---- tests of lists, by indices
