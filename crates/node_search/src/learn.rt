@@ -13,7 +13,7 @@ use cluster::ClaimState;
 use counter_sets::{Held, HeldInPool};
 use dra_values::{Seq, Shared, Table, Text};
 use object_fields::Key;
-use pool_view::Inventory;
+use pool_view::{Inventory, KnownSlices};
 use request_rows::Classes;
 use std::alloc::{AllocError, Global};
 
@@ -76,30 +76,43 @@ fn unknown_full(
 ) -> Result<Seq<Text>, AllocError>
     ensures { IfOk result (λ names. length names ≤ 16) }
 {
+    let known = known_each(alloc, inventory, selections)?;
     let mut names = Seq::empty(alloc);
     for (name, stored) in inventory.slices().as_map() {
         if names.as_slice().len() == MAX_LEARNED_SLICES {
             return Ok(names);
         }
-        if is_unknown_full(inventory, selections, name, &stored.object, holders) {
+        if is_unknown_full(&known, name, &stored.object, holders) {
             names.push(name.copy(alloc)?)?;
         }
     }
     Ok(names)
 }
 
+/// What the inventory knows of each of the selections.
+fn known_each<'a>(
+    alloc: Global,
+    inventory: &'a Inventory,
+    selections: &[Selection],
+) -> Result<Vec<Option<KnownSlices<'a>>>, AllocError> {
+    let mut known = Vec::new(alloc);
+    for selection in selections {
+        known.push(selection.known_in(inventory))?;
+    }
+    Ok(known)
+}
+
 /// Whether the slice has devices, all of them are held, and of some selectors it isn't known whether
 /// they have an evaluation error on it.
 fn is_unknown_full(
-    inventory: &Inventory,
-    selections: &[Selection],
+    known: &[Option<KnownSlices>],
     name: &Text,
     slice: &ResourceSlice,
     holders: &Held,
 ) -> bool {
     let devices = slice.devices.as_slice();
     !devices.is_empty()
-        && any_unknown(inventory, selections, name)
+        && any_unknown(known, name)
         && are_held(
             devices,
             holders.in_pool(slice.driver.as_text(), &slice.pool.name),
@@ -117,17 +130,17 @@ fn are_held(devices: &[Device], pool: HeldInPool) -> bool
     true
 }
 
-fn any_unknown(inventory: &Inventory, selections: &[Selection], slice: &Text) -> bool {
-    for selection in selections {
-        if !is_known(inventory, selection, slice) {
+fn any_unknown(known: &[Option<KnownSlices>], slice: &Text) -> bool {
+    for list in known {
+        if !is_known(list, slice) {
             return true;
         }
     }
     false
 }
 
-fn is_known(inventory: &Inventory, selection: &Selection, slice: &Text) -> bool {
-    match selection.known_in(inventory) {
+fn is_known(known: &Option<KnownSlices>, slice: &Text) -> bool {
+    match known {
         None => false,
         Some(known) => known.is_sure(slice).is_some(),
     }
@@ -156,7 +169,7 @@ fn learn_slice(
     ensures { inventory.new ≡ inventory.old }
 {
     for selection in selections {
-        if !is_known(inventory, selection, slice) {
+        if !is_known(&selection.known_in(inventory), slice) {
             selection.learn(alloc, inventory, slice)?;
         }
     }

@@ -8,7 +8,6 @@ ghost use Rattle.allocator.specs.Answered.{answer_of};
 
 use crate::apart::{devices_differ, slices_differ};
 use crate::counted::totals_for;
-use crate::laws::full_nodes_have_nothing;
 use crate::sure::{is_full, known_for};
 use crate::wanted::wanted_claims;
 use allocator::{Outcome, search_devices};
@@ -87,7 +86,6 @@ impl<'a> PodSearch<'a> {
     {
         slices_differ(&self.state.inventory);
         devices_differ(&self.state.inventory, node);
-        full_nodes_have_nothing();
         let devices = self.pools.devices(alloc, node)?;
         if budget > 0 && is_full(&self.known, &devices, self.holders) {
             return Ok(Outcome::Unsat);
