@@ -2,6 +2,7 @@
 //! of the Kubernetes API's objects and prints the journal of what was decided.
 #![tactic(auto)]
 
+mod asked;
 mod denials;
 mod message;
 mod position;
@@ -64,7 +65,7 @@ fn main(rt: HostRuntime) -> ExitCode {
     report(&rt, output.denials());
     if status != Status::Done {
         // If the standard error fails, only the exit status reports the result.
-        let _ = eprintln!(rt; "dra: {}", Message::new(status, input.tail()));
+        let _ = eprintln!(rt; "dra: {}", Message::new(rt.alloc(), status, input.tail()));
     }
     ExitCode::from(exit_number(status))
 }

@@ -1,6 +1,9 @@
+use crate::asked::pod_at;
 use crate::position::Position;
 use crate::tail::Tail;
+use object_fields::Key;
 use replay_core::{Form, Rejection, Status};
+use std::alloc::Global;
 use std::fmt;
 
 /// The most bytes of an input; a history never has so many entries.
@@ -89,11 +92,13 @@ fn limit<W: fmt::Write>(count: u64, f: &mut fmt::Formatter<W>) -> fmt::Result {
 
 /// What the program prints on the standard error about how its run ended: what was found, where, and
 /// what would be right. No format fixes this text.
-#[derive(Clone, Copy, Drop)]
+#[derive(Drop)]
 pub struct Message {
     status: Status,
     position: Option<Position>,
     byte: Option<u8>,
+    /// The pod that a command which isn't supported is for.
+    pod: Option<Key>,
 }
 
 /// The offset that a status names.
@@ -104,19 +109,41 @@ fn offset_of(status: Status) -> Option<u64> {
     }
 }
 
+/// The pod that a command which isn't supported is for, if it is for one.
+fn unsupported_pod(alloc: Global, status: Status, tail: &Tail) -> Option<Key> {
+    match status {
+        Status::NotYet(offset, Form::Prepare | Form::Unprepare) => pod_at(alloc, tail, offset),
+        _ => None,
+    }
+}
+
+/// What a command that isn't supported asks for: its kind, and its pod if it is for one.
+fn asked<W: fmt::Write>(form: Form, pod: &Option<Key>, f: &mut fmt::Formatter<W>) -> fmt::Result {
+    match (form, pod) {
+        (Form::Prepare | Form::Unprepare, Some(pod)) => {
+            write!(f, "{} of the pod {pod}", form_name(form))
+        }
+        (Form::Prepare | Form::Unprepare | Form::Together | Form::Reopen, _) => {
+            f.write_str(form_name(form))
+        }
+    }
+}
+
 impl Message {
     /// The message for a status, where these are the last bytes of the input.
-    pub fn new(status: Status, tail: &Tail) -> Message {
+    pub fn new(alloc: Global, status: Status, tail: &Tail) -> Message {
         match offset_of(status) {
             Some(offset) => Message {
                 status,
                 position: tail.position(offset),
                 byte: tail.byte(offset),
+                pod: unsupported_pod(alloc, status, tail),
             },
             None => Message {
                 status,
                 position: None,
                 byte: None,
+                pod: None,
             },
         }
     }
@@ -161,12 +188,14 @@ impl fmt::Display for Message {
                 "the standard output could not be written; expected it to be open and to have room",
             ),
             Status::Limit(count) => limit(count, f),
-            Status::NotYet(offset, form) => write!(
-                f,
-                "a {} at {} is not supported yet; docs/FORMATS.md says what is",
-                form_name(form),
-                self.at(offset)
-            ),
+            Status::NotYet(offset, form) => {
+                asked(form, &self.pod, f)?;
+                write!(
+                    f,
+                    ", at {}, is not supported yet; docs/FORMATS.md says what is",
+                    self.at(offset)
+                )
+            }
         }
     }
 }

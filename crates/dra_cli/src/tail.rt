@@ -71,6 +71,17 @@ impl Tail {
             None => self.older.get(index).copied(),
         }
     }
+
+    /// A copy of the bytes from an offset on, if they are known and memory is left for it.
+    pub fn bytes_from(&self, offset: u64) -> Option<Vec<u8>> {
+        let index = self.index_of(offset)?;
+        let in_older = index.min(self.older.len());
+        let in_newer = (index - in_older).min(self.newer.len());
+        let mut bytes = Vec::new(self.alloc);
+        bytes.extend_from_slice(&self.older[in_older..]).ok()?;
+        bytes.extend_from_slice(&self.newer[in_newer..]).ok()?;
+        Some(bytes)
+    }
 }
 
 /// A source that keeps the last bytes that were read from it.
