@@ -25,7 +25,7 @@ fn print_job_state(
     out: &mut Vec<u8>,
 ) -> Result<(), AllocError> {
     let text = match job_state {
-        JobState::Ended(index) => format!(in alloc; " {place}")?,
+        JobState::Ended(index) => format!(in alloc; " {index}")?,
         JobState::Fresh | JobState::Reserved(_) | JobState::Conflicted(_) | JobState::Failed(_) => {
             format!(in alloc; " -")?
         }
