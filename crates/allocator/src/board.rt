@@ -27,7 +27,7 @@ use counter_sets::Totals;
 use deep_search::{Begun, Board};
 use dra_values::Seq;
 use request_rows::{Rows, Seat, Slot, WantedClaim};
-use request_rules::fronts_are_good;
+use request_rules::prefixes_are_good;
 use std::alloc::{AllocError, Global};
 use std::marker::Model;
 
@@ -135,7 +135,7 @@ fn window_of(slots: &[Slot], positions: &[usize], devices: usize) -> (usize, usi
 
 impl<'a> Board for RequestBoard<'a> {
     ghost use Rattle.allocator.specs.Kept as kept;
-    ghost use Rattle.request_rules.specs.Fronts.{good-nil, good-prefix};
+    ghost use Rattle.request_rules.specs.Prefixes.{good-nil, good-prefix};
     ghost use Rattle.request_rules.specs.Problem.{open_slots, problem_of};
 
     ghost Setting = { kept.Setting };
@@ -149,7 +149,7 @@ impl<'a> Board for RequestBoard<'a> {
     ghost placed = { λ b. b.positions };
 
     fn window(&self) -> (usize, usize) {
-        fronts_are_good();
+        prefixes_are_good();
         window_of(
             &self.run.slots,
             &self.run.positions,

@@ -26,7 +26,7 @@ use crate::standing::{all_apart, covers, draw, fills, give_back, is_free, last_o
 use counter_sets::Totals;
 use deep_search::Begun;
 use request_rows::{Rows, Shape, Slot};
-use request_rules::{fronts_are_good, joining_is_by_device};
+use request_rules::{prefixes_are_good, joining_is_by_device};
 use std::alloc::{AllocError, Global};
 
 /// A choice, the positions of the devices that are placed in its first slots, and what they leave.
@@ -169,7 +169,7 @@ pub fn join<'a>(
     ensures positions { IfOk result (λ b. run.new.positions.items ≡ (if b then run.old.positions.items ++ position ∷ [] else run.old.positions.items)) }
     ensures good { IfOk result (λ b. b ≡ good (setting_of (input_of rows.now) held.now.held run.old).input run.old.chosen.items (run.old.positions.items ++ position ∷ [])) }
 {
-    fronts_are_good();
+    prefixes_are_good();
     match next_pick(
         rows,
         held,

@@ -99,7 +99,7 @@ fn left_out(alloc: Global, ask: &Value, path: &Path) -> Result<(), FieldError>
 fn read_ask(alloc: Global, ask: &Value, path: &Path) -> Result<DeviceAsk, FieldError>
     ensures { Reads result (fields.ask_at path.now (view ask.now)) }
 {
-    let class = Text::new(text(alloc, ask, path, "deviceClassName")?);
+    let class = text(alloc, ask, path, "deviceClassName")?;
     let selectors = read_selectors(alloc, ask, path)?;
     let mode = read_mode(alloc, ask, path)?;
     Ok(DeviceAsk {

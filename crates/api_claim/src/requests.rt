@@ -198,5 +198,5 @@ fn joined_name(
     ensures { IfOk result (λ name. name ≡ fields.joined_name request.now subrequest.now) }
 {
     let name = format!(in alloc; "{request}/{}", subrequest.name)?;
-    Ok(Text::new(name))
+    Text::new(alloc, name)
 }

@@ -107,7 +107,7 @@ impl ReadItem for StatusResult {
 
     fn read_item(alloc: Global, item: &Value, path: &Path) -> Result<StatusResult, FieldError> {
         let found = value_object(alloc, item, path)?;
-        let request = Text::new(text(alloc, found, path, "request")?);
+        let request = text(alloc, found, path, "request")?;
         let device = read_device(alloc, found, path)?;
         let admin = read_admin(alloc, found, path)?;
         Ok(StatusResult {
@@ -121,9 +121,9 @@ impl ReadItem for StatusResult {
 fn read_device(alloc: Global, found: &Value, path: &Path) -> Result<DeviceId, FieldError>
     ensures { Reads result (fields.device_id_at path.now (view found.now)) }
 {
-    let driver = Text::new(text(alloc, found, path, "driver")?);
-    let pool = Text::new(text(alloc, found, path, "pool")?);
-    let device = Text::new(text(alloc, found, path, "device")?);
+    let driver = text(alloc, found, path, "driver")?;
+    let pool = text(alloc, found, path, "pool")?;
+    let device = text(alloc, found, path, "device")?;
     Ok(DeviceId {
         driver,
         pool,

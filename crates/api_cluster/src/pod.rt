@@ -106,8 +106,8 @@ impl ReadItem for PodResourceClaim {
     fn read_item(alloc: Global, item: &Value, path: &Path) -> Result<PodResourceClaim, FieldError> {
         let entry = value_object(alloc, item, path)?;
         unset(alloc, entry, path, "resourceClaimTemplateName")?;
-        let name = Text::new(text(alloc, entry, path, "name")?);
-        let claim = Text::new(text(alloc, entry, path, "resourceClaimName")?);
+        let name = text(alloc, entry, path, "name")?;
+        let claim = text(alloc, entry, path, "resourceClaimName")?;
         Ok(PodResourceClaim { name, claim })
     }
 }

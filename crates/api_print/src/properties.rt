@@ -17,7 +17,7 @@ impl Named for QualName {
 
     fn name(&self, alloc: Global) -> Result<Text, AllocError> {
         let text = format!(in alloc; "{}/{}", self.domain, self.id)?;
-        Ok(Text::new(text))
+        Text::new(alloc, text)
     }
 }
 

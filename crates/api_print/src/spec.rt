@@ -15,7 +15,7 @@ impl Printed for DeviceConstraint {
 
     fn value(&self, alloc: Global) -> Result<Value, AllocError> {
         let attribute = self.attribute.name(alloc)?;
-        let attribute = Value::String(attribute.into_string());
+        let attribute = Value::try_from_str(alloc, attribute.as_str())?;
         let requests = some_list(alloc, self.requests.as_slice())?;
         let members = before_if(none(alloc), alloc, "requests", requests)?;
         let members = before(members, alloc, "matchAttribute", attribute)?;

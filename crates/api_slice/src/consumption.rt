@@ -84,7 +84,7 @@ fn new_draw_on<'a>(
         (fields.new_draw_on sets.now path.now draws.now (view value.now)) }
 {
     let object = value_object(alloc, value, path)?;
-    let name = Text::new(text(alloc, object, path, "counterSet")?);
+    let name = text(alloc, object, path, "counterSet")?;
     undrawn_set(alloc, path, &name, sets, draws)
 }
 

@@ -45,5 +45,5 @@ fn spelled(alloc: Global, text: &str) -> Result<Text, AllocError>
             Piece::Escaped(character) => content.push(character)?,
         }
     }
-    Ok(Text::new(content))
+    Text::new(alloc, content)
 }

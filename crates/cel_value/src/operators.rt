@@ -147,7 +147,7 @@ fn joined_texts(alloc: Global, left: &Text, right: &Text) -> Result<Text, AllocE
 {
     let mut joined = String::from_str(alloc, left.as_str())?;
     joined.push_str(right.as_str())?;
-    Ok(Text::new(joined))
+    Text::new(alloc, joined)
 }
 
 fn joined_lists(

@@ -74,7 +74,7 @@ fn long_uid(alloc: Global, len: usize) -> Result<String, AllocError> {
     for _at in 0..len {
         chars.push('u')?;
     }
-    lengths(alloc, Record::Gone(Text::new(chars)))
+    lengths(alloc, Record::Gone(Text::new(alloc, chars)?))
 }
 
 fn of_records(alloc: Global, kind: &str, bytes: Vec<u8>) -> Result<String, AllocError> {

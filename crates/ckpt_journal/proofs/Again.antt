@@ -1,5 +1,5 @@
 -- What is spelled as a body is read as its record.
-use Rattle.std.proofs.Common.{◌≡◌, ℕ, zero, suc, ◌+◌, ◌<◌, ◌≤◌, ◌^◌, nat_lt, Bool, true, false, List, [], ◌∷◌, ◌++◌, length, take, drop, Option, Some, None, refl, sym, ◌∙◌, ap, arith, append_assoc, append-nil, length-append, if◌then◌else◌}
+use Rattle.std.proofs.Common.{◌≡◌, ℕ, ◌+◌, ◌<◌, ◌≤◌, ◌^◌, nat_lt, false, List, [], ◌∷◌, ◌++◌, length, take, drop, Option, Some, None, refl, sym, ◌∙◌, ap, arith, append_assoc, append-nil, length-append, if◌then◌else◌}
 use Rattle.std.proofs.lemmas.Bool.Decides.{nat_tests}
 use Rattle.std.proofs.lemmas.List.{take_at, drop_at}
 use Rattle.std.proofs.lemmas.Nat.{from_be_bytes-to_be_bytes_2}
@@ -7,7 +7,6 @@ use Rattle.std.specs.Prelude.{option_and_then, option_map}
 use Rattle.std.specs.Int.{w16, to_be_bytes, from_be_bytes}
 use Rattle.std.specs.List.{AllByRecursion, flat_map}
 use Rattle.object_fields.specs.Keys.{device_text, key_text}
-use Rattle.object_fields.specs.declared.key.Key.{Key}
 use Rattle.ckpt_journal.specs.Format.{BodyFits, ClaimFits, NameFits, NamesFit, body, claim_bytes, names_bytes, same_text, text_bytes}
 use Rattle.ckpt_journal.specs.Names.{device_read, key_read, text_read}
 use Rattle.ckpt_journal.specs.Reading.{alone, claim_alone, claim_at, claim_with, count_at, cut_at, name_at, names_at, names_from, raw_at, read_raw, record_of, uid_alone}

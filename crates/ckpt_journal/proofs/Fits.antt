@@ -1,5 +1,5 @@
 -- A record whose texts and counts are short has a spelling that reads as it.
-use Rattle.std.proofs.Common.{◌≡◌, ℕ, ◌+◌, ◌-◌, ◌<◌, ◌≤◌, ◌^◌, ◌==◌, ◌++◌, nat_lt, Bool, true, false, ◌&&◌, ◌||◌, List, [], ◌∷◌, length, take, drop, Option, Some, None, refl, sym, ◌∙◌, ap, arith, length-append, if◌then◌else◌}
+use Rattle.std.proofs.Common.{◌≡◌, ℕ, ◌+◌, ◌-◌, ◌<◌, ◌≤◌, ◌^◌, ◌==◌, ◌++◌, nat_lt, Bool, true, false, ◌&&◌, ◌||◌, List, [], ◌∷◌, length, take, drop, Option, Some, None, refl, ◌∙◌, ap, arith, length-append, if◌then◌else◌}
 use Rattle.std.proofs.lemmas.Bool.Decides.{nat_tests}
 use Rattle.std.specs.Prelude.{option_and_then, option_map}
 use Rattle.std.specs.List.{AllByRecursion, list_all, list_any}
@@ -8,7 +8,7 @@ use Rattle.std.specs.Str.{is_utf8}
 use Rattle.object_fields.specs.Keys.{device_text, key_text}
 use Rattle.object_fields.specs.declared.key.DeviceId.{DeviceId}
 use Rattle.object_fields.specs.declared.key.Key.{Key}
-use Rattle.ckpt_journal.specs.Format.{ClaimFits, ClaimIsText, ClaimReadsBack, BodyFits, Fits, IsText, NameFits, NamesFit, ReadsBack, are_long, block, body, is_full, is_long, is_long_claim, is_long_text, same_text}
+use Rattle.ckpt_journal.specs.Format.{ClaimFits, ClaimIsText, ClaimReadsBack, BodyFits, Fits, IsText, NameFits, NamesFit, ReadsBack, are_long, block, body, is_full, is_long, is_long_claim, is_long_text}
 use Rattle.ckpt_journal.specs.Names.{DeviceReadsBack, KeyReadsBack, by_both, by_first, device_is_text, device_made, device_read, device_with, first_slash_from, key_is_text, key_made, key_read, key_with, last_slash_from, text_read}
 use Rattle.ckpt_journal.specs.declared.record.Claim.{Claim}
 use Rattle.ckpt_journal.specs.declared.record.Record.{Record}

@@ -1,9 +1,9 @@
 -- Bytes that have records are these records as they are spelled.
-use Rattle.std.proofs.Common.{◌≡◌, ◌≢◌, inl, inr, ℕ, zero, suc, List, [], ◌∷◌, ◌++◌, length, drop, Option, Some, None, Result, Ok, Err, refl, sym, ◌∙◌, ap, arith, subst, append_assoc, ◌+◌, if◌then◌else◌}
+use Rattle.std.proofs.Common.{◌≡◌, ◌≢◌, inl, inr, ℕ, zero, suc, List, [], ◌∷◌, ◌++◌, length, drop, Option, Some, None, Result, Ok, Err, refl, sym, ◌∙◌, ap, arith, subst, append_assoc, ◌+◌}
 use Rattle.std.proofs.lemmas.Bool.{cases_eq}
 use Rattle.std.proofs.lemmas.Bool.Decides.{nat_tests}
 use Rattle.std.specs.List.{AllByRecursion}
-use Rattle.ckpt_journal.specs.Format.{Fits, block, blocks, prefix, header}
+use Rattle.ckpt_journal.specs.Format.{Fits, block, blocks, header}
 use Rattle.ckpt_journal.specs.Reading.{behind_header, block_at, differs_at, if_block, placed, records, records_from, with_prefix}
 use Rattle.ckpt_journal.specs.Standing.{IsSpelled}
 use Rattle.ckpt_journal.specs.declared.record.Record.{Record}

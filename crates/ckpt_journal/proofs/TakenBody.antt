@@ -1,6 +1,6 @@
 -- A body that is read as a record is the one that the record is spelled as.
-use Rattle.std.proofs.Common.{◌≡◌, inl, inr, ◌≢◌, ℕ, zero, suc, ◌+◌, ◌-◌, ◌<◌, ◌≤◌, ◌^◌, ◌==◌, nat_lt, Bool, true, false, List, [], ◌∷◌, ◌++◌, length, get_or, take, drop, Option, Some, None, refl, sym, ◌∙◌, ap, subst, arith, append_assoc, append-nil, length-append, length-take, length-drop, take-append-drop, if◌then◌else◌}
-use Rattle.std.proofs.lemmas.Bool.{cases_eq, cases_lt}
+use Rattle.std.proofs.Common.{◌≡◌, inl, inr, ℕ, zero, suc, ◌+◌, ◌-◌, ◌<◌, ◌≤◌, ◌^◌, ◌==◌, nat_lt, Bool, true, false, List, [], ◌∷◌, ◌++◌, length, get_or, take, drop, Option, Some, None, refl, sym, ◌∙◌, ap, subst, arith, append_assoc, append-nil, length-take, take-append-drop, if◌then◌else◌}
+use Rattle.std.proofs.lemmas.Bool.{cases_lt}
 use Rattle.std.proofs.lemmas.Bool.Decides.{nat_tests}
 use Rattle.std.proofs.lemmas.List.{get_or-append-add, get_or-drop, get_or-take, get_or_past}
 use Rattle.std.proofs.lemmas.Nat.{be_bytes_2}
@@ -8,8 +8,6 @@ use Rattle.std.specs.Prelude.{option_and_then, option_map}
 use Rattle.std.specs.Int.{w16, to_be_bytes, from_be_bytes}
 use Rattle.std.specs.List.{AllByRecursion, flat_map}
 use Rattle.object_fields.specs.Keys.{device_text, key_text}
-use Rattle.object_fields.specs.declared.key.DeviceId.{DeviceId}
-use Rattle.object_fields.specs.declared.key.Key.{Key}
 use Rattle.ckpt_journal.specs.Format.{BodyFits, ClaimFits, NameFits, NamesFit, body, claim_bytes, names_bytes, same_text, text_bytes}
 use Rattle.ckpt_journal.specs.Names.{device_read, key_read, text_read}
 use Rattle.ckpt_journal.specs.Reading.{alone, claim_alone, claim_at, claim_with, count_at, cut_at, name_at, names_at, names_from, raw_at, read_raw, record_of, uid_alone}

@@ -4,8 +4,6 @@ use Rattle.std.specs.List.{AllByRecursion, flat_map, list_all, list_any}
 use Rattle.std.specs.Str.{is_utf8}
 use Rattle.std.specs.Int.{w16, w32, to_be_bytes}
 use Rattle.object_fields.specs.Keys.{device_text, key_text}
-use Rattle.object_fields.specs.declared.key.Key.{Key}
-use Rattle.object_fields.specs.declared.key.DeviceId.{DeviceId}
 use Rattle.ckpt_journal.specs.Names.{DeviceReadsBack, KeyReadsBack, device_is_text, device_read, key_is_text, key_read, text_read}
 use Rattle.ckpt_journal.specs.declared.record.Claim.{Claim}
 use Rattle.ckpt_journal.specs.declared.record.Record.{Record}

@@ -2,7 +2,6 @@
 use Rattle.std.specs.Prelude.{◌≡◌, ℕ, zero, suc, ◌+◌, ◌-◌, List, [], ◌∷◌, ◌++◌, length, take, drop, Option, Some, None, option_and_then, option_map, Result, Ok, Err, nat_lt, nat_le, if◌then◌else◌, ◌==◌}
 use Rattle.std.specs.Int.{w16, w32, from_be_bytes}
 use Rattle.object_fields.specs.declared.key.Key.{Key}
-use Rattle.object_fields.specs.declared.key.DeviceId.{DeviceId}
 use Rattle.ckpt_journal.specs.Format.{header}
 use Rattle.ckpt_journal.specs.Names.{device_read, key_read, text_read}
 use Rattle.ckpt_journal.specs.declared.error.Unread.{Unread}

@@ -1,6 +1,6 @@
 use crate::{Failure, Object, Plan, Target, Verdict};
 use api_claim::ClaimStatus;
-use dra_values::Text;
+use dra_values::{Shared, Text};
 use object_fields::{FieldError, Key};
 
 /// One event of the ledger, made by a job.
@@ -11,7 +11,8 @@ pub struct Entry {
     pub event: Event,
 }
 
-/// What an entry does.
+/// What an entry does. Plans, verdicts and statuses are behind pointers, so that an entry is small
+/// whatever it is.
 #[derive(Drop)]
 pub enum Event {
     /// Creates an object, whose uid and version are the entry's index, or updates one that is there,
@@ -25,13 +26,13 @@ pub enum Event {
     /// Makes the plan's grants, and takes the pod for the job.
     Reserved {
         pod: Key,
-        plan: Plan,
+        plan: Shared<Plan>,
     },
     /// Says why the plan's grants can't be made, and changes nothing. The attempt has failed.
     Refused {
         pod: Key,
-        plan: Plan,
-        why: Failure,
+        plan: Shared<Plan>,
+        why: Shared<Failure>,
     },
     /// Writes the pod's use of a claim, whose version was `seen`.
     Wrote {
@@ -57,7 +58,7 @@ pub enum Event {
     /// Says that the pod can't be scheduled, and changes nothing.
     VerdictGiven {
         pod: Key,
-        verdict: Verdict,
+        verdict: Shared<Verdict>,
     },
     /// Says that so many attempts have failed, and changes nothing.
     Contended {
@@ -69,7 +70,7 @@ pub enum Event {
     /// Grants a claim what a status write says, published and without users.
     Adopted {
         claim: Key,
-        status: ClaimStatus,
+        status: Shared<ClaimStatus>,
     },
     /// Refuses a command by the first of its refusals that holds, and changes nothing.
     Denied {
@@ -93,7 +94,10 @@ pub enum Command {
     /// To take the uses of a bound pod away.
     Release(Key),
     /// To grant a claim what a status write says.
-    Adopt { claim: Key, status: ClaimStatus },
+    Adopt {
+        claim: Key,
+        status: Shared<ClaimStatus>,
+    },
 }
 
 /// Whether a command that applies an object asks for a new one.
@@ -131,7 +135,7 @@ pub enum Refusal {
     /// The pod isn't bound.
     NotBound,
     /// What the status write would grant isn't an allocation of the claim.
-    Failure(Failure),
+    Failure(Shared<Failure>),
 }
 
 /// What became of a command, by the kind of its entry.

@@ -46,7 +46,7 @@ impl State {
             Command::Delete(target) => Ok(self.delete_refusal(target)),
             Command::Schedule(pod) => self.schedule_refusal(alloc, pod),
             Command::Release(pod) => Ok(self.release_refusal(pod)),
-            Command::Adopt { claim, status } => Ok(self.status_refusal(claim, status)),
+            Command::Adopt { claim, status } => Ok(self.status_refusal(claim, status.value())),
         }
     }
 

@@ -1,5 +1,5 @@
 -- What an agreement's calls do, from what it keeps.
-use Rattle.std.specs.Prelude.{ℕ, ◌==◌, ◌+◌, ◌-◌, Bool, true, false, not, ◌&&◌, ◌||◌, Option, None, Some, if◌then◌else◌}
+use Rattle.std.specs.Prelude.{ℕ, ◌==◌, ◌+◌, ◌-◌, Bool, true, false, not, ◌||◌, Option, None, Some, if◌then◌else◌}
 use Rattle.api_slice.specs.declared.types.Attribute.{Attribute}
 use Rattle.constraints.specs.Agreeing.{Pick, attribute_of, is_named, same_by}
 use Rattle.constraints.specs.Keeping.{AgreementFields}

@@ -12,7 +12,7 @@ use Rattle.deep_search.specs.declared.answer.Status.TheVariants as status
 use Rattle.deep_search.proofs.Steps.{progress-left, progress-report, outcome-over, outcome-stopped}
 
 -- the first choice
-fronted_none : (fronts : List ℕ) → fronted [] fronts ≡ []
+fronted_none : (prefixes : List ℕ) → fronted [] prefixes ≡ []
 fronted_none [] = refl
 fronted_none (x ∷ xs) = fronted_none xs
 

@@ -38,9 +38,9 @@ pub items_under-bad : (p : Problem) (c l : List ℕ) (room : ℕ) → IsClosed p
 unfolding items_under
 items_under-bad p c l room closed e = ap (map (item p c)) (none_pass p c l (position_lists p.devices room) closed e)
 
-map_fronts : (l : List ℕ) (x : ℕ) (ms : List (List ℕ)) → map (λ m. l ++ m) (map (λ m. x ∷ m) ms) ≡ map (λ m. (l ++ x ∷ []) ++ m) ms
-map_fronts l x [] = refl
-map_fronts l x (m ∷ ms) = let e = append_assoc l (x ∷ []) m in let f = map_fronts l x ms in cc
+map_prefixes : (l : List ℕ) (x : ℕ) (ms : List (List ℕ)) → map (λ m. l ++ m) (map (λ m. x ∷ m) ms) ≡ map (λ m. (l ++ x ∷ []) ++ m) ms
+map_prefixes l x [] = refl
+map_prefixes l x (m ∷ ms) = let e = append_assoc l (x ∷ []) m in let f = map_prefixes l x ms in cc
 
 kept_under : (p : Problem) (c l : List ℕ) (ms : List (List ℕ)) → List Item
 kept_under p c l ms = map (item p c) (filter (p.good c) (map (λ m. l ++ m) ms))
@@ -52,9 +52,9 @@ under_append p c l ms ns =
     ∙ ap (map (item p c)) (filter-append (p.good c) (map (λ m. l ++ m) ms) (map (λ m. l ++ m) ns))
     ∙ map-append (item p c) (filter (p.good c) (map (λ m. l ++ m) ms)) (filter (p.good c) (map (λ m. l ++ m) ns))
 
-under_front : (p : Problem) (c l : List ℕ) (x : ℕ) (ms : List (List ℕ)) → kept_under p c l (map (λ m. x ∷ m) ms) ≡ kept_under p c (l ++ x ∷ []) ms
+under_prefix : (p : Problem) (c l : List ℕ) (x : ℕ) (ms : List (List ℕ)) → kept_under p c l (map (λ m. x ∷ m) ms) ≡ kept_under p c (l ++ x ∷ []) ms
 unfolding kept_under
-under_front p c l x ms = ap (λ (w : List (List ℕ)). map (item p c) (filter (p.good c) w)) (map_fronts l x ms)
+under_prefix p c l x ms = ap (λ (w : List (List ℕ)). map (item p c) (filter (p.good c) w)) (map_prefixes l x ms)
 
 branches_are : (p : Problem) (c l : List ℕ) (room first count : ℕ) → kept_under p c l (fronted (position_lists p.devices room) (numbers first count)) ≡ branches p c l room first count
 unfolding branches items_under kept_under
@@ -63,7 +63,7 @@ branches_are p c l room first (suc count) =
     let ms = map (λ m. first ∷ m) (position_lists p.devices room) in
     let ns = fronted (position_lists p.devices room) (numbers (first + 1) count) in
     under_append p c l ms ns
-    ∙ ap (λ (w : List Item). w ++ kept_under p c l ns) (under_front p c l first (position_lists p.devices room))
+    ∙ ap (λ (w : List Item). w ++ kept_under p c l ns) (under_prefix p c l first (position_lists p.devices room))
     ∙ ap (λ (w : List Item). kept_under p c (l ++ first ∷ []) (position_lists p.devices room) ++ w) (branches_are p c l room (first + 1) count)
 
 good_first : (p : Problem) (c l : List ℕ) (ms : List (List ℕ)) → p.good c l ≡ true → kept_under p c l ([] ∷ ms) ≡ item p c l ∷ kept_under p c l ms
@@ -166,31 +166,31 @@ window_is p c l room first end closed order known below above =
     ∙ window_end p c l room first (end - first) (p.devices - end) (p.devices - first) closed (omega arith) (λ x h m. above x (omega arith) (omega arith))
 
 -- what is left with one window more
-pub pending-more : (p : Problem) (c front : List ℕ) (room : ℕ) (ws : List Window) (w : Window) (l : List ℕ) → length l ≡ length ws
-    → pending p c front room (ws ++ w ∷ []) l ≡ within p c (front ++ l) (room - length l) w ++ pending p c front room ws l
+pub pending-more : (p : Problem) (c prefix : List ℕ) (room : ℕ) (ws : List Window) (w : Window) (l : List ℕ) → length l ≡ length ws
+    → pending p c prefix room (ws ++ w ∷ []) l ≡ within p c (prefix ++ l) (room - length l) w ++ pending p c prefix room ws l
 unfolding pending
-pending-more p c front room [] w [] e =
+pending-more p c prefix room [] w [] e =
     let f : room ≡ room - 0 = omega arith in
-    ap (λ (n : ℕ). within p c front n w) f ∙ ap (λ (k : List ℕ). within p c k (room - 0) w) (sym (append-nil front)) ∙ sym (append-nil (within p c (front ++ []) (room - 0) w))
-pending-more p c front room [] w (x ∷ l) e = absurd (omega arith)
-pending-more p c front room (v ∷ ws) w [] e = absurd (omega arith)
-pending-more p c front room (v ∷ ws) w (x ∷ l) e =
+    ap (λ (n : ℕ). within p c prefix n w) f ∙ ap (λ (k : List ℕ). within p c k (room - 0) w) (sym (append-nil prefix)) ∙ sym (append-nil (within p c (prefix ++ []) (room - 0) w))
+pending-more p c prefix room [] w (x ∷ l) e = absurd (omega arith)
+pending-more p c prefix room (v ∷ ws) w [] e = absurd (omega arith)
+pending-more p c prefix room (v ∷ ws) w (x ∷ l) e =
     let f : room - 1 - length l ≡ room - suc (length l) = omega arith in
-    let b = within p c front room v in
-    ap (λ (s : List Item). s ++ b) (pending-more p c (front ++ x ∷ []) (room - 1) ws w l (omega arith))
-    ∙ append_assoc (within p c ((front ++ x ∷ []) ++ l) (room - 1 - length l) w) (pending p c (front ++ x ∷ []) (room - 1) ws l) b
-    ∙ ap (λ (k : List ℕ). within p c k (room - 1 - length l) w ++ (pending p c (front ++ x ∷ []) (room - 1) ws l ++ b)) (append_assoc front (x ∷ []) l)
-    ∙ ap (λ (n : ℕ). within p c (front ++ x ∷ l) n w ++ (pending p c (front ++ x ∷ []) (room - 1) ws l ++ b)) f
+    let b = within p c prefix room v in
+    ap (λ (s : List Item). s ++ b) (pending-more p c (prefix ++ x ∷ []) (room - 1) ws w l (omega arith))
+    ∙ append_assoc (within p c ((prefix ++ x ∷ []) ++ l) (room - 1 - length l) w) (pending p c (prefix ++ x ∷ []) (room - 1) ws l) b
+    ∙ ap (λ (k : List ℕ). within p c k (room - 1 - length l) w ++ (pending p c (prefix ++ x ∷ []) (room - 1) ws l ++ b)) (append_assoc prefix (x ∷ []) l)
+    ∙ ap (λ (n : ℕ). within p c (prefix ++ x ∷ l) n w ++ (pending p c (prefix ++ x ∷ []) (room - 1) ws l ++ b)) f
 
 -- the position that is placed last changes nothing of what is left in the windows before it
-pub pending-deeper : (p : Problem) (c front : List ℕ) (room : ℕ) (ws : List Window) (l : List ℕ) (x : ℕ) → length ws ≡ length l + 1
-    → pending p c front room ws (l ++ x ∷ []) ≡ pending p c front room ws l
+pub pending-deeper : (p : Problem) (c prefix : List ℕ) (room : ℕ) (ws : List Window) (l : List ℕ) (x : ℕ) → length ws ≡ length l + 1
+    → pending p c prefix room ws (l ++ x ∷ []) ≡ pending p c prefix room ws l
 unfolding pending
-pending-deeper p c front room [] l x e = absurd (omega arith)
-pending-deeper p c front room (v ∷ []) [] x e = refl
-pending-deeper p c front room (v ∷ w ∷ ws) [] x e = absurd (omega arith)
-pending-deeper p c front room (v ∷ ws) (y ∷ l) x e =
-    ap (λ (s : List Item). s ++ within p c front room v) (pending-deeper p c (front ++ y ∷ []) (room - 1) ws l x (omega arith))
+pending-deeper p c prefix room [] l x e = absurd (omega arith)
+pending-deeper p c prefix room (v ∷ []) [] x e = refl
+pending-deeper p c prefix room (v ∷ w ∷ ws) [] x e = absurd (omega arith)
+pending-deeper p c prefix room (v ∷ ws) (y ∷ l) x e =
+    ap (λ (s : List Item). s ++ within p c prefix room v) (pending-deeper p c (prefix ++ y ∷ []) (room - 1) ws l x (omega arith))
 
 pub enter-more : (p : Problem) (c l : List ℕ) (slots first end b b' : ℕ) (ws vs : List Window) → IsClosed p → p.good c l ≡ true → p.shape c ≡ Open slots → 0 < b → b' ≡ b - 1
     → length l ≡ length ws → length l < slots → first ≤ end → end ≤ p.devices
@@ -269,22 +269,22 @@ turn-on p q c d l m slots b b' r ws old vs vs' w rest same_p same_c old_is depth
     ∙ subst (λ (t : Problem). progress b (items_under t c m (slots - length m) ++ pending t c [] (slots - 1) vs m) ≡ onward r b' c m (pending t c [] (slots - 1) vs' m)) same_p
     (subst (λ (t : List ℕ). progress b (items_under q t m (slots - length m) ++ pending q t [] (slots - 1) vs m) ≡ onward r b' t m (pending q t [] (slots - 1) vs' m)) same_c h)
 
-Ends-front : (p : Problem) (ws : List Window) (w : Window) → Ends p (ws ++ w ∷ []) → Ends p ws × (w.end ≤ p.devices)
-Ends-front p [] w h = (tt, h.0)
-Ends-front p (v ∷ ws) w h = let f = Ends-front p ws w h.1 in ((h.0, f.0), f.1)
+Ends-prefix : (p : Problem) (ws : List Window) (w : Window) → Ends p (ws ++ w ∷ []) → Ends p ws × (w.end ≤ p.devices)
+Ends-prefix p [] w h = (tt, h.0)
+Ends-prefix p (v ∷ ws) w h = let f = Ends-prefix p ws w h.1 in ((h.0, f.0), f.1)
 
 Ends-more : (p : Problem) (ws : List Window) (w : Window) → Ends p ws → w.end ≤ p.devices → Ends p (ws ++ w ∷ [])
 Ends-more p [] w h e = (e, tt)
 Ends-more p (v ∷ ws) w h e = (h.0, Ends-more p ws w h.1 e)
 
 pub Ends-last : (p : Problem) (old ws : List Window) (w : Window) → old ≡ ws ++ w ∷ [] → Ends p old → w.end ≤ p.devices
-Ends-last p old ws w e h = (Ends-front p ws w (subst (Ends p) e h)).1
+Ends-last p old ws w e h = (Ends-prefix p ws w (subst (Ends p) e h)).1
 
 pub standing-on : (p q : Problem) (c l m : List ℕ) (slots : ℕ) (ws old vs vs' : List Window) (w rest : Window) → q ≡ p → Standing p c l slots old
     → old ≡ ws ++ w ∷ [] → vs ≡ ws ++ rest ∷ [] → Placed p c l m w rest → Opened q vs vs' slots → Standing p c m slots vs'
 standing-on p q c l m slots ws old vs vs' w rest same_p s old_is vs_is placed opened =
     let d : length l ≡ length ws = depth_is l old ws w old_is s.depth in
-    let ends = Ends-front p ws w (subst (Ends p) old_is s.ends) in
+    let ends = Ends-prefix p ws w (subst (Ends p) old_is s.ends) in
     let rest_end : rest.end ≤ p.devices = subst (λ (n : ℕ). n ≤ p.devices) (sym placed.end) ends.1 in
     let new_end : opened.window.end ≤ p.devices = subst (λ (t : Problem). opened.window.end ≤ t.devices) same_p opened.end in
     let x = rest.next - 1 in
@@ -342,7 +342,7 @@ standing-back p c l k m slots ws old w closed s old_is passed more popped =
       shape = s.shape;
       fits = omega arith;
       depth = omega arith;
-      ends = (Ends-front p ws w (subst (Ends p) old_is s.ends)).0;
+      ends = (Ends-prefix p ws w (subst (Ends p) old_is s.ends)).0;
     }
 
 -- the outermost window is over
@@ -353,10 +353,10 @@ turn-end p c l k slots b ws old w old_is depth passed =
     ∙ ap (λ (t : List ℕ). progress b (pending p c [] (slots - 1) ws t)) (sym passed.placed)
 
 -- with no window nothing is left
-pending-none : (p : Problem) (c front : List ℕ) (room : ℕ) (ws : List Window) (l : List ℕ) → length ws ≡ 0 → pending p c front room ws l ≡ []
+pending-none : (p : Problem) (c prefix : List ℕ) (room : ℕ) (ws : List Window) (l : List ℕ) → length ws ≡ 0 → pending p c prefix room ws l ≡ []
 unfolding pending
-pending-none p c front room [] l e = refl
-pending-none p c front room (w ∷ ws) l e = absurd (omega arith)
+pending-none p c prefix room [] l e = refl
+pending-none p c prefix room (w ∷ ws) l e = absurd (omega arith)
 
 first_of : (p : Problem) (c l : List ℕ) (slots : ℕ) (ws : List Window) → l ≡ [] → ws ≡ [] → items_under p c [] slots ≡ items_under p c l (slots - length l) ++ pending p c [] (slots - 1) ws l
 first_of p c l slots ws l_is ws_is =

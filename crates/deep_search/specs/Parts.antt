@@ -25,12 +25,12 @@ branches p c l room first (suc count) = items_under p c (l ++ first ∷ []) room
 abbrev pub within : Problem → List ℕ → List ℕ → ℕ → Window → List Item
 within p c l room w = branches p c l room w.next (w.end - w.next)
 
--- what is left of the items, given the windows of the slots behind `front`, in which the positions
+-- what is left of the items, given the windows of the slots behind `prefix`, in which the positions
 -- are placed: first what is left in the last window
-unfoldable pub pending : Problem → List ℕ → (front : List ℕ) → ℕ → List Window → List ℕ → List Item
-pending p c front room [] l = []
-pending p c front room (w ∷ ws) [] = within p c front room w
-pending p c front room (w ∷ ws) (x ∷ l) = pending p c (front ++ x ∷ []) (room - 1) ws l ++ within p c front room w
+unfoldable pub pending : Problem → List ℕ → (prefix : List ℕ) → ℕ → List Window → List ℕ → List Item
+pending p c prefix room [] l = []
+pending p c prefix room (w ∷ ws) [] = within p c prefix room w
+pending p c prefix room (w ∷ ws) (x ∷ l) = pending p c (prefix ++ x ∷ []) (room - 1) ws l ++ within p c prefix room w
 
 -- no position of the window is good
 pub record Passed (p : Problem) (c l m : List ℕ) (w : Window) : Type 0 where

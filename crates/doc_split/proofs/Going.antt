@@ -12,7 +12,7 @@ use Rattle.doc_split.specs.Scan.{piece_length, scan_behind}
 use Rattle.doc_split.specs.Split.{Split, remaining}
 use Rattle.doc_split.specs.Begun.{Going, IsBehind, IsOpen, IsWhole, StaysOpen, Taken, TakesPiece, window}
 use Rattle.doc_split.proofs.Known.{advance_ahead, consumes_kept, consumes_more}
-use Rattle.doc_split.proofs.Passing.{window_front}
+use Rattle.doc_split.proofs.Passing.{window_prefix}
 use Rattle.doc_split.proofs.Pieces.{closes_by, continues_by, zero_not}
 
 brace_opens : StaysOpen (123 ∷ [])
@@ -77,12 +77,12 @@ pub taken_more : (limits : Limits) (old mid new : Split) (left left_now : Option
 taken_more limits old mid new left left_now bytes bytes_now n t room small within at_is ahead_is is =
     let w = window limits mid (length bytes) in
     let len = length-take (min (limits.input - mid.at) (limits.document - length bytes)) mid.ahead in
-    let front = length-take-le n (window limits mid (length bytes)) within in
-    let all : length bytes_now ≡ length bytes + n = ap length is ∙ length-append bytes (take n (window limits mid (length bytes))) ∙ ap (λ (k : ℕ). length bytes + k) front in
+    let prefix = length-take-le n (window limits mid (length bytes)) within in
+    let all : length bytes_now ≡ length bytes + n = ap length is ∙ length-append bytes (take n (window limits mid (length bytes))) ∙ ap (λ (k : ℕ). length bytes + k) prefix in
     record {
       consumed = subst (λ (l : List ℕ). Consumes (remaining old left) (remaining new left_now) l) (sym is)
           (consumes_more (remaining old left) (remaining mid left_now) (remaining new left_now) bytes (take n (window limits mid (length bytes))) t.consumed
-          (advance_ahead mid new left_now (take n (window limits mid (length bytes))) (window_front (min (limits.input - mid.at) (limits.document - length bytes)) n mid.ahead within ∙ ap (λ (l : List ℕ). take n (window limits mid (length bytes)) ++ l) (sym ahead_is))));
+          (advance_ahead mid new left_now (take n (window limits mid (length bytes))) (window_prefix (min (limits.input - mid.at) (limits.document - length bytes)) n mid.ahead within ∙ ap (λ (l : List ℕ). take n (window limits mid (length bytes)) ++ l) (sym ahead_is))));
       tail = t.tail ++ take n (window limits mid (length bytes));
       begins = is ∙ ap (λ (l : List ℕ). l ++ take n (window limits mid (length bytes))) t.begins;
       counted = omega (arith, t.counted);
@@ -98,9 +98,9 @@ going_by limits old mid new left left_now bytes bytes_now scan scan_now g h room
     let depth : scan_now.depth ≡ 0 = ap (λ (s : Scan). s.depth) p.scan_is ∙ zero in
     let c = closes_by (window limits mid (length bytes)) bytes scan (g.open_ h).1 h zero in
     let n = piece_length scan (window limits mid (length bytes)) in
-    let front = length-take-le (piece_length scan (window limits mid (length bytes))) (window limits mid (length bytes)) c.within in
+    let prefix = length-take-le (piece_length scan (window limits mid (length bytes))) (window limits mid (length bytes)) c.within in
     let all : length bytes_now ≡ length bytes + piece_length scan (window limits mid (length bytes)) =
-    ap length p.bytes_are ∙ length-append bytes (take (piece_length scan (window limits mid (length bytes))) (window limits mid (length bytes))) ∙ ap (λ (k : ℕ). length bytes + k) front in
+    ap length p.bytes_are ∙ length-append bytes (take (piece_length scan (window limits mid (length bytes))) (window limits mid (length bytes))) ∙ ap (λ (k : ℕ). length bytes + k) prefix in
     record {
       taken = taken_more limits old mid new left left_now bytes bytes_now (piece_length scan (window limits mid (length bytes))) g.taken room small c.within p.at_is p.ahead_is p.bytes_are;
       open_ = λ d. absurd (omega arith);

@@ -79,15 +79,15 @@ blank_err limits old new left left_now error.Memory p m = (p.taken, p.consumed)
 blank_err limits old new left left_now error.Input p m = none_behind limits old new left left_now Long p (long_behind limits new left_now m)
 
 -- what is there is a prefix of a document
-front_is : (limits : Limits) (mid new : Split) (left_mid left_now : Option (List ℕ)) (bytes : List ℕ) (t : Taken limits mid new left_mid left_now bytes) → (length bytes ≡ suc (length t.tail))
-front_is limits mid new left_mid left_now bytes t = ap length t.begins
+prefix_is : (limits : Limits) (mid new : Split) (left_mid left_now : Option (List ℕ)) (bytes : List ℕ) (t : Taken limits mid new left_mid left_now bytes) → (length bytes ≡ suc (length t.tail))
+prefix_is limits mid new left_mid left_now bytes t = ap length t.begins
 
 opened_is : (bytes tail : List ℕ) → bytes ≡ 123 ∷ tail → StaysOpen bytes → StaysOpen (123 ∷ tail)
 opened_is bytes tail e h = subst StaysOpen e h
 
 unclosed_is : (limits : Limits) (mid new : Split) (left_mid left_now : Option (List ℕ)) (o : IsOpen limits mid new left_mid left_now) → documents_at limits mid.at o.bytes ≡ nothing (Unclosed mid.at)
 unclosed_is limits mid new left_mid left_now o =
-    let len = front_is limits mid new left_mid left_now o.bytes o.taken in
+    let len = prefix_is limits mid new left_mid left_now o.bytes o.taken in
     ap (documents_at limits mid.at) o.taken.begins
     ∙ unclosed_at limits mid.at o.taken.tail (opened_is o.bytes o.taken.tail o.taken.begins o.open_) (omega (arith, o.taken.small)) (omega (arith, o.taken.within))
 
@@ -108,14 +108,14 @@ more_is limits mid new left_mid left_now o next bytes e =
 
 too_long_now : (limits : Limits) (mid new : Split) (left_mid left_now : Option (List ℕ)) → IsOpen limits mid new left_mid left_now → MeetsMost limits mid new → HasNone limits mid left_mid (TooLong mid.at)
 too_long_now limits mid new left_mid left_now o m bytes e =
-    let len = front_is limits mid new left_mid left_now o.bytes o.taken in
+    let len = prefix_is limits mid new left_mid left_now o.bytes o.taken in
     let q = more_is limits mid new left_mid left_now o m.next bytes e in
     ap (documents_at limits mid.at) q.2
     ∙ too_long_at limits mid.at o.taken.tail q.0 q.1 (opened_is o.bytes o.taken.tail o.taken.begins o.open_) (omega (arith, o.taken.counted, m.most)) (omega (arith, m.most, m.room))
 
 long_inside : (limits : Limits) (mid new : Split) (left_mid left_now : Option (List ℕ)) → IsOpen limits mid new left_mid left_now → MeetsLimit limits new → HasNone limits mid left_mid Long
 long_inside limits mid new left_mid left_now o m bytes e =
-    let len = front_is limits mid new left_mid left_now o.bytes o.taken in
+    let len = prefix_is limits mid new left_mid left_now o.bytes o.taken in
     let q = more_is limits mid new left_mid left_now o m.next bytes e in
     ap (documents_at limits mid.at) q.2
     ∙ long_at limits mid.at o.taken.tail q.0 q.1 (opened_is o.bytes o.taken.tail o.taken.begins o.open_) (omega (arith, o.taken.small)) (omega (arith, o.taken.counted, o.taken.within, m.room))
@@ -149,7 +149,7 @@ whole_at : (limits : Limits) (mid new : Split) (left_mid left_now : Option (List
     → documents_at limits mid.at (bytes ++ more) ≡ before (record { at = mid.at; bytes = bytes } ∷ []) (documents_at limits new.at more)
 whole_at limits mid new left_mid left_now bytes w more =
     let t = w.taken in
-    let len = front_is limits mid new left_mid left_now bytes w.taken in
+    let len = prefix_is limits mid new left_mid left_now bytes w.taken in
     let P : List ℕ → Type 0 = λ l. documents_at limits mid.at (l ++ more) ≡ before (record { at = mid.at; bytes = l } ∷ []) (documents_at limits (mid.at + length l) more) in
     subst P (sym w.taken.begins) (document_at limits mid.at w.taken.tail (subst IsClosed w.taken.begins w.closed) (omega (arith, w.taken.small)) (omega (arith, w.taken.within)) more)
     ∙ ap (λ (k : ℕ). before (record { at = mid.at; bytes = bytes } ∷ []) (documents_at limits k more)) (sym w.taken.counted)
@@ -158,7 +158,7 @@ whole_at limits mid new left_mid left_now bytes w more =
 pub answers_doc : (limits : Limits) (old mid new : Split) (left left_mid left_now : Option (List ℕ)) (doc : Doc) → Passes limits old mid left left_mid → TakesDocument limits mid new left_mid left_now (Ok doc) → Answers limits old new left left_now (Ok (Some doc))
 answers_doc limits old mid new left left_mid left_now doc p t =
     let w = t.0 in
-    let len = front_is limits mid new left_mid left_now doc.bytes.items t.0.taken in
+    let len = prefix_is limits mid new left_mid left_now doc.bytes.items t.0.taken in
     let all = length-append p.taken doc.bytes.items in
     record {
       taken = p.taken ++ doc.bytes.items;

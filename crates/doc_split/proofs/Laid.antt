@@ -20,68 +20,68 @@ pub record Found (all : List ℕ) (from k : ℕ) : Type 0 where
 pub record Absent (all : List ℕ) (from : ℕ) : Type 0 where
   pub none : (n : ℕ) → from < n → n ≤ length all → is_balanced (take n all) ≡ false
 
-front_more : (front : List ℕ) (b : ℕ) (bs : List ℕ) → take (length front + 1) (front ++ b ∷ bs) ≡ front ++ b ∷ []
-front_more front b bs = take-append-add front (b ∷ bs) 1
+prefix_more : (prefix : List ℕ) (b : ℕ) (bs : List ℕ) → take (length prefix + 1) (prefix ++ b ∷ bs) ≡ prefix ++ b ∷ []
+prefix_more prefix b bs = take-append-add prefix (b ∷ bs) 1
 
-one_more : (front : List ℕ) (b : ℕ) → length (front ++ b ∷ []) ≡ length front + 1
-one_more front b = length-append front (b ∷ [])
+one_more : (prefix : List ℕ) (b : ℕ) → length (prefix ++ b ∷ []) ≡ length prefix + 1
+one_more prefix b = length-append prefix (b ∷ [])
 
-next_or_later : (front : List ℕ) (b : ℕ) (bs : List ℕ) (n : ℕ) (t : Bool) → eqb n (length front + 1) ≡ t → length front < n → is_balanced (front ++ b ∷ []) ≡ false
-    → (length (front ++ b ∷ []) < n → is_balanced (take n ((front ++ b ∷ []) ++ bs)) ≡ false) → is_balanced (take n (front ++ b ∷ bs)) ≡ false
-next_or_later front b bs n true e h not_here later = ap (λ (k : ℕ). is_balanced (take k (front ++ b ∷ bs))) (eqb-true n (length front + 1) e) ∙ ap is_balanced (front_more front b bs) ∙ not_here
-next_or_later front b bs n false e h not_here later =
-    let ne = eqb-false n (length front + 1) e in
-    let len = one_more front b in
-    ap (λ (l : List ℕ). is_balanced (take n l)) (sym (append_assoc front (b ∷ []) bs)) ∙ later (omega (arith, ne))
+next_or_later : (prefix : List ℕ) (b : ℕ) (bs : List ℕ) (n : ℕ) (t : Bool) → eqb n (length prefix + 1) ≡ t → length prefix < n → is_balanced (prefix ++ b ∷ []) ≡ false
+    → (length (prefix ++ b ∷ []) < n → is_balanced (take n ((prefix ++ b ∷ []) ++ bs)) ≡ false) → is_balanced (take n (prefix ++ b ∷ bs)) ≡ false
+next_or_later prefix b bs n true e h not_here later = ap (λ (k : ℕ). is_balanced (take k (prefix ++ b ∷ bs))) (eqb-true n (length prefix + 1) e) ∙ ap is_balanced (prefix_more prefix b bs) ∙ not_here
+next_or_later prefix b bs n false e h not_here later =
+    let ne = eqb-false n (length prefix + 1) e in
+    let len = one_more prefix b in
+    ap (λ (l : List ℕ). is_balanced (take n l)) (sym (append_assoc prefix (b ∷ []) bs)) ∙ later (omega (arith, ne))
 
-found_turn : (front : List ℕ) (b : ℕ) (bs : List ℕ) (k : ℕ) (t : Bool) → is_balanced (front ++ b ∷ []) ≡ t → balanced_after front (b ∷ bs) ≡ Some k
-    → (balanced_after (front ++ b ∷ []) bs ≡ Some k → Found ((front ++ b ∷ []) ++ bs) (length (front ++ b ∷ [])) k) → Found (front ++ b ∷ bs) (length front) k
-found_turn front b bs k true e found later =
-    let is : Some (length front + 1) ≡ Some k = sym (balanced_yes front b bs e) ∙ found in
-    let k_is : length front + 1 ≡ k = cc in
-    let len : length (front ++ b ∷ bs) ≡ length front + suc (length bs) = length-append front (b ∷ bs) in
+found_turn : (prefix : List ℕ) (b : ℕ) (bs : List ℕ) (k : ℕ) (t : Bool) → is_balanced (prefix ++ b ∷ []) ≡ t → balanced_after prefix (b ∷ bs) ≡ Some k
+    → (balanced_after (prefix ++ b ∷ []) bs ≡ Some k → Found ((prefix ++ b ∷ []) ++ bs) (length (prefix ++ b ∷ [])) k) → Found (prefix ++ b ∷ bs) (length prefix) k
+found_turn prefix b bs k true e found later =
+    let is : Some (length prefix + 1) ≡ Some k = sym (balanced_yes prefix b bs e) ∙ found in
+    let k_is : length prefix + 1 ≡ k = cc in
+    let len : length (prefix ++ b ∷ bs) ≡ length prefix + suc (length bs) = length-append prefix (b ∷ bs) in
     record {
       above = omega arith;
       within = omega arith;
-      balanced = ap (λ (n : ℕ). is_balanced (take n (front ++ b ∷ bs))) (sym k_is) ∙ ap is_balanced (front_more front b bs) ∙ e;
+      balanced = ap (λ (n : ℕ). is_balanced (take n (prefix ++ b ∷ bs))) (sym k_is) ∙ ap is_balanced (prefix_more prefix b bs) ∙ e;
       first = λ n low high. absurd (omega arith);
     }
-found_turn front b bs k false e found later =
-    let f = later (sym (balanced_no front b bs e) ∙ found) in
-    let join : (front ++ b ∷ []) ++ bs ≡ front ++ b ∷ bs = append_assoc front (b ∷ []) bs in
-    let len = one_more front b in
+found_turn prefix b bs k false e found later =
+    let f = later (sym (balanced_no prefix b bs e) ∙ found) in
+    let join : (prefix ++ b ∷ []) ++ bs ≡ prefix ++ b ∷ bs = append_assoc prefix (b ∷ []) bs in
+    let len = one_more prefix b in
     record {
       above = omega (arith, f.above);
       within = subst (λ (l : List ℕ). k ≤ length l) join f.within;
       balanced = ap (λ (l : List ℕ). is_balanced (take k l)) (sym join) ∙ f.balanced;
-      first = λ n low high. next_or_later front b bs n (eqb n (length front + 1)) refl low e (λ h. f.first n h high);
+      first = λ n low high. next_or_later prefix b bs n (eqb n (length prefix + 1)) refl low e (λ h. f.first n h high);
     }
 
-pub found_by : (bs front : List ℕ) (k : ℕ) → balanced_after front bs ≡ Some k → Found (front ++ bs) (length front) k
+pub found_by : (bs prefix : List ℕ) (k : ℕ) → balanced_after prefix bs ≡ Some k → Found (prefix ++ bs) (length prefix) k
 unfolding balanced_after
-found_by [] front k e = absurd (cc)
-found_by (b ∷ bs) front k e = found_turn front b bs k (is_balanced (front ++ b ∷ [])) refl e (λ later. found_by bs (front ++ b ∷ []) k later)
+found_by [] prefix k e = absurd (cc)
+found_by (b ∷ bs) prefix k e = found_turn prefix b bs k (is_balanced (prefix ++ b ∷ [])) refl e (λ later. found_by bs (prefix ++ b ∷ []) k later)
 
-absent_turn : (front : List ℕ) (b : ℕ) (bs : List ℕ) (t : Bool) → is_balanced (front ++ b ∷ []) ≡ t → balanced_after front (b ∷ bs) ≡ None
-    → (balanced_after (front ++ b ∷ []) bs ≡ None → Absent ((front ++ b ∷ []) ++ bs) (length (front ++ b ∷ []))) → Absent (front ++ b ∷ bs) (length front)
-absent_turn front b bs true e none later = let is : Some (length front + 1) ≡ None = sym (balanced_yes front b bs e) ∙ none in absurd (cc)
-absent_turn front b bs false e none later =
-    let f = later (sym (balanced_no front b bs e) ∙ none) in
-    let join : (front ++ b ∷ []) ++ bs ≡ front ++ b ∷ bs = append_assoc front (b ∷ []) bs in
+absent_turn : (prefix : List ℕ) (b : ℕ) (bs : List ℕ) (t : Bool) → is_balanced (prefix ++ b ∷ []) ≡ t → balanced_after prefix (b ∷ bs) ≡ None
+    → (balanced_after (prefix ++ b ∷ []) bs ≡ None → Absent ((prefix ++ b ∷ []) ++ bs) (length (prefix ++ b ∷ []))) → Absent (prefix ++ b ∷ bs) (length prefix)
+absent_turn prefix b bs true e none later = let is : Some (length prefix + 1) ≡ None = sym (balanced_yes prefix b bs e) ∙ none in absurd (cc)
+absent_turn prefix b bs false e none later =
+    let f = later (sym (balanced_no prefix b bs e) ∙ none) in
+    let join : (prefix ++ b ∷ []) ++ bs ≡ prefix ++ b ∷ bs = append_assoc prefix (b ∷ []) bs in
     record {
-      none = λ n low high. next_or_later front b bs n (eqb n (length front + 1)) refl low e (λ h. f.none n h (subst (λ (l : List ℕ). n ≤ length l) (sym join) high));
+      none = λ n low high. next_or_later prefix b bs n (eqb n (length prefix + 1)) refl low e (λ h. f.none n h (subst (λ (l : List ℕ). n ≤ length l) (sym join) high));
     }
 
-pub absent_by : (bs front : List ℕ) → balanced_after front bs ≡ None → Absent (front ++ bs) (length front)
+pub absent_by : (bs prefix : List ℕ) → balanced_after prefix bs ≡ None → Absent (prefix ++ bs) (length prefix)
 unfolding balanced_after
-absent_by [] front e = record { none = λ n low high. let len : length (front ++ []) ≡ length front + 0 = length-append front [] in absurd (omega arith) }
-absent_by (b ∷ bs) front e = absent_turn front b bs (is_balanced (front ++ b ∷ [])) refl e (λ later. absent_by bs (front ++ b ∷ []) later)
+absent_by [] prefix e = record { none = λ n low high. let len : length (prefix ++ []) ≡ length prefix + 0 = length-append prefix [] in absurd (omega arith) }
+absent_by (b ∷ bs) prefix e = absent_turn prefix b bs (is_balanced (prefix ++ b ∷ [])) refl e (λ later. absent_by bs (prefix ++ b ∷ []) later)
 
 blank_cons : (b : ℕ) (gap : List ℕ) → is_blank b ≡ true → AreBlank gap → AreBlank (b ∷ gap)
 blank_cons b gap e h = both_true e h
 
-begins_before : (most at b : ℕ) (bs : List ℕ) (place : ℕ) (front : List ℕ) → is_blank b ≡ true → BeginsOne most (at + 1) bs place front → BeginsOne most at (b ∷ bs) place front
-begins_before most at b bs place front e h = record {
+begins_before : (most at b : ℕ) (bs : List ℕ) (place : ℕ) (prefix : List ℕ) → is_blank b ≡ true → BeginsOne most (at + 1) bs place prefix → BeginsOne most at (b ∷ bs) place prefix
+begins_before most at b bs place prefix e h = record {
   gap = b ∷ h.gap;
   is = ap (λ (l : List ℕ). b ∷ l) h.is;
   blank = blank_cons b h.gap e h.blank;

@@ -11,7 +11,7 @@ use Rattle.doc_split.specs.Documents.{documents_from, is_blank}
 use Rattle.doc_split.specs.Split.{Split, remaining}
 use Rattle.doc_split.specs.Passing.{MeetsByte, Passes}
 use Rattle.doc_split.proofs.Known.{advance_ahead, consumes_kept, consumes_more, consumes_none}
-use Rattle.doc_split.proofs.Steps.{passes_front}
+use Rattle.doc_split.proofs.Steps.{passes_prefix}
 
 pub passes_none : (limits : Limits) (old : Split) (left : Option (List ℕ)) → Passes limits old old left left
 passes_none limits old left = record {
@@ -34,11 +34,11 @@ passes_kept limits old mid new left left_mid left_now p kept same = record {
 }
 
 -- the prefix of a window is that of what is ahead
-pub window_front : (m n : ℕ) (xs : List ℕ) → n ≤ length (take m xs) → xs ≡ take n (take m xs) ++ drop n xs
-window_front m n xs h =
+pub window_prefix : (m n : ℕ) (xs : List ℕ) → n ≤ length (take m xs) → xs ≡ take n (take m xs) ++ drop n xs
+window_prefix m n xs h =
     let whole : take m xs ++ drop m xs ≡ xs = take-append-drop m xs in
-    let front : take n xs ≡ take n (take m xs) = ap (take n) (sym whole) ∙ take-append-le n (take m xs) (drop m xs) h in
-    sym (take-append-drop n xs) ∙ ap (λ (l : List ℕ). l ++ drop n xs) front
+    let prefix : take n xs ≡ take n (take m xs) = ap (take n) (sym whole) ∙ take-append-le n (take m xs) (drop m xs) h in
+    sym (take-append-drop n xs) ∙ ap (λ (l : List ℕ). l ++ drop n xs) prefix
 
 -- the blanks that a window begins with
 pub passes_piece : (limits : Limits) (old mid new : Split) (left left_now : Option (List ℕ)) (n : ℕ) → Passes limits old mid left left_now → mid.at < limits.input
@@ -48,7 +48,7 @@ passes_piece limits old mid new left left_now n p room count is =
     let len = length-take (limits.input - mid.at) mid.ahead in
     let le = prefix_len-le-length is_blank (take (limits.input - mid.at) mid.ahead) in
     let within : n ≤ length (take (limits.input - mid.at) mid.ahead) = omega arith in
-    let front : length (take n (take (limits.input - mid.at) mid.ahead)) ≡ n = length-take-le n (take (limits.input - mid.at) mid.ahead) within in
+    let prefix : length (take n (take (limits.input - mid.at) mid.ahead)) ≡ n = length-take-le n (take (limits.input - mid.at) mid.ahead) within in
     let at_is : new.at ≡ mid.at + n = ap (λ (s : Split). s.at) is in
     let ahead_is : new.ahead ≡ drop n mid.ahead = ap (λ (s : Split). s.ahead) is in
     let all = length-append p.taken (take n (take (limits.input - mid.at) mid.ahead)) in
@@ -56,20 +56,20 @@ passes_piece limits old mid new left left_now n p room count is =
       taken = p.taken ++ take n (take (limits.input - mid.at) mid.ahead);
       consumed =
           consumes_more (remaining old left) (remaining mid left_now) (remaining new left_now) p.taken (take n (take (limits.input - mid.at) mid.ahead)) p.consumed
-          (advance_ahead mid new left_now (take n (take (limits.input - mid.at) mid.ahead)) (window_front (limits.input - mid.at) n mid.ahead within ∙ ap (λ (l : List ℕ). take n (take (limits.input - mid.at) mid.ahead) ++ l) (sym ahead_is)));
+          (advance_ahead mid new left_now (take n (take (limits.input - mid.at) mid.ahead)) (window_prefix (limits.input - mid.at) n mid.ahead within ∙ ap (λ (l : List ℕ). take n (take (limits.input - mid.at) mid.ahead) ++ l) (sym ahead_is)));
       blank = λ more.
           ap (documents_from limits.document 0 old.at) (append_assoc p.taken (take n (take (limits.input - mid.at) mid.ahead)) more)
           ∙ p.blank (take n (take (limits.input - mid.at) mid.ahead) ++ more)
           ∙ ap (λ (k : ℕ). documents_from limits.document 0 mid.at (take k (take (limits.input - mid.at) mid.ahead) ++ more)) count
-          ∙ passes_front limits.document mid.at (take (limits.input - mid.at) mid.ahead) more
+          ∙ passes_prefix limits.document mid.at (take (limits.input - mid.at) mid.ahead) more
           ∙ ap (λ (k : ℕ). documents_from limits.document 0 (mid.at + k) more) (sym count)
           ∙ ap (λ (k : ℕ). documents_from limits.document 0 k more) (sym at_is);
       counted = omega (arith, p.counted);
       within = omega (arith, p.counted, p.within);
     }
 
-get_front : (m n : ℕ) (xs : List ℕ) → n < length (take m xs) → drop n xs ≡ get_or (take m xs) n 0 ∷ drop (suc n) xs
-get_front m n xs h =
+get_prefix : (m n : ℕ) (xs : List ℕ) → n < length (take m xs) → drop n xs ≡ get_or (take m xs) n 0 ∷ drop (suc n) xs
+get_prefix m n xs h =
     let len = length-take m xs in
     drop-cons xs n 0 (omega arith) ∙ ap (λ (b : ℕ). b ∷ drop (suc n) xs) (sym (get_or-take m xs n 0 (omega arith)))
 
@@ -83,7 +83,7 @@ meets_byte limits mid new n count more is =
     record {
       byte = get_or (take (limits.input - mid.at) mid.ahead) n 0;
       rest = drop (suc n) mid.ahead;
-      next = ap (λ (s : Split). s.ahead) is ∙ get_front (limits.input - mid.at) n mid.ahead more;
+      next = ap (λ (s : Split). s.ahead) is ∙ get_prefix (limits.input - mid.at) n mid.ahead more;
       other = ap (λ (k : ℕ). is_blank (get_or (take (limits.input - mid.at) mid.ahead) k 0)) count ∙ stops;
       room = omega arith;
     }

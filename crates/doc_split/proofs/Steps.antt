@@ -41,9 +41,9 @@ passes_turn most at b n bs more true e h =
     ∙ at_other most (at + 1 + n) (at + (1 + n)) more (omega arith)
 
 -- the blanks that bytes begin with
-pub passes_front : (most at : ℕ) (bytes more : List ℕ) → documents_from most 0 at (take (prefix_len is_blank bytes) bytes ++ more) ≡ documents_from most 0 (at + prefix_len is_blank bytes) more
-passes_front most at [] more = at_other most at (at + 0) more (omega arith)
-passes_front most at (b ∷ bs) more = passes_turn most at b (prefix_len is_blank bs) bs more (is_blank b) refl (passes_front most (at + 1) bs more)
+pub passes_prefix : (most at : ℕ) (bytes more : List ℕ) → documents_from most 0 at (take (prefix_len is_blank bytes) bytes ++ more) ≡ documents_from most 0 (at + prefix_len is_blank bytes) more
+passes_prefix most at [] more = at_other most at (at + 0) more (omega arith)
+passes_prefix most at (b ∷ bs) more = passes_turn most at b (prefix_len is_blank bs) bs more (is_blank b) refl (passes_prefix most (at + 1) bs more)
 
 take_over : (most : ℕ) (doc more : List ℕ) → length doc ≤ most → take most (doc ++ more) ≡ doc ++ take (most - length doc) more
 take_over most doc more h =
@@ -81,9 +81,9 @@ unfolding documents_from
 open_step most at tail none =
     ap (λ (o : Option ℕ). add_document most at (123 ∷ tail) o (documents_from most (unwrap_or o 1 - 1) (at + 1) tail)) none
 
-stays_none : (front : List ℕ) → StaysOpen front → balanced_after [] front ≡ None
+stays_none : (prefix : List ℕ) → StaysOpen prefix → balanced_after [] prefix ≡ None
 unfolding balanced_after
-stays_none front stays = ap (balanced_after []) (sym (append-nil front)) ∙ stays []
+stays_none prefix stays = ap (balanced_after []) (sym (append-nil prefix)) ∙ stays []
 
 -- a document that has begun, at the end
 pub unclosed_step : (most at : ℕ) (tail : List ℕ) → StaysOpen (123 ∷ tail) → suc (length tail) ≤ most → documents_from most 0 at (123 ∷ tail) ≡ nothing (Unclosed at)

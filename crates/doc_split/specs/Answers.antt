@@ -2,7 +2,7 @@
 use Rattle.std.specs.Prelude.{ℕ, ◌≡◌, ◌≤◌, ◌<◌, ◌+◌, ◌⊎◌, List, [], ◌∷◌, ◌++◌, Option, None, Some, Result, Ok, Err, IfErr, IsErrOf, OnOk, length}
 use Rattle.std.specs.Io.KnownBytes.{Consumes, IsAtEnd}
 use Rattle.dra_ports.specs.Causes.{Rose}
-use Rattle.dra_ports.specs.Fronts.{ConsumesFront}
+use Rattle.dra_ports.specs.Prefixes.{ConsumesPrefix}
 use Rattle.doc_split.specs.declared.doc.Doc.{Doc}
 use Rattle.doc_split.specs.declared.error.DocError.{DocError}
 use Rattle.doc_split.specs.declared.error.DocError.TheVariants as error
@@ -51,7 +51,7 @@ Answers limits old new left left_now (Err error.ReadFault) = IsCut limits old le
 Answers limits old new left left_now (Err (error.Unclosed at)) = EndsSo limits old new left left_now (Unclosed at)
 Answers limits old new left left_now (Err (error.Stray at)) = HasNone limits old left (Stray at)
 Answers limits old new left left_now (Err (error.TooLong at)) = HasNone limits old left (TooLong at)
-Answers limits old new left left_now (Err error.Memory) = ConsumesFront (remaining old left) (remaining new left_now)
+Answers limits old new left left_now (Err error.Memory) = ConsumesPrefix (remaining old left) (remaining new left_now)
 Answers limits old new left left_now (Err error.Input) = HasNone limits old left Long
 
 -- the count of errors never falls, `ReadFault` is returned only if it rose or is at its maximum, and

@@ -1,7 +1,7 @@
 -- A document that has begun, and its end.
 use Rattle.std.specs.Prelude.{ℕ, ◌≡◌, ◌≤◌, ◌<◌, ◌+◌, ◌-◌, min, List, [], ◌∷◌, ◌++◌, Option, Some, Result, Ok, Err, length, take, drop}
 use Rattle.std.specs.Io.KnownBytes.{Consumes}
-use Rattle.dra_ports.specs.Fronts.{ConsumesFront}
+use Rattle.dra_ports.specs.Prefixes.{ConsumesPrefix}
 use Rattle.doc_split.specs.declared.doc.Doc.{Doc}
 use Rattle.doc_split.specs.declared.error.DocError.{DocError}
 use Rattle.doc_split.specs.declared.error.DocError.TheVariants as error
@@ -53,13 +53,13 @@ TakesDocument limits old new left left_now (Err error.ReadFault) = IsOpen limits
 TakesDocument limits old new left left_now (Err (error.Unclosed at)) = IsOpen limits old new left left_now × (at ≡ old.at) × MeetsEnd new left_now
 TakesDocument limits old new left left_now (Err (error.Stray at)) = ⊥
 TakesDocument limits old new left left_now (Err (error.TooLong at)) = IsOpen limits old new left left_now × (at ≡ old.at) × MeetsMost limits old new
-TakesDocument limits old new left left_now (Err error.Memory) = ConsumesFront (remaining old left) (remaining new left_now)
+TakesDocument limits old new left left_now (Err error.Memory) = ConsumesPrefix (remaining old left) (remaining new left_now)
 TakesDocument limits old new left left_now (Err error.Input) = IsOpen limits old new left left_now × MeetsLimit limits new
 
 -- the scan is at the end of the prefix: where its next byte is, and how many braces are open
-pub record IsBehind (front : List ℕ) (scan : Scan) : Type 0 where
-  pub place_is : place_behind Outside front ≡ scan.place
-  pub depth_is : count_outside 123 front ≡ count_outside 125 front + scan.depth
+pub record IsBehind (prefix : List ℕ) (scan : Scan) : Type 0 where
+  pub place_is : place_behind Outside prefix ≡ scan.place
+  pub depth_is : count_outside 123 prefix ≡ count_outside 125 prefix + scan.depth
 
 -- the bytes ahead of which a document may still take some, if it has so many
 abbrev pub window : Limits → Split → ℕ → List ℕ

@@ -32,9 +32,9 @@ is_balanced bytes = count_outside 123 bytes == count_outside 125 bytes
 
 -- the length of the shortest balanced prefix that is longer than this one
 unfoldable pub balanced_after : List ℕ → List ℕ → Option ℕ
-balanced_after front [] = None
-balanced_after front (b ∷ bs) =
-    if is_balanced (front ++ b ∷ []) then Some (length front + 1) else balanced_after (front ++ b ∷ []) bs
+balanced_after prefix [] = None
+balanced_after prefix (b ∷ bs) =
+    if is_balanced (prefix ++ b ∷ []) then Some (length prefix + 1) else balanced_after (prefix ++ b ∷ []) bs
 
 -- the length of the document that begins here: it ends where its braces are first balanced
 abbrev pub document_length : List ℕ → Option ℕ

@@ -30,13 +30,13 @@ pub record StandsFirst (most at : ℕ) (bytes : List ℕ) (doc : Document) (rest
   pub document : IsDocument most doc.bytes
 
 -- after blanks a document begins, which ends neither within the bytes nor within the most that it may have
-pub record BeginsOne (most at : ℕ) (bytes : List ℕ) (place : ℕ) (front : List ℕ) : Type 0 where
+pub record BeginsOne (most at : ℕ) (bytes : List ℕ) (place : ℕ) (prefix : List ℕ) : Type 0 where
   pub gap : List ℕ
-  pub is : bytes ≡ gap ++ front
+  pub is : bytes ≡ gap ++ prefix
   pub blank : AreBlank gap
   pub place_is : place ≡ at + length gap
-  pub begins : BeginsWithBrace front
-  pub open_ : (n : ℕ) → 0 < n → n ≤ length front → n ≤ most → is_balanced (take n front) ≡ false
+  pub begins : BeginsWithBrace prefix
+  pub open_ : (n : ℕ) → 0 < n → n ≤ length prefix → n ≤ most → is_balanced (take n prefix) ≡ false
 
 -- after blanks comes a byte that isn't a blank, and doesn't begin a document
 pub record MeetsStray (at : ℕ) (bytes : List ℕ) (place : ℕ) : Type 0 where
@@ -52,9 +52,9 @@ pub record MeetsStray (at : ℕ) (bytes : List ℕ) (place : ℕ) : Type 0 where
 -- why no document comes first
 abbrev pub Stops : ℕ → ℕ → List ℕ → Ending → Type 0
 Stops most at bytes Clean = AreBlank bytes
-Stops most at bytes (Unclosed place) = (front : List ℕ) × BeginsOne most at bytes place front × (length front ≤ most)
+Stops most at bytes (Unclosed place) = (prefix : List ℕ) × BeginsOne most at bytes place prefix × (length prefix ≤ most)
 Stops most at bytes (Stray place) = MeetsStray at bytes place
-Stops most at bytes (TooLong place) = (front : List ℕ) × BeginsOne most at bytes place front × (most < length front)
+Stops most at bytes (TooLong place) = (prefix : List ℕ) × BeginsOne most at bytes place prefix × (most < length prefix)
 Stops most at bytes Long = ⊥
 
 -- the bytes from an offset on are these documents in order, with blanks before each, and then this ending

@@ -60,10 +60,10 @@ agrees_write at from s b le p = elim (cases_lt (length s) at) [
   | inr within ↦
       let long = agrees_long s b p in
       let k = min (at + length from) (length s) - min at (length s) in
-      let front_len : length (take at b) ≡ length (take at s) = omega (arith, length-take at b, length-take at s) in
+      let prefix_len : length (take at b) ≡ length (take at s) = omega (arith, length-take at b, length-take at s) in
       subst (λ (u : List (Option ℕ)). Agrees u (spliced at from b)) (sym (append_assoc (take at s) (replicate k None) (drop (at + length from) s)))
       (subst (Agrees (take at s ++ (replicate k None ++ drop (at + length from) s))) (sym (append_assoc (take at b) from (drop (at + length from) b)))
-      (agrees_app (take at s) _ (take at b) _ front_len (agrees_take at s b p) (gap at from s b within p)))
+      (agrees_app (take at s) _ (take at b) _ prefix_len (agrees_take at s b p) (gap at from s b within p)))
 ]
   where
     gap : (at : ℕ) (from : List ℕ) (s : List (Option ℕ)) (b : List ℕ) → at ≤ length s → Agrees s b

@@ -2,7 +2,7 @@
 use Rattle.std.proofs.Common.{ℕ, ◌≡◌, ◌∙◌, List, [], ◌++◌, refl, sym, ap, subst, append_assoc, append-nil}
 use Rattle.std.specs.Prelude.{Option, None, Some, Result, Ok, Err, IsErrAnd}
 use Rattle.std.specs.Io.KnownBytes.{Consumes}
-use Rattle.dra_ports.specs.Fronts.{ConsumesFront}
+use Rattle.dra_ports.specs.Prefixes.{ConsumesPrefix}
 use Rattle.http_wire.specs.declared.error.WireError.{WireError}
 use Rattle.http_wire.specs.Reader.{Begins, remaining}
 use Rattle.http_wire.specs.Steps.{Kept}
@@ -40,7 +40,7 @@ begins_all P old mid left left_now kept p = record {
 }
 
 -- what is ahead is lost
-pub lost_all : (old mid : List ℕ) (left left_now : Option (List ℕ)) → Kept old mid left left_now → ConsumesFront (remaining old left) left_now
+pub lost_all : (old mid : List ℕ) (left left_now : Option (List ℕ)) → Kept old mid left left_now → ConsumesPrefix (remaining old left) left_now
 lost_all old mid left left_now kept = (mid, consumes_more (remaining old left) (remaining mid left_now) left_now [] mid kept (consumes_all mid left_now))
 
 -- a piece that was appended to the bytes ahead

@@ -3,7 +3,7 @@ use Rattle.std.specs.Prelude.{ℕ, ◌≡◌, ◌<◌, Bool, List, [], ◌++◌,
 use Rattle.std.specs.Io.KnownBytes.{Consumes, IsAtEnd}
 use Rattle.dra_ports.specs.declared.error.PortError.{PortError}
 use Rattle.dra_ports.specs.declared.error.PortError.TheVariants as port
-use Rattle.dra_ports.specs.Fronts.{ConsumesFront}
+use Rattle.dra_ports.specs.Prefixes.{ConsumesPrefix}
 use Rattle.http_wire.specs.Reader.{remaining}
 
 -- a piece of `count` bytes was appended to those ahead; 0 means that none is left
@@ -18,7 +18,7 @@ pub record Joined (ahead ahead_now : List ℕ) (left left_now : Option (List ℕ
 abbrev pub ReadsPiece : List ℕ → List ℕ → Option (List ℕ) → Option (List ℕ) → Result ℕ PortError → Type 0
 ReadsPiece ahead ahead_now left left_now (Ok count) = Joined ahead ahead_now left left_now count
 ReadsPiece ahead ahead_now left left_now (Err port.Failed) = (ahead_now ≡ ahead) × Consumes left left_now []
-ReadsPiece ahead ahead_now left left_now (Err port.Memory) = (ahead_now ≡ ahead) × ConsumesFront left left_now
+ReadsPiece ahead ahead_now left left_now (Err port.Memory) = (ahead_now ≡ ahead) × ConsumesPrefix left left_now
 
 -- a piece was appended to the bytes ahead, or none is left
 pub record Filled (ahead ahead_now : List ℕ) (left left_now : Option (List ℕ)) (more : Bool) : Type 0 where
@@ -30,7 +30,7 @@ pub record Filled (ahead ahead_now : List ℕ) (left left_now : Option (List ℕ
 abbrev pub Fills : List ℕ → List ℕ → Option (List ℕ) → Option (List ℕ) → Result Bool PortError → Type 0
 Fills ahead ahead_now left left_now (Ok more) = Filled ahead ahead_now left left_now more
 Fills ahead ahead_now left left_now (Err port.Failed) = (ahead_now ≡ ahead) × Consumes left left_now []
-Fills ahead ahead_now left left_now (Err port.Memory) = (ahead_now ≡ ahead) × ConsumesFront left left_now
+Fills ahead ahead_now left left_now (Err port.Memory) = (ahead_now ≡ ahead) × ConsumesPrefix left left_now
 
 -- whether something is ahead; no byte was gone over
 pub record Ready (ahead ahead_now : List ℕ) (left left_now : Option (List ℕ)) (more : Bool) : Type 0 where
@@ -40,4 +40,4 @@ pub record Ready (ahead ahead_now : List ℕ) (left left_now : Option (List ℕ)
 abbrev pub HasMore : List ℕ → List ℕ → Option (List ℕ) → Option (List ℕ) → Result Bool PortError → Type 0
 HasMore ahead ahead_now left left_now (Ok more) = Ready ahead ahead_now left left_now more
 HasMore ahead ahead_now left left_now (Err port.Failed) = (ahead_now ≡ []) × Consumes (remaining ahead left) left_now []
-HasMore ahead ahead_now left left_now (Err port.Memory) = ConsumesFront (remaining ahead left) left_now
+HasMore ahead ahead_now left left_now (Err port.Memory) = ConsumesPrefix (remaining ahead left) left_now

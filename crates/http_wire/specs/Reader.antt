@@ -2,7 +2,7 @@
 use Rattle.std.specs.Prelude.{ℕ, ◌≡◌, ◌≤◌, ◌⊎◌, List, Option, None, Some, Result, Ok, Err, IfErr, IsErrOf, OnOk}
 use Rattle.std.specs.Io.KnownBytes.{Consumes, IsAtEnd, prepend_known}
 use Rattle.dra_ports.specs.Causes.{Rose}
-use Rattle.dra_ports.specs.Fronts.{ConsumesFront}
+use Rattle.dra_ports.specs.Prefixes.{ConsumesPrefix}
 use Rattle.dra_ports.specs.declared.error.PortError.{PortError}
 use Rattle.dra_ports.specs.declared.error.PortError.TheVariants as port
 use Rattle.http_wire.specs.declared.error.WireError.{WireError}
@@ -44,7 +44,7 @@ Answers ahead ahead_now left left_now (Err error.TooLong) = (rest : List ℕ) ×
 Answers ahead ahead_now left left_now (Err error.EndedEarly) = Begins ahead left left_now IsOpen × IsAtEnd left_now
 Answers ahead ahead_now left left_now (Err error.ReadFault) = Begins ahead left left_now IsUndone
 Answers ahead ahead_now left left_now (Err error.WriteFault) = ⊥
-Answers ahead ahead_now left left_now (Err error.Memory) = ConsumesFront (remaining ahead left) left_now
+Answers ahead ahead_now left left_now (Err error.Memory) = ConsumesPrefix (remaining ahead left) left_now
 
 -- the error count never falls, `ReadFault` is returned only if it rose or is at its last value, and with every
 -- other result it does not change

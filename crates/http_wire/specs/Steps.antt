@@ -8,7 +8,7 @@ use Rattle.http_wire.specs.declared.head.Head.{Head}
 use Rattle.http_wire.specs.declared.scan.Place.{Place}
 use Rattle.http_wire.specs.declared.scan.Place.TheVariants.{Before}
 use Rattle.http_wire.specs.declared.scan.Scan.{Scan}
-use Rattle.dra_ports.specs.Fronts.{ConsumesFront}
+use Rattle.dra_ports.specs.Prefixes.{ConsumesPrefix}
 use Rattle.http_wire.specs.Heads.{IsBlank, IsHead, IsLongHead, IsOpenHead}
 use Rattle.http_wire.specs.Requests.{IsBadHead, IsTooLong, IsOpen, Says}
 use Rattle.http_wire.specs.Reader.{Begins, IsUndone, remaining}
@@ -33,7 +33,7 @@ Finds ahead ahead_now left left_now (Err error.TooLong) = Kept ahead ahead_now l
 Finds ahead ahead_now left left_now (Err error.EndedEarly) = Kept ahead ahead_now left left_now × IsOpenHead ahead_now × IsAtEnd left_now
 Finds ahead ahead_now left left_now (Err error.ReadFault) = Kept ahead ahead_now left left_now × IsUndone ahead_now
 Finds ahead ahead_now left left_now (Err error.WriteFault) = ⊥
-Finds ahead ahead_now left left_now (Err error.Memory) = ConsumesFront (remaining ahead left) left_now
+Finds ahead ahead_now left left_now (Err error.Memory) = ConsumesPrefix (remaining ahead left) left_now
 
 -- taking a head
 abbrev pub TakesHead : List ℕ → List ℕ → Option (List ℕ) → Option (List ℕ) → Result (Option Head) WireError → Type 0
@@ -45,7 +45,7 @@ TakesHead ahead ahead_now left left_now (Err error.TooLong) = (rest : List ℕ) 
 TakesHead ahead ahead_now left left_now (Err error.EndedEarly) = Begins ahead left left_now IsOpen × IsAtEnd left_now
 TakesHead ahead ahead_now left left_now (Err error.ReadFault) = Begins ahead left left_now IsUndone
 TakesHead ahead ahead_now left left_now (Err error.WriteFault) = ⊥
-TakesHead ahead ahead_now left left_now (Err error.Memory) = ConsumesFront (remaining ahead left) left_now
+TakesHead ahead ahead_now left left_now (Err error.Memory) = ConsumesPrefix (remaining ahead left) left_now
 
 -- so many bytes of a body were taken, fewer than it has
 pub record IsPart (ahead : List ℕ) (left left_now : Option (List ℕ)) (long : ℕ) : Type 0 where
@@ -67,7 +67,7 @@ TakesBody ahead ahead_now left left_now long (Err error.TooLong) = ⊥
 TakesBody ahead ahead_now left left_now long (Err error.EndedEarly) = IsPart ahead left left_now long × IsAtEnd left_now
 TakesBody ahead ahead_now left left_now long (Err error.ReadFault) = IsPart ahead left left_now long
 TakesBody ahead ahead_now left left_now long (Err error.WriteFault) = ⊥
-TakesBody ahead ahead_now left left_now long (Err error.Memory) = ConsumesFront (remaining ahead left) left_now
+TakesBody ahead ahead_now left left_now long (Err error.Memory) = ConsumesPrefix (remaining ahead left) left_now
 
 -- what is found if the input ends and the next byte would be at this place
 abbrev pub EndsAt : Place → Result (Option Scan) WireError → Type 0

@@ -1,6 +1,6 @@
 ghost use Rattle.std.specs.Prelude.{◌≡◌, ◌++◌, IfOk, IfErr, OnOk, OnErr, codes, decimal, unwrap_or, length};
 ghost use Rattle.std.specs.Io.KnownBytes.{Appends};
-ghost use Rattle.dra_ports.specs.Fronts.{AppendsFront};
+ghost use Rattle.dra_ports.specs.Prefixes.{AppendsPrefix};
 ghost use Rattle.http_wire.specs.Replies.{HasWriteCause, content_type, digits_of, head_bytes, phrase_of, reply_bytes};
 
 use crate::WireError;
@@ -27,7 +27,7 @@ pub struct Reply {
 /// reply may be written.
 pub fn write_reply<K: Sink>(alloc: Global, to: &mut K, reply: &Reply) -> Result<(), WireError>
     ensures bytes { OnOk result (Appends (K.written to.old) (K.written to.new) (reply_bytes reply.now)) }
-    ensures prefix { OnErr result (AppendsFront (K.written to.old) (K.written to.new) (reply_bytes reply.now)) }
+    ensures prefix { OnErr result (AppendsPrefix (K.written to.old) (K.written to.new) (reply_bytes reply.now)) }
     ensures cause { HasWriteCause (K.faults to.old) (K.faults to.new) result }
 {
     let bytes = reply_text(alloc, reply)?;

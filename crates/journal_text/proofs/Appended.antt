@@ -1,6 +1,6 @@
 -- Lines of entries, one after another.
 use Rattle.std.proofs.lemmas.List.{nil_from_length}
-use Rattle.std.proofs.Common.{ℕ, ◌+◌, ◌<◌, ◌≤◌, List, [], ◌∷◌, ◌++◌, ◌≡◌, ◌∙◌, drop, get_or, drop-cons, add-one, length, length-drop, arith, refl, ap, sym, append_assoc, append-nil}
+use Rattle.std.proofs.Common.{ℕ, ◌+◌, ◌<◌, ◌≤◌, List, [], ◌∷◌, ◌++◌, ◌≡◌, ◌∙◌, drop, get_or, drop-cons, add-one, length, length-drop, arith, ap, sym, append_assoc, append-nil}
 use Rattle.cluster.specs.declared.entry.Entry.{Entry}
 use Rattle.journal_text.specs.Journal.{line_of, lines_from}
 

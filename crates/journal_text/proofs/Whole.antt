@@ -1,7 +1,7 @@
 -- A fraction prints as a whole part of 0 and its decimal places, which are the rest without the first byte.
 use Rattle.std.specs.Fmt.{digits}
 use Rattle.std.proofs.Common.{ℕ, List, [], refl, ◌∷◌, ◌++◌, ◌≡◌, ◌≢◌, ◌∙◌, ◌<◌, ◌+◌, Bor, Option, None, Some, drop, length, ap, sym, arith}
-use Rattle.std.specs.Prelude.{MatchOption, ◌/◌, ◌%◌, ◌^◌, decimal}
+use Rattle.std.specs.Prelude.{MatchOption, ◌%◌, ◌^◌, decimal}
 use Rattle.std.specs.Str.Pattern.{FindsCharPrefix}
 use Rattle.std.proofs.lemmas.Str.Pattern.{strip_prefix_char}
 use Rattle.std.proofs.Math.Nat.{div-eq_of_lt, mod-eq_of_lt}

@@ -88,7 +88,7 @@ fn verdict_text(alloc: Global, pod: &Key, verdict: &Verdict) -> Result<String, A
     format!(in alloc; "verdict {pod} {word} at={} {rest}", verdict.at)
 }
 
-/// The text of a verdict after its place: its claim, or its nodes with their causes.
+/// The text of a verdict after its index: its claim, or its nodes with their causes.
 fn reason_text(alloc: Global, reason: &Reason) -> Result<String, AllocError>
     ensures { IfOk result (λ s. string_bytes s ≡ reason_text reason.now) }
 {
@@ -142,7 +142,7 @@ fn refusal_text(alloc: Global, name: &String, refusal: &Refusal) -> Result<Strin
         Refusal::Bound(node) => format!(in alloc; "denied Bound {node}"),
         Refusal::NotBound => format!(in alloc; "denied NotBound {name}"),
         Refusal::Failure(why) => {
-            let why = failure_text(alloc, why)?;
+            let why = failure_text(alloc, why.value())?;
             format!(in alloc; "denied Failure {why}")
         }
     }
@@ -207,10 +207,10 @@ pub fn event_text(alloc: Global, event: &Event) -> Result<String, AllocError>
             format!(in alloc; "deleted {target}")
         }
         Event::Reserved { pod, plan } => {
-            let plan = plan_text(alloc, pod, plan)?;
+            let plan = plan_text(alloc, pod, plan.value())?;
             format!(in alloc; "reserved {plan}")
         }
-        Event::Refused { pod, plan, why } => refused_text(alloc, pod, plan, why),
+        Event::Refused { pod, plan, why } => refused_text(alloc, pod, plan.value(), why.value()),
         Event::Wrote { pod, claim, seen } => {
             format!(in alloc; "wrote {pod} {claim} seen={seen}")
         }
@@ -222,12 +222,12 @@ pub fn event_text(alloc: Global, event: &Event) -> Result<String, AllocError>
         } => format!(in alloc; "conflict {pod} {claim} had={had} now={now}"),
         Event::Unreserved(pod) => format!(in alloc; "unreserved {pod}"),
         Event::Bound { pod, node } => format!(in alloc; "bound {pod} {node}"),
-        Event::VerdictGiven { pod, verdict } => verdict_text(alloc, pod, verdict),
+        Event::VerdictGiven { pod, verdict } => verdict_text(alloc, pod, verdict.value()),
         Event::Contended { pod, attempts } => {
             format!(in alloc; "contended {pod} attempts={attempts}")
         }
         Event::Released(pod) => format!(in alloc; "released {pod}"),
-        Event::Adopted { claim, status } => adopted_text(alloc, claim, status),
+        Event::Adopted { claim, status } => adopted_text(alloc, claim, status.value()),
         Event::Denied { command, refusal } => denial_text(alloc, command, refusal),
     }
 }

@@ -6,7 +6,7 @@ use crate::event::event_text;
 use cluster::Entry;
 use std::alloc::{AllocError, Global};
 
-/// The line of an entry at a place, from 1: the place, the job, the kind of the event and the
+/// The line of an entry at an index, from 1: the index, the job, the kind of the event and the
 /// rest, with one space between, ended by LF. Each byte below 0x20 and 0x7f before the LF is printed as
 /// `?`. `AllocError` is returned only if memory runs out. The format is this project's own.
 pub fn line(alloc: Global, place: u64, entry: &Entry) -> Result<Vec<u8>, AllocError>

@@ -6,7 +6,6 @@ use Rattle.cluster.specs.declared.entry.Event.TheVariants.{Denied}
 use Rattle.cluster.specs.declared.entry.Outcome.TheVariants as outcome
 use Rattle.cluster.specs.declared.entry.Refusal.{Refusal}
 use Rattle.cluster.specs.declared.state.PodState.{PodState}
-use Rattle.cluster.specs.declared.state.State.{State}
 use Rattle.cluster.specs.Denied.{first_refusal}
 use Rattle.cluster.specs.History.{state_of}
 use Rattle.alloc_rules.specs.Plans.{IsIdle}

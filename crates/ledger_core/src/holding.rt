@@ -151,7 +151,7 @@ pub fn reserve(
     job: u64,
     pod: &Key,
     plan: &Plan,
-) -> Result<(Key, Plan), AllocError>
+) -> Result<(Key, Shared<Plan>), AllocError>
     requires { (id : DeviceId) → left_each plan.now.grants id (holder_in holders.old id) ≡ holder_in holders.old id }
     ensures kept { IfOk result (λ kept. (kept.0 ≡ pod.now) × (kept.1 ≡ plan.now)) }
     ensures ok { OnOk result (state.new ≡ with_reserved job pod.now plan.now state.old) }
@@ -160,7 +160,7 @@ pub fn reserve(
     ensures same { OnErr result ((id : DeviceId) → holder_in holders.new id ≡ holder_in holders.old id) }
 {
     let kept_pod = pod.copy(alloc)?;
-    let kept_plan = plan.copy(alloc)?;
+    let kept_plan = Shared::new(alloc, plan.copy(alloc)?)?;
     reserve_held(alloc, state, holders.change(alloc)?, job, pod, plan)?;
     Ok((kept_pod, kept_plan))
 }

@@ -373,6 +373,7 @@ impl Ledger {
         ensures full { (n : ℕ) → IsErrOf result (LedgerError.Full n) → (length self.old.entries ≡ n) × (self.old.limit ≤ n) }
         ensures err { OnErr result (self.new ≡ self.old) }
     {
+        let verdict = Shared::new(alloc, verdict)?;
         let index = make_room(&mut self.entries, &mut self.stands, self.limit, job)?;
         let pod = pod.copy(alloc)?;
         let event = Event::VerdictGiven { pod, verdict };
@@ -451,7 +452,8 @@ impl Ledger {
         ensures full { (n : ℕ) → IsErrOf result (LedgerError.Full n) → (length self.old.entries ≡ n) × (self.old.limit ≤ n) }
         ensures err { OnErr result (self.new ≡ self.old) }
     {
-        match self.state.status_refusal(claim, &status) {
+        let status = Shared::new(alloc, status)?;
+        match self.state.status_refusal(claim, status.value()) {
             None => self.adopt_free(alloc, job, claim, status),
             Some(refusal) => {
                 let claim = claim.copy(alloc)?;
@@ -584,6 +586,7 @@ impl Ledger {
         ensures full { (n : ℕ) → IsErrOf result (LedgerError.Full n) → (length self.old.entries ≡ n) × (self.old.limit ≤ n) }
         ensures err { OnErr result (self.new ≡ self.old) }
     {
+        let why = Shared::new(alloc, why)?;
         let index = make_room(&mut self.entries, &mut self.stands, self.limit, job)?;
         let (pod, plan) = copies(alloc, pod, plan)?;
         let event = Event::Refused { pod, plan, why };
@@ -713,7 +716,7 @@ impl Ledger {
         alloc: Global,
         job: u64,
         claim: &Key,
-        status: ClaimStatus,
+        status: Shared<ClaimStatus>,
     ) -> Result<Done, LedgerError>
         requires job_state { is_fresh (job_state_of self.old.entries job) ≡ true }
         requires unrefused { first_refusal (state_of self.old.entries) (Adopt claim.now status) ≡ None }
@@ -724,11 +727,11 @@ impl Ledger {
         ensures full { (n : ℕ) → IsErrOf result (LedgerError.Full n) → (length self.old.entries ≡ n) × (self.old.limit ≤ n) }
         ensures err { OnErr result (self.new ≡ self.old) }
     {
-        match check_status(alloc, &self.state, &self.holders, claim, &status)? {
+        match check_status(alloc, &self.state, &self.holders, claim, status.value())? {
             None => self.make_grant(alloc, job, claim, status),
             Some(failure) => {
                 let claim = claim.copy(alloc)?;
-                let refusal = Refusal::Failure(failure);
+                let refusal = Refusal::Failure(Shared::new(alloc, failure)?);
                 self.refuse(job, Command::Adopt { claim, status }, refusal)
             }
         }
@@ -740,7 +743,7 @@ impl Ledger {
         alloc: Global,
         job: u64,
         claim: &Key,
-        status: ClaimStatus,
+        status: Shared<ClaimStatus>,
     ) -> Result<Done, LedgerError>
         requires job_state { is_fresh (job_state_of self.old.entries job) ≡ true }
         requires adopted { MayAdopt (state_of self.old.entries) claim.now status }
@@ -759,7 +762,7 @@ impl Ledger {
             &mut self.holders,
             index,
             claim,
-            &status,
+            status.value(),
         )?;
         let event = Event::Adopted { claim, status };
         append(&mut self.entries, &mut self.stands, job, event);
@@ -815,11 +818,11 @@ fn version(state: &State, claim: &Key) -> u64
 }
 
 /// Equal copies of a pod's key and a plan.
-fn copies(alloc: Global, pod: &Key, plan: &Plan) -> Result<(Key, Plan), AllocError>
+fn copies(alloc: Global, pod: &Key, plan: &Plan) -> Result<(Key, Shared<Plan>), AllocError>
     ensures { IfOk result (λ copies. (copies.0 ≡ pod.now) × (copies.1 ≡ plan.now)) }
 {
     let pod = pod.copy(alloc)?;
-    let plan = plan.copy(alloc)?;
+    let plan = Shared::new(alloc, plan.copy(alloc)?)?;
     Ok((pod, plan))
 }
 

@@ -33,4 +33,4 @@ gapped at n places = take at places ++ replicate (min (at + n) (length places) -
 
 -- the other is a prefix of the list
 abbrev pub StartsWith : List ℕ → List ℕ → Type 0
-StartsWith xs front = (rest : List ℕ) × (xs ≡ front ++ rest)
+StartsWith xs prefix = (rest : List ℕ) × (xs ≡ prefix ++ rest)

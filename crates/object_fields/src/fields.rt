@@ -1,10 +1,11 @@
-ghost use Rattle.std.specs.Prelude.{◌≡◌, option_map, string_bytes};
+ghost use Rattle.std.specs.Prelude.{◌≡◌, option_map};
 ghost use Rattle.serde_json.specs.View.{items_view, members_view, view};
 ghost use Rattle.object_fields.specs.Fields.{Gives, Reads, field_at, list_at, member_of, object_at, table_at, text_at, truth_at, whole_at};
 
 use crate::error::{FieldError, or_memory};
 use crate::kind::FieldErrorKind;
 use crate::path::Path;
+use dra_values::Text;
 use serde_json::{Map, Value};
 use std::alloc::Global;
 
@@ -49,11 +50,11 @@ pub fn borrowed<'a>(
 }
 
 /// A text. Missing, then WrongType.
-pub fn text(alloc: Global, object: &Value, path: &Path, name: &str) -> Result<String, FieldError>
-    ensures { Gives string_bytes result (text_at path.now name.now (view object.now)) }
+pub fn text(alloc: Global, object: &Value, path: &Path, name: &str) -> Result<Text, FieldError>
+    ensures { Reads result (text_at path.now name.now (view object.now)) }
 {
     match borrowed(alloc, object, path, name) {
-        Ok(text) => or_memory(alloc, String::from_str(alloc, text)),
+        Ok(text) => or_memory(alloc, Text::from_str(alloc, text)),
         Err(error) => Err(error),
     }
 }

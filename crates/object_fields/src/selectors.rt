@@ -49,5 +49,5 @@ fn read_selector(alloc: Global, value: &Value, path: &Path) -> Result<Text, Fiel
     let selector = value_object(alloc, value, path)?;
     let cel = object_field(alloc, selector, path, "cel")?;
     let path = path.member(alloc, "cel")?;
-    Ok(Text::new(text(alloc, cel, &path, "expression")?))
+    text(alloc, cel, &path, "expression")
 }

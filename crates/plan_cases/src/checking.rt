@@ -5,6 +5,7 @@ use crate::setup::Setup;
 use crate::spelling::key;
 use api_claim::ClaimStatus;
 use cluster::{Command, Entry, Event, Failure, Refusal};
+use dra_values::Shared;
 use object_fields::{FieldError, FieldErrorKind, Key};
 use plan_check::{check, check_status};
 use serde_json::Value;
@@ -23,8 +24,8 @@ fn behind(alloc: Global, event: Event, mark: &str) -> Result<String, CaseError> 
 fn plan_failure(alloc: Global, planned: Planned, why: Failure) -> Result<String, CaseError> {
     let event = Event::Refused {
         pod: planned.pod,
-        plan: planned.plan,
-        why,
+        plan: Shared::new(alloc, planned.plan)?,
+        why: Shared::new(alloc, why)?,
     };
     behind(alloc, event, " why=")
 }
@@ -76,9 +77,10 @@ fn status_failure(
     status: ClaimStatus,
     why: Failure,
 ) -> Result<String, CaseError> {
+    let status = Shared::new(alloc, status)?;
     let event = Event::Denied {
         command: Command::Adopt { claim, status },
-        refusal: Refusal::Failure(why),
+        refusal: Refusal::Failure(Shared::new(alloc, why)?),
     };
     behind(alloc, event, " Failure ")
 }

@@ -126,15 +126,15 @@ fn run_lines(
     scripts: &Scripts,
     out: &mut Vec<u8>,
 ) -> Result<bool, AllocError> {
-    let (front, rest) = cut_word(text);
+    let (prefix, rest) = cut_word(text);
     let (name, words) = cut_word(rest);
     let Some(options) = Options::read(words) else {
         return Ok(false);
     };
-    let (Some(front), Some(lines)) = (scripts.get(front), scripts.get(name)) else {
+    let (Some(prefix), Some(lines)) = (scripts.get(prefix), scripts.get(name)) else {
         return Ok(false);
     };
-    run_each(alloc, front, lines, options, out)?;
+    run_each(alloc, prefix, lines, options, out)?;
     Ok(true)
 }
 

@@ -101,19 +101,19 @@ pub fn run_varied(
 /// Runs each line of a script after a prefix, and prints the outcomes beside that of the prefix.
 pub fn run_each(
     alloc: Global,
-    front: &[u8],
+    prefix: &[u8],
     lines: &[u8],
     options: Options,
     out: &mut Vec<u8>,
 ) -> Result<(), AllocError> {
-    let whole = text_of(alloc, front, options)?;
+    let whole = text_of(alloc, prefix, options)?;
     let mut report = Report::new(alloc);
     let mut reader = Reader::new(lines);
     for number in 1..=lines.len() {
         let Some(line) = reader.next_line() else {
             break;
         };
-        let said = said_behind(alloc, front, line, options, &whole)?;
+        let said = said_behind(alloc, prefix, line, options, &whole)?;
         report.add(alloc, number as u64, said, out)?;
     }
     report.print(alloc, out)
@@ -122,12 +122,12 @@ pub fn run_each(
 /// The outcome of a line after a prefix.
 fn said_behind(
     alloc: Global,
-    front: &[u8],
+    prefix: &[u8],
     line: &[u8],
     options: Options,
     whole: &[u8],
 ) -> Result<Vec<u8>, AllocError> {
-    let mut script = Vec::from_slice(alloc, front)?;
+    let mut script = Vec::from_slice(alloc, prefix)?;
     script.extend_from_slice(line)?;
     let outcome = run_once(alloc, &script, options)?;
     outcome.in_short(alloc, whole)

@@ -2,7 +2,7 @@
 use Rattle.std.proofs.Common.{ℕ, ◌+◌, ◌≡◌, ◌∙◌, List, [], ◌∷◌, ◌++◌, true, false, length, refl, sym, ap, subst, arith, append_assoc, inl, inr}
 use Rattle.std.specs.Prelude.{Option, Some}
 use Rattle.std.specs.Io.KnownBytes.{Appends}
-use Rattle.dra_ports.specs.Fronts.{AppendsFront}
+use Rattle.dra_ports.specs.Prefixes.{AppendsPrefix}
 use Rattle.doc_split.specs.Answers.{HasNone, IsCut, IsNext, NoneWhole}
 use Rattle.doc_split.specs.Documents.{Document, Documents}
 use Rattle.doc_split.specs.Documents as documents
@@ -23,7 +23,7 @@ use Rattle.replay_core.specs.Lines.{MetNext, MetPrinted, PrintedShort, Stops, Su
 use Rattle.replay_core.specs.Replay.{Ends, EndsAt, EndsFull, EndsRead, EndsShort, IsPart, Tells, TellsFirst}
 use Rattle.replay_core.specs.Progress.{IsSound, Progress, Standing}
 use Rattle.replay_core.specs.Turns.{DocumentDid, DocumentStops, Unread}
-use Rattle.replay_core.proofs.Known.{appends_front, appends_kept, appends_more, consumes_more, prefix_all, rest_of}
+use Rattle.replay_core.proofs.Known.{appends_prefix, appends_kept, appends_more, consumes_more, prefix_all, rest_of}
 use Rattle.replay_core.proofs.Running.{LinesLaw, lines_more, run_more}
 use Rattle.replay_core.proofs.Scripts.{document_is, document_is_none, next_script, prepend_more, prepend_nothing, prepend_up_to, tells_by}
 
@@ -76,14 +76,14 @@ short_command : LinesLaw → (options : ReplayOptions) (left before now next : O
 short_command lines options left before now next done at c old new s tells sound (inl ran) = record {
   text = lines_from 0 new.ledger.entries;
   due = inl (record { done = done ++ (at, c) ∷ []; script = tells; history = new.ledger.entries; run = run_more options done at c old new s.run s.count_is s.limit_is sound ran.ran; is = refl });
-  written = subst (λ (t : List ℕ). AppendsFront before next t) (sym (lines_more lines old.ledger new.ledger ran.ran.segment ran.ran.is))
-      (appends_front before now next (lines_from 0 old.ledger.entries) (new_lines old.ledger new.ledger) s.printed ran.printed);
+  written = subst (λ (t : List ℕ). AppendsPrefix before next t) (sym (lines_more lines old.ledger new.ledger ran.ran.segment ran.ran.is))
+      (appends_prefix before now next (lines_from 0 old.ledger.entries) (new_lines old.ledger new.ledger) s.printed ran.printed);
 }
 short_command lines options left before now next done at c old new s tells sound (inr met) = record {
   text = lines_from 0 new.ledger.entries;
   due = inr (inl (record { done = done; at = at; command = c; script = tells; history = new.ledger.entries; part = part_of options before now done c old new met.count s sound met.met; is = refl }));
-  written = subst (λ (t : List ℕ). AppendsFront before next t) (sym (lines_more lines old.ledger new.ledger met.met.segment met.met.is))
-      (appends_front before now next (lines_from 0 old.ledger.entries) (new_lines old.ledger new.ledger) s.printed met.printed);
+  written = subst (λ (t : List ℕ). AppendsPrefix before next t) (sym (lines_more lines old.ledger new.ledger met.met.segment met.met.is))
+      (appends_prefix before now next (lines_from 0 old.ledger.entries) (new_lines old.ledger new.ledger) s.printed met.printed);
 }
 
 full_command : LinesLaw → (options : ReplayOptions) (left before now next : Option (List ℕ)) (done : List (ℕ × Given)) (at : ℕ) (c : Given) (old new : Work) (n : ℕ) → Standing options before now done old
@@ -241,7 +241,7 @@ ends_at options left before written a left_a work ending p none = record {
 }
 
 short_text : (options : ReplayOptions) (left before now next : Option (List ℕ)) (done : List (ℕ × Given)) (work : Work) → Standing options before now done work
-    → Tells options left (record { commands = done; ending = Clean }) → AppendsFront now next (summary_of work.ledger.entries work.commands) → EndsShort options left before next
+    → Tells options left (record { commands = done; ending = Clean }) → AppendsPrefix now next (summary_of work.ledger.entries work.commands) → EndsShort options left before next
 unfolding text_of
 short_text options left before now next done work standing tells printed = record {
   text = lines_from 0 work.ledger.entries ++ summary_of work.ledger.entries work.commands;
@@ -252,7 +252,7 @@ short_text options left before now next done work standing tells printed = recor
     run = standing.run;
     is = ap (λ (k : ℕ). lines_from 0 work.ledger.entries ++ summary_of work.ledger.entries k) standing.count_is;
   }));
-  written = appends_front before now next (lines_from 0 work.ledger.entries) (summary_of work.ledger.entries work.commands) standing.printed printed;
+  written = appends_prefix before now next (lines_from 0 work.ledger.entries) (summary_of work.ledger.entries work.commands) standing.printed printed;
 }
 
 -- the summary after the lines

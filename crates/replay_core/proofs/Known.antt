@@ -3,7 +3,7 @@ use Rattle.std.proofs.Common.{ℕ, suc, ◌+◌, ◌≡◌, ◌∙◌, List, [],
 use Rattle.std.specs.Prelude.{Option, None, Some}
 use Rattle.std.specs.Io.KnownBytes.{Appends, Consumes, IsAtEnd}
 use Rattle.std.proofs.lemmas.List.{take_all}
-use Rattle.dra_ports.specs.Fronts.{AppendsFront}
+use Rattle.dra_ports.specs.Prefixes.{AppendsPrefix}
 
 pub consumes_more : (a b c : Option (List ℕ)) (x y : List ℕ) → Consumes a b x → Consumes b c y → Consumes a c (x ++ y)
 consumes_more None b c x y p q = tt
@@ -38,11 +38,11 @@ take_over (x ∷ xs) ys n =
     ap (λ k. take k (x ∷ (xs ++ ys))) e ∙ ap (λ l. x ∷ l) (take_over xs ys n)
 
 -- what is written whole, and then a prefix
-pub appends_front : (a b c : Option (List ℕ)) (x y : List ℕ) → Appends a b x → AppendsFront b c y → AppendsFront a c (x ++ y)
-appends_front a b c x y p q = (length x + q.0, subst (λ (l : List ℕ). Appends a c l) (sym (take_over x y q.0)) (appends_more a b c x (take q.0 y) p q.1))
+pub appends_prefix : (a b c : Option (List ℕ)) (x y : List ℕ) → Appends a b x → AppendsPrefix b c y → AppendsPrefix a c (x ++ y)
+appends_prefix a b c x y p q = (length x + q.0, subst (λ (l : List ℕ). Appends a c l) (sym (take_over x y q.0)) (appends_more a b c x (take q.0 y) p q.1))
 
 -- all of it is a prefix
-pub prefix_all : (a b : Option (List ℕ)) (x : List ℕ) → Appends a b x → AppendsFront a b x
+pub prefix_all : (a b : Option (List ℕ)) (x : List ℕ) → Appends a b x → AppendsPrefix a b x
 prefix_all a b x p = (length x, subst (λ (l : List ℕ). Appends a b l) (sym (take_all (length x) x (omega arith))) p)
 
 -- what is left, where the bytes are known

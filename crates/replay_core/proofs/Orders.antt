@@ -1,8 +1,7 @@
 -- A job that ran alone, as the job of its command.
-use Rattle.std.proofs.Common.{ℕ, ◌≤◌, List, [], ◌∷◌, ◌++◌, ◌≡◌, ◌∙◌, Bool, true, false, eqb, Ok, length, refl, ap, subst}
+use Rattle.std.proofs.Common.{ℕ, ◌≤◌, List, [], ◌∷◌, ◌++◌, ◌≡◌, ◌∙◌, Bool, true, false, Ok, length, refl, ap, subst}
 use Rattle.std.proofs.lemmas.Bool.{eqb-true}
 use Rattle.std.specs.Prelude.{nat_eq, ◌||◌}
-use Rattle.std.specs.List.{list_any}
 use Rattle.cluster.specs.declared.entry.Entry.{Entry}
 use Rattle.ledger_core.specs.Ledger.{History}
 use Rattle.commands.specs.declared.given.Given.{Given}

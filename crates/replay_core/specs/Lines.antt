@@ -1,7 +1,7 @@
 -- What doing one command does.
 use Rattle.std.specs.Prelude.{ℕ, ◌≡◌, ◌+◌, ◌⊎◌, List, [], Option, Err, drop, length}
 use Rattle.std.specs.Io.KnownBytes.{Appends}
-use Rattle.dra_ports.specs.Fronts.{AppendsFront}
+use Rattle.dra_ports.specs.Prefixes.{AppendsPrefix}
 use Rattle.dra_ports.specs.declared.error.PortError.{PortError}
 use Rattle.dra_ports.specs.declared.error.PortError.TheVariants as port
 use Rattle.doc_split.specs.declared.error.DocError.{DocError}
@@ -64,12 +64,12 @@ pub record MetPrinted (options : ReplayOptions) (c : Given) (old new : Work) (be
 -- a prefix of the command's lines is printed
 pub record RanShort (options : ReplayOptions) (c : Given) (old new : Work) (before after : Option (List ℕ)) : Type 0 where
   pub ran : RanNext options c old new
-  pub printed : AppendsFront before after (new_lines old.ledger new.ledger)
+  pub printed : AppendsPrefix before after (new_lines old.ledger new.ledger)
 
 pub record MetShort (options : ReplayOptions) (c : Given) (old new : Work) (before after : Option (List ℕ)) : Type 0 where
   pub count : ℕ
   pub met : MetNext options c old new count
-  pub printed : AppendsFront before after (new_lines old.ledger new.ledger)
+  pub printed : AppendsPrefix before after (new_lines old.ledger new.ledger)
 
 abbrev pub PrintedShort : ReplayOptions → Given → Work → Work → Option (List ℕ) → Option (List ℕ) → Type 0
 PrintedShort o c old new before after = RanShort o c old new before after ⊎ MetShort o c old new before after
@@ -90,8 +90,8 @@ abbrev pub Summarized : Work → Option (List ℕ) → Option (List ℕ) → Sta
 Summarized work before after status.Done = Appends before after (summary_of work.ledger.entries work.commands)
 Summarized work before after status.Usage = ⊥
 Summarized work before after (status.Document at why) = ⊥
-Summarized work before after status.Memory = AppendsFront before after (summary_of work.ledger.entries work.commands)
+Summarized work before after status.Memory = AppendsPrefix before after (summary_of work.ledger.entries work.commands)
 Summarized work before after status.Read = ⊥
-Summarized work before after status.Write = AppendsFront before after (summary_of work.ledger.entries work.commands)
+Summarized work before after status.Write = AppendsPrefix before after (summary_of work.ledger.entries work.commands)
 Summarized work before after (status.Limit count) = ⊥
 Summarized work before after (status.NotYet at form) = ⊥

@@ -1,7 +1,7 @@
 -- What a replay promises.
 use Rattle.std.specs.Prelude.{ℕ, ◌≡◌, ◌≤◌, ◌+◌, ◌⊎◌, List, [], ◌∷◌, ◌++◌, Option, Some, Err, length}
 use Rattle.std.specs.Io.KnownBytes.{Appends, Consumes}
-use Rattle.dra_ports.specs.Fronts.{AppendsFront}
+use Rattle.dra_ports.specs.Prefixes.{AppendsPrefix}
 use Rattle.cluster.specs.declared.entry.Entry.{Entry}
 use Rattle.ledger_core.specs.Legal.{Legal}
 use Rattle.journal_text.specs.Journal.{lines_from, text_of}
@@ -115,7 +115,7 @@ pub record IsText (options : ReplayOptions) (left : Option (List ℕ)) (text : L
 pub record EndsShort (options : ReplayOptions) (left before after : Option (List ℕ)) : Type 0 where
   pub text : List ℕ
   pub due : IsLines options left text ⊎ (IsPartLines options left text ⊎ IsText options left text)
-  pub written : AppendsFront before after text
+  pub written : AppendsPrefix before after text
 
 -- how a replay ends: what the script is, what was done of it, and what was written
 abbrev pub Ends : ReplayOptions → Option (List ℕ) → Option (List ℕ) → Option (List ℕ) → Option (List ℕ) → Status → Type 0

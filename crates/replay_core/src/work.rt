@@ -1,7 +1,7 @@
 ghost use Rattle.std.specs.Prelude.{◌≡◌, ◌≤◌, ◌<◌, IfErr, OnOk, OnErr, drop};
 ghost use Rattle.std.specs.Io.KnownBytes.{Appends};
 ghost use Rattle.dra_ports.specs.Causes.{HasCause, Rose};
-ghost use Rattle.dra_ports.specs.Fronts.{AppendsFront};
+ghost use Rattle.dra_ports.specs.Prefixes.{AppendsPrefix};
 ghost use Rattle.journal_text.specs.Journal.{lines_from};
 ghost use Rattle.replay_core.specs.Attempts.{AllMayTry, MayTry};
 ghost use Rattle.replay_core.specs.Lines.{output_status, Did, Stops, Summarized};
@@ -43,7 +43,7 @@ pub fn print_from<K: Sink>(
     output: &mut K,
 ) -> Result<(), PortError>
     ensures ok { OnOk result (Appends (K.written output.old) (K.written output.new) (lines_from from (drop from ledger.now.entries))) }
-    ensures short { OnErr result (AppendsFront (K.written output.old) (K.written output.new) (lines_from from (drop from ledger.now.entries))) }
+    ensures short { OnErr result (AppendsPrefix (K.written output.old) (K.written output.new) (lines_from from (drop from ledger.now.entries))) }
     ensures cause { HasCause (K.faults output.old) (K.faults output.new) result }
 {
     let text = lines(alloc, ledger.entries(), from)?;

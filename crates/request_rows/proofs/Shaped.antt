@@ -10,7 +10,7 @@ use Rattle.api_claim.specs.declared.types.AllocationMode.TheVariants.{ExactCount
 use Rattle.pool_view.specs.Pools.{Offered}
 use Rattle.request_rules.specs.Input.{SearchInput}
 use Rattle.request_rules.specs.Asked as rules
-use Rattle.request_rules.specs.Asked.{Asked, is_fault, match_at, matching, meets, seats, seats_by, slots_for, slots_of}
+use Rattle.request_rules.specs.Asked.{Asked, is_fault, match_at, matching, seats, seats_by, slots_for, slots_of}
 use Rattle.request_rules.specs.Lists.{Each}
 use Rattle.request_rules.specs.Problem as problem
 use Rattle.request_rows.specs.declared.choice.Seat.{Seat}
@@ -18,7 +18,7 @@ use Rattle.request_rows.specs.declared.choice.Shape.{Shape}
 use Rattle.request_rows.specs.declared.choice.Shape.TheVariants.{Faulty, Hopeless, Open}
 use Rattle.request_rows.specs.declared.choice.Slot.{Slot}
 use Rattle.request_rows.specs.declared.rows.Row.{Row}
-use Rattle.request_rows.specs.Chosen.{all_fails, count_by, due_of, due_with, fails_at, fails_by, faulty_at, is_crowded, is_faulty, seat_due, seats_counted, seats_repeated, shape_in, slot_of, slots_at, slots_by, slots_in}
+use Rattle.request_rows.specs.Chosen.{all_fails, due_of, due_with, fails_at, fails_by, faulty_at, is_crowded, is_faulty, seat_due, seats_counted, seats_repeated, slot_of, slots_at, slots_by, slots_in}
 use Rattle.request_rows.specs.Chosen as chosen
 use Rattle.request_rows.specs.Rows.{first_fault, row_for}
 use Rattle.request_rows.specs.Seen.{seat_seen, shape_seen, slot_seen}

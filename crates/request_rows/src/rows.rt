@@ -124,7 +124,7 @@ fn joined_name(alloc: Global, request: &Text, sub: &Text) -> Result<Text, AllocE
     ensures { IfOk result (λ name. name ≡ request.now ++ codes "/" ++ sub.now) }
 {
     let name = format!(in alloc; "{request}/{sub}")?;
-    Ok(Text::new(name))
+    Text::new(alloc, name)
 }
 
 fn row_of(alloc: Global, way: &Way, columns: &[Seq<Match>], row: usize) -> Result<Row, AllocError>

@@ -13,7 +13,7 @@ use Rattle.request_rules.specs.Lists.{each_after, Each, EachTwo, EachBoth}
 use Rattle.request_rules.specs.Asked.{Asked, Slot, matching, meets, repeated, seats, seats_by, seats_counted, slots_for, slots_of}
 use Rattle.request_rules.specs.Rules.{each_fills, fills, is_good, least_after, may_join, picks, seated}
 use Rattle.request_rules.specs.Allocation.{taken}
-use Rattle.request_rules.specs.Fronts.{picks-append, fills-append}
+use Rattle.request_rules.specs.Prefixes.{picks-append, fills-append}
 use Rattle.request_rules.proofs.Tests.{left_of, right_of, both, and_assoc, and_true, same_number}
 use Rattle.request_rules.proofs.Places.{each_after-push}
 

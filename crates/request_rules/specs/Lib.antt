@@ -3,7 +3,7 @@ pub mod Names
 pub mod Input
 pub mod Asked
 pub mod Rules
-pub mod Fronts
+pub mod Prefixes
 pub mod Problem
 pub mod Faults
 pub mod Allocation

@@ -36,7 +36,7 @@ pub fn walk_is_meant()
 }
 
 /// Each prefix of a good list is good, and one position more is good by the slot that it is for.
-pub fn fronts_are_good()
+pub fn prefixes_are_good()
     ensures none { (w : SearchInput) (c : List ℕ) → good w c [] ≡ true }
     ensures prefix { (w : SearchInput) (c l m : List ℕ) → good w c (l ++ m) ≡ true → good w c l ≡ true }
     ensures push { (w : SearchInput) (c l : List ℕ) (x : ℕ) (s : Slot) → slice_get (open_slots w c) (length l) ≡ Some s →

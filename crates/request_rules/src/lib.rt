@@ -7,6 +7,6 @@
 mod laws;
 
 pub use laws::{
-    allocations_hold_once, faults_are_first, fronts_are_good, grants_have_all_results,
+    allocations_hold_once, faults_are_first, prefixes_are_good, grants_have_all_results,
     joining_is_by_device, walk_is_meant,
 };

@@ -18,7 +18,7 @@ fn text_forms(alloc: Global, chars: &str) -> Result<String, AllocError> {
     let text = Text::from_str(alloc, chars)?;
     let copy = text.duplicate(alloc)?;
     let mut answer = format!(in alloc; "{copy:?} [{text:>8}] ")?;
-    answer.push_str(Text::new(text.into_string()).as_str())?;
+    answer.push_str(Text::new(alloc, String::from_str(alloc, text.as_str())?)?.as_str())?;
     Ok(answer)
 }
 

@@ -1,4 +1,4 @@
-use Rattle.std.proofs.Common.{◌≡◌, ◌+◌, ◌∙◌, ap, arith, length, sym}
+use Rattle.std.proofs.Common.{◌≡◌, ◌∙◌, ap, arith, length, sym}
 use Rattle.ckpt_journal.specs.Format.{body}
 use Rattle.ckpt_journal.proofs.Fits.{fits_from, full_when, room_when, spelled_is}
 use Rattle.ckpt_journal.proofs.spelling.spelled.Goals as goal

@@ -1,5 +1,5 @@
 use Rattle.std.proofs.Common.{◌≡◌, ◌+◌}
-use Rattle.std.specs.Prelude.{count_by, is_some}
+use Rattle.std.specs.Prelude.{count_by}
 use Rattle.journal_text.specs.Journal.{is_bound}
 use Rattle.journal_text.proofs.totals.bound_count.Given as goal
 

@@ -1,6 +1,5 @@
 use Rattle.std.proofs.Common.{◌≡◌, ◌+◌}
 use Rattle.std.specs.Prelude.{count_by, is_some}
-use Rattle.journal_text.specs.Journal.{is_bound}
 use Rattle.journal_text.proofs.totals.granted_count.Given as goal
 
 abbrev pub invariant-loop-claim : goal.invariant-loop-claim

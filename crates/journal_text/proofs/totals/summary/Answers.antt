@@ -1,4 +1,4 @@
-use Rattle.std.proofs.Common.{◌≡◌, ◌∙◌, append_assoc}
+use Rattle.std.proofs.Common.{append_assoc}
 use Rattle.journal_text.specs.Journal.{summary_by}
 use Rattle.journal_text.proofs.totals.summary.Goals as goal
 

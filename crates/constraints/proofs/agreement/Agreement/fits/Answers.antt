@@ -1,5 +1,4 @@
-use Rattle.std.proofs.Common.{◌≡◌, List, [], ◌∷◌, ◌++◌, sym, subst, ◌∙◌}
-use Rattle.constraints.specs.Keeping.{AgreementFields, IsOf}
+use Rattle.std.proofs.Common.{◌∙◌}
 use Rattle.constraints.proofs.Taken.{fits_taken}
 use Rattle.constraints.proofs.agreement.Agreement.fits.Goals as goal
 

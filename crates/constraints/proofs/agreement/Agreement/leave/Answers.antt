@@ -1,4 +1,4 @@
-use Rattle.std.proofs.Common.{◌≡◌, List, [], ◌∷◌, ◌++◌, sym, subst, ◌∙◌}
+use Rattle.std.proofs.Common.{sym, subst}
 use Rattle.constraints.specs.Keeping.{AgreementFields, IsOf}
 use Rattle.constraints.proofs.Taken.{leave_less}
 use Rattle.constraints.proofs.agreement.Agreement.leave.Goals as goal

@@ -1,4 +1,4 @@
-use Rattle.std.proofs.Common.{◌≡◌, List, [], ◌∷◌, ◌++◌, sym, subst, ◌∙◌}
+use Rattle.std.proofs.Common.{[], ◌∷◌, ◌++◌, sym, subst}
 use Rattle.constraints.specs.Keeping.{AgreementFields, IsOf}
 use Rattle.constraints.proofs.Taken.{take_more}
 use Rattle.constraints.proofs.agreement.Agreement.take.Goals as goal

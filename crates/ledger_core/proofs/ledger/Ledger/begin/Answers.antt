@@ -1,4 +1,4 @@
-use Rattle.std.proofs.Common.{◌≡◌, ◌∙◌, None, ap, refl, sym}
+use Rattle.std.proofs.Common.{◌≡◌, ◌∙◌, None, ap, sym}
 use Rattle.cluster.specs.declared.entry.Command.TheVariants.{Schedule}
 use Rattle.cluster.specs.declared.state.State.{State}
 use Rattle.cluster.specs.Denied.{first_refusal}
