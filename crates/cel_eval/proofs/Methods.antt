@@ -1,9 +1,9 @@
 -- The arms of the evaluation that take more than a step.
-use Rattle.std.proofs.Common.{◌≡◌, ℕ, ◌+◌, List, Bool, false, if◌then◌else◌, map, arith, ap, sym, ◌∙◌, subst}
-use Rattle.std.specs.Prelude.{Option, Some, Result, Ok, ◌||◌}
+use Rattle.std.proofs.Common.{◌≡◌, ◌≤◌, ℕ, ◌+◌, List, Bool, false, if◌then◌else◌, map, refl, arith, ap, sym, ◌∙◌, subst}
+use Rattle.std.specs.Prelude.{Option, Some, Result, Ok}
 use Rattle.cel_tree.specs.declared.tree.BinaryOp.{BinaryOp}
 use Rattle.cel_tree.specs.declared.tree.Tree.{Tree}
-use Rattle.cel_tree.specs.Ast.{Ast, Form, Binary, Index, Method, Asts, tree_view, asts_of}
+use Rattle.cel_tree.specs.Ast.{Ast, Form, Binary, Method, Asts, tree_view, asts_of}
 use Rattle.cel_tree.specs.Typing.{is_bind}
 use Rattle.cel_value.specs.declared.value.Value.{Value}
 use Rattle.cel_value.specs.declared.error.EvalError.{EvalError}
@@ -11,13 +11,12 @@ use Rattle.cel_value.specs.Device.{Device}
 use Rattle.cel_value.specs.Values.{◌>>=◌, Gives}
 use Rattle.cel_meaning.specs.declared.connective.Connective.{Connective}
 use Rattle.cel_meaning.specs.Folds.{tested, as_value, connective_of, joined}
-use Rattle.cel_meaning.specs.Steps.{behind, decides, unless_decided, weighed}
+use Rattle.cel_meaning.specs.Steps.{behind, unless_decided, weighed}
 use Rattle.cel_meaning.specs.Meaning.{Bindings, means, form_means, bind_means, operation}
 use Rattle.cel_meaning.specs.Cost.{cost, within, bind_steps, by_connective}
-use Rattle.cel_meaning.specs.Memory.{is_memory, with_memory}
 use Rattle.cel_eval.specs.Answers.{Counts}
-use Rattle.cel_eval.specs.Parts.{method_means, method_steps}
-use Rattle.cel_eval.proofs.Stops.{given, counted, not-memory, not-decided, join-means, join-count}
+use Rattle.cel_eval.specs.Parts.{connected_means, connected_steps, method_means, method_steps}
+use Rattle.cel_eval.proofs.Stops.{counts-after, connect-means, connect-counts, connect-rooms}
 
 pub method-means-is : (device : Device) (names : Bindings) (form : Form) (t : Ast) (word : List ℕ) (ts : Asts) (x : Value) →
     form ≡ Method t word ts → is_bind t word ≡ false → means device names t ≡ Ok x → form_means device names form ≡ method_means device names x word ts
@@ -51,43 +50,44 @@ method-room device names form t word word' ts ts' x e b m f a =
     method-steps-are device names form t word (asts_of (map tree_view ts)) x e b m
     ∙ (λ i. cost device names t + method_steps device names x (sym f i) (asts_of (map tree_view (sym a i))))
 
--- ---- an operation on two values after both
+-- ---- `&&` and `||` after the left side
 
-pub index-count : (device : Device) (names : Bindings) (form : Form) (t u t' u' : Ast) (x : Value) (old mid new : ℕ) → form ≡ Index t u → t' ≡ t → u' ≡ u →
-    means device names t' ≡ Ok x → mid ≡ old + 1 + cost device names t' → new ≡ mid + cost device names u' → new ≡ old + (1 + within device names form)
-index-count device names form t u t' u' x old mid new e f g m rose again =
-    let is : within device names form ≡ cost device names t' + cost device names u' =
-    ap (within device names) e
-    ∙ (λ i. cost device names (sym f i) + behind (means device names (sym f i)) (λ y. cost device names (sym g i)))
-    ∙ ap (λ (r : Result Value EvalError). cost device names t' + behind r (λ y. cost device names u')) m in
-    omega arith
-
--- ---- `&&` and `||` after a side that doesn't decide
-
-pub connect-arm : (device : Device) (names : Bindings) (form : Form) (o : BinaryOp) (t u t' u' : Ast) (c : Connective) (left right : Result Bool EvalError) (result : Result Value EvalError) →
-    form ≡ Binary o t u → connective_of o ≡ Some c → t' ≡ t → u' ≡ u → (is_memory left || decides c left) ≡ false →
-    Gives left (tested (means device names t')) → Gives right (tested (means device names u')) → result ≡ as_value (with_memory right (joined c left right)) →
-    Gives result (form_means device names form)
-connect-arm device names form o t u t' u' c left right result e found f g stop gl gr put =
+pub connect-arm : (device : Device) (names : Bindings) (form : Form) (o : BinaryOp) (t u t' u' : Ast) (c : Connective) (left : Result Bool EvalError) (result : Result Value EvalError) →
+    form ≡ Binary o t u → connective_of o ≡ Some c → t' ≡ t → u' ≡ u →
+    Gives left (tested (means device names t')) → Gives result (connected_means device names c left u') → Gives result (form_means device names form)
+connect-arm device names form o t u t' u' c left result e found f g gl gr =
     let is : form_means device names form ≡ as_value (joined c (tested (means device names t')) (tested (means device names u'))) =
     ap (form_means device names) e
     ∙ (λ i. operation device (connective_of o) o (means device names (sym f i)) (means device names (sym g i)))
     ∙ ap (λ (k : Option Connective). operation device k o (means device names t') (means device names u')) found in
     subst (λ (r : Result Value EvalError). Gives result r) (sym is)
-    (join-means c left right (tested (means device names t')) (tested (means device names u')) result stop gl gr put)
+    (connect-means c left (tested (means device names t')) (tested (means device names u')) result gl gr)
 
-pub connect-count : (device : Device) (names : Bindings) (form : Form) (o : BinaryOp) (t u t' u' : Ast) (c : Connective) (left right : Result Bool EvalError) (result : Result Value EvalError) (old mid new : ℕ) →
-    form ≡ Binary o t u → connective_of o ≡ Some c → t' ≡ t → u' ≡ u → (is_memory left || decides c left) ≡ false →
-    Gives left (tested (means device names t')) → Counts left (old + 1) mid (cost device names t') → Counts right mid new (cost device names u') →
-    result ≡ as_value (with_memory right (joined c left right)) → Counts result old new (1 + within device names form)
-connect-count device names form o t u t' u' c left right result old mid new e found f g stop gl cl cr put =
-    let m : is_memory left ≡ false = not-memory (is_memory left) (decides c left) stop in
-    let d : decides c (tested (means device names t')) ≡ false = ap (decides c) (given left (tested (means device names t')) m gl) ∙ not-decided (is_memory left) (decides c left) stop in
-    let is : within device names form ≡ cost device names t' + cost device names u' =
+connect-within : (device : Device) (names : Bindings) (form : Form) (o : BinaryOp) (t u t' u' : Ast) (c : Connective) →
+    form ≡ Binary o t u → connective_of o ≡ Some c → t' ≡ t → u' ≡ u →
+    within device names form ≡ cost device names t' + unless_decided c (tested (means device names t')) (cost device names u')
+connect-within device names form o t u t' u' c e found f g =
     ap (within device names) e
     ∙ (λ i. cost device names (sym f i) + by_connective (connective_of o) (λ k. unless_decided k (tested (means device names (sym f i))) (cost device names (sym g i))) (behind (means device names (sym f i)) (λ x. cost device names (sym g i)) + weighed o (means device names (sym f i)) (means device names (sym g i))))
     ∙ ap (λ (q : Option Connective). cost device names t' + by_connective q (λ k. unless_decided k (tested (means device names t')) (cost device names u')) (behind (means device names t') (λ x. cost device names u') + weighed o (means device names t') (means device names u'))) found
-    ∙ ap (λ (b : Bool). cost device names t' + (if b then 0 else cost device names u')) d in
-    let rose : mid ≡ old + 1 + cost device names t' = counted left (old + 1) mid (cost device names t') m cl in
-    subst (λ (r : Result Value EvalError). Counts r old new (1 + within device names form)) (sym put)
-    (join-count c left right old mid new (1 + cost device names t') (cost device names u') (1 + within device names form) (omega arith) (omega arith) cr)
+
+pub connect-count : (device : Device) (names : Bindings) (form : Form) (o : BinaryOp) (t u t' u' : Ast) (c : Connective) (left : Result Bool EvalError) (result : Result Value EvalError) (old mid new : ℕ) →
+    form ≡ Binary o t u → connective_of o ≡ Some c → t' ≡ t → u' ≡ u →
+    Gives left (tested (means device names t')) → Counts left (old + 1) mid (cost device names t') →
+    Gives result (connected_means device names c left u') → Counts result mid new (connected_steps device names c left u') →
+    Counts result old new (1 + within device names form)
+connect-count device names form o t u t' u' c left result old mid new e found f g gl cl gr cr =
+    let is : within device names form ≡ cost device names t' + unless_decided c (tested (means device names t')) (cost device names u') =
+    connect-within device names form o t u t' u' c e found f g in
+    counts-after result old (old + 1) new 1 (cost device names t' + unless_decided c (tested (means device names t')) (cost device names u')) (1 + within device names form) refl (omega (arith, is))
+    (connect-counts c left (tested (means device names t')) (tested (means device names u')) result (old + 1) mid new (cost device names t') (cost device names u') gl cl gr cr)
+
+pub connect-room : (device : Device) (names : Bindings) (form : Form) (o : BinaryOp) (t u t' u' : Ast) (c : Connective) (left : Result Bool EvalError) (old mid : ℕ) →
+    form ≡ Binary o t u → connective_of o ≡ Some c → t' ≡ t → u' ≡ u →
+    Gives left (tested (means device names t')) → Counts left (old + 1) mid (cost device names t') →
+    mid + connected_steps device names c left u' ≤ old + (1 + within device names form)
+connect-room device names form o t u t' u' c left old mid e found f g gl cl =
+    let is : within device names form ≡ cost device names t' + unless_decided c (tested (means device names t')) (cost device names u') =
+    connect-within device names form o t u t' u' c e found f g in
+    let room = connect-rooms c left (tested (means device names t')) (old + 1) mid (cost device names t') (cost device names u') gl cl in
+    omega (arith, is, room)

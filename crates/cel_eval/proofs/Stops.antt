@@ -1,5 +1,5 @@
 -- Results and counts of an evaluation that may run out of memory.
-use Rattle.std.proofs.Common.{◌≡◌, ℕ, ◌+◌, ◌≤◌, Bool, true, false, refl, sym, ap, subst, arith}
+use Rattle.std.proofs.Common.{◌≡◌, ℕ, ◌+◌, ◌≤◌, Bool, true, false, if◌then◌else◌, refl, sym, ap, subst, arith}
 use Rattle.std.specs.Prelude.{Result, Ok, Err, ◌||◌}
 use Rattle.cel_value.specs.declared.value.Value.{Value}
 use Rattle.cel_value.specs.declared.error.EvalError.{EvalError}
@@ -7,7 +7,7 @@ use Rattle.cel_value.specs.declared.error.EvalError.TheVariants.{NoKey, NoOverlo
 use Rattle.cel_value.specs.Values.{◌>>=◌, UnlessMemory, Gives}
 use Rattle.cel_meaning.specs.declared.connective.Connective.{Connective}
 use Rattle.cel_meaning.specs.Folds.{as_value, joined}
-use Rattle.cel_meaning.specs.Steps.{behind, decides}
+use Rattle.cel_meaning.specs.Steps.{behind, decides, unless_decided}
 use Rattle.cel_meaning.specs.Memory.{is_memory, with_memory}
 use Rattle.cel_eval.specs.Answers.{Counts, RoseBy}
 
@@ -30,7 +30,7 @@ rose-by OutOfRange old new steps h = h
 rose-by BadConversion old new steps h = h
 rose-by Memory old new steps h = (omega (arith, h), omega (arith, h))
 
-pub counts-are : {A : Type 0} (r : Result A EvalError) (old new steps : ℕ) → new ≡ old + steps → Counts r old new steps
+counts-are : {A : Type 0} (r : Result A EvalError) (old new steps : ℕ) → new ≡ old + steps → Counts r old new steps
 counts-are (Ok x) old new steps h = h
 counts-are (Err e) old new steps h = rose-by e old new steps h
 
@@ -70,35 +70,6 @@ not-memory true b h = h
 pub not-decided : (a b : Bool) → (a || b) ≡ false → b ≡ false
 not-decided false b h = h
 not-decided true b h = absurd (cc)
-
--- ---- `&&` and `||`
-
-join-right : (c : Connective) (left right m : Result Bool EvalError) → Gives right m → Gives (as_value (with_memory right (joined c left right))) (as_value (joined c left m))
-join-right c left (Ok b) m g = gives-equal _ _ (ap (λ (n : Result Bool EvalError). as_value (joined c left n)) g)
-join-right c left (Err NoKey) m g = gives-equal _ _ (ap (λ (n : Result Bool EvalError). as_value (joined c left n)) g)
-join-right c left (Err NoOverload) m g = gives-equal _ _ (ap (λ (n : Result Bool EvalError). as_value (joined c left n)) g)
-join-right c left (Err Overflow) m g = gives-equal _ _ (ap (λ (n : Result Bool EvalError). as_value (joined c left n)) g)
-join-right c left (Err DivByZero) m g = gives-equal _ _ (ap (λ (n : Result Bool EvalError). as_value (joined c left n)) g)
-join-right c left (Err OutOfRange) m g = gives-equal _ _ (ap (λ (n : Result Bool EvalError). as_value (joined c left n)) g)
-join-right c left (Err BadConversion) m g = gives-equal _ _ (ap (λ (n : Result Bool EvalError). as_value (joined c left n)) g)
-join-right c left (Err Memory) m g = tt
-
-pub join-means : (c : Connective) (left right l r : Result Bool EvalError) (result : Result Value EvalError) → (is_memory left || decides c left) ≡ false →
-    Gives left l → Gives right r → result ≡ as_value (with_memory right (joined c left right)) → Gives result (as_value (joined c l r))
-join-means c left right l r result stop g h e =
-    let m : l ≡ left = given left l (not-memory (is_memory left) (decides c left) stop) g in
-    rw (e, m) (join-right c left right r h)
-
-pub join-count : (c : Connective) (left right : Result Bool EvalError) (old mid new j k total : ℕ) → mid ≡ old + j → total ≡ j + k → Counts right mid new k →
-    Counts (as_value (with_memory right (joined c left right))) old new total
-join-count c left (Ok b) old mid new j k total e f h = counts-are _ old new total (omega (arith, h))
-join-count c left (Err NoKey) old mid new j k total e f h = counts-are _ old new total (omega (arith, h))
-join-count c left (Err NoOverload) old mid new j k total e f h = counts-are _ old new total (omega (arith, h))
-join-count c left (Err Overflow) old mid new j k total e f h = counts-are _ old new total (omega (arith, h))
-join-count c left (Err DivByZero) old mid new j k total e f h = counts-are _ old new total (omega (arith, h))
-join-count c left (Err OutOfRange) old mid new j k total e f h = counts-are _ old new total (omega (arith, h))
-join-count c left (Err BadConversion) old mid new j k total e f h = counts-are _ old new total (omega (arith, h))
-join-count c left (Err Memory) old mid new j k total e f h = (omega (arith, e, h.0), omega (arith, e, f, h.1))
 
 -- ---- on after a value, or an error
 
@@ -151,3 +122,100 @@ counts-from (Err Memory) start old new k total least e h = (omega (arith, least,
 -- memory ran out somewhere between
 pub counts-between : (A : Type 0) (start new k total : ℕ) → start ≤ new → new + k ≡ start + total → Counts (failed A Memory) start new total
 counts-between A start new k total least e = (least, omega (arith, e))
+
+-- ---- `&&` and `||` after a side
+
+join-right : (c : Connective) (left right m : Result Bool EvalError) → Gives right m → Gives (as_value (with_memory right (joined c left right))) (as_value (joined c left m))
+join-right c left (Ok b) m g = gives-equal _ _ (ap (λ (n : Result Bool EvalError). as_value (joined c left n)) g)
+join-right c left (Err NoKey) m g = gives-equal _ _ (ap (λ (n : Result Bool EvalError). as_value (joined c left n)) g)
+join-right c left (Err NoOverload) m g = gives-equal _ _ (ap (λ (n : Result Bool EvalError). as_value (joined c left n)) g)
+join-right c left (Err Overflow) m g = gives-equal _ _ (ap (λ (n : Result Bool EvalError). as_value (joined c left n)) g)
+join-right c left (Err DivByZero) m g = gives-equal _ _ (ap (λ (n : Result Bool EvalError). as_value (joined c left n)) g)
+join-right c left (Err OutOfRange) m g = gives-equal _ _ (ap (λ (n : Result Bool EvalError). as_value (joined c left n)) g)
+join-right c left (Err BadConversion) m g = gives-equal _ _ (ap (λ (n : Result Bool EvalError). as_value (joined c left n)) g)
+join-right c left (Err Memory) m g = tt
+
+without-memory : (left m : Result Bool EvalError) → is_memory left ≡ false → with_memory left m ≡ m
+without-memory (Ok b) m h = refl
+without-memory (Err NoKey) m h = refl
+without-memory (Err NoOverload) m h = refl
+without-memory (Err Overflow) m h = refl
+without-memory (Err DivByZero) m h = refl
+without-memory (Err OutOfRange) m h = refl
+without-memory (Err BadConversion) m h = refl
+without-memory (Err Memory) m h = absurd (cc)
+
+pub join-means : (c : Connective) (left right r : Result Bool EvalError) (result : Result Value EvalError) → (is_memory left || decides c left) ≡ false →
+    Gives right r → result ≡ as_value (with_memory right (joined c left right)) → Gives result (as_value (with_memory left (joined c left r)))
+join-means c left right r result stop h e =
+    rw (e, without-memory left (joined c left r) (not-memory (is_memory left) (decides c left) stop)) (join-right c left right r h)
+
+count-right : (c : Connective) (left right : Result Bool EvalError) (old new k : ℕ) → Counts right old new k → Counts (as_value (with_memory right (joined c left right))) old new k
+count-right c left (Ok b) old new k h = counts-are _ old new k h
+count-right c left (Err NoKey) old new k h = counts-are _ old new k h
+count-right c left (Err NoOverload) old new k h = counts-are _ old new k h
+count-right c left (Err Overflow) old new k h = counts-are _ old new k h
+count-right c left (Err DivByZero) old new k h = counts-are _ old new k h
+count-right c left (Err OutOfRange) old new k h = counts-are _ old new k h
+count-right c left (Err BadConversion) old new k h = counts-are _ old new k h
+count-right c left (Err Memory) old new k h = h
+
+pub join-count : (c : Connective) (left right : Result Bool EvalError) (result : Result Value EvalError) (old new k : ℕ) → (is_memory left || decides c left) ≡ false →
+    Counts right old new k → result ≡ as_value (with_memory right (joined c left right)) → Counts result old new (if is_memory left || decides c left then 0 else k)
+join-count c left right result old new k stop h e = rw (e, stop) (count-right c left right old new k h)
+
+-- a left side that is out of memory, and so the whole
+out-of-memory : (result m : Result Value EvalError) → Gives result (Err Memory) → Gives result m
+out-of-memory (Ok x) m g = absurd (cc)
+out-of-memory (Err NoKey) m g = absurd (cc)
+out-of-memory (Err NoOverload) m g = absurd (cc)
+out-of-memory (Err Overflow) m g = absurd (cc)
+out-of-memory (Err DivByZero) m g = absurd (cc)
+out-of-memory (Err OutOfRange) m g = absurd (cc)
+out-of-memory (Err BadConversion) m g = absurd (cc)
+out-of-memory (Err Memory) m g = tt
+
+out-of-memory-count : (result : Result Value EvalError) (old mid new j k : ℕ) → old ≤ mid → mid ≤ old + j → Gives result (Err Memory) → Counts result mid new 0 → Counts result old new (j + k)
+out-of-memory-count (Ok x) old mid new j k least most g h = absurd (cc)
+out-of-memory-count (Err NoKey) old mid new j k least most g h = absurd (cc)
+out-of-memory-count (Err NoOverload) old mid new j k least most g h = absurd (cc)
+out-of-memory-count (Err Overflow) old mid new j k least most g h = absurd (cc)
+out-of-memory-count (Err DivByZero) old mid new j k least most g h = absurd (cc)
+out-of-memory-count (Err OutOfRange) old mid new j k least most g h = absurd (cc)
+out-of-memory-count (Err BadConversion) old mid new j k least most g h = absurd (cc)
+out-of-memory-count (Err Memory) old mid new j k least most g h = (omega (arith, least, h.0), omega (arith, most, h.1))
+
+-- what is returned after a left side is what the whole means
+pub connect-means : (c : Connective) (left l m : Result Bool EvalError) (result : Result Value EvalError) → Gives left l →
+    Gives result (as_value (with_memory left (joined c left m))) → Gives result (as_value (joined c l m))
+connect-means c (Ok b) l m result g h = rw g h
+connect-means c (Err NoKey) l m result g h = rw g h
+connect-means c (Err NoOverload) l m result g h = rw g h
+connect-means c (Err Overflow) l m result g h = rw g h
+connect-means c (Err DivByZero) l m result g h = rw g h
+connect-means c (Err OutOfRange) l m result g h = rw g h
+connect-means c (Err BadConversion) l m result g h = rw g h
+connect-means c (Err Memory) l m result g h = out-of-memory result (as_value (joined c l m)) h
+
+pub connect-counts : (c : Connective) (left l m : Result Bool EvalError) (result : Result Value EvalError) (old mid new j n : ℕ) → Gives left l → Counts left old mid j →
+    Gives result (as_value (with_memory left (joined c left m))) → Counts result mid new (if is_memory left || decides c left then 0 else n) →
+    Counts result old new (j + unless_decided c l n)
+connect-counts c (Ok b) l m result old mid new j n g h gr hr = rw g (counts-after result old mid new j _ _ h refl hr)
+connect-counts c (Err NoKey) l m result old mid new j n g h gr hr = rw g (counts-after result old mid new j _ _ h refl hr)
+connect-counts c (Err NoOverload) l m result old mid new j n g h gr hr = rw g (counts-after result old mid new j _ _ h refl hr)
+connect-counts c (Err Overflow) l m result old mid new j n g h gr hr = rw g (counts-after result old mid new j _ _ h refl hr)
+connect-counts c (Err DivByZero) l m result old mid new j n g h gr hr = rw g (counts-after result old mid new j _ _ h refl hr)
+connect-counts c (Err OutOfRange) l m result old mid new j n g h gr hr = rw g (counts-after result old mid new j _ _ h refl hr)
+connect-counts c (Err BadConversion) l m result old mid new j n g h gr hr = rw g (counts-after result old mid new j _ _ h refl hr)
+connect-counts c (Err Memory) l m result old mid new j n g h gr hr = out-of-memory-count result old mid new j (unless_decided c l n) h.0 h.1 gr hr
+
+pub connect-rooms : (c : Connective) (left l : Result Bool EvalError) (old mid j n : ℕ) → Gives left l → Counts left old mid j →
+    mid + (if is_memory left || decides c left then 0 else n) ≤ old + (j + unless_decided c l n)
+connect-rooms c (Ok b) l old mid j n g h = rw g (omega (arith, h))
+connect-rooms c (Err NoKey) l old mid j n g h = rw g (omega (arith, h))
+connect-rooms c (Err NoOverload) l old mid j n g h = rw g (omega (arith, h))
+connect-rooms c (Err Overflow) l old mid j n g h = rw g (omega (arith, h))
+connect-rooms c (Err DivByZero) l old mid j n g h = rw g (omega (arith, h))
+connect-rooms c (Err OutOfRange) l old mid j n g h = rw g (omega (arith, h))
+connect-rooms c (Err BadConversion) l old mid j n g h = rw g (omega (arith, h))
+connect-rooms c (Err Memory) l old mid j n g h = omega (arith, h.1)

@@ -1,11 +1,11 @@
 ghost use Rattle.std.specs.Prelude.{◌≡◌, ◌<◌, ◌+◌, ◌^◌, [], ◌∷◌, length, map};
-ghost use Rattle.cel_tree.specs.Ast.{Call, tree_view, entry_view, asts_of, entries_of};
+ghost use Rattle.cel_tree.specs.Ast.{Unary, Member, Call, tree_view, entry_view, asts_of, entries_of};
 ghost use Rattle.cel_value.specs.Values.{Gives};
 ghost use Rattle.cel_meaning.specs.Folds.{tested, as_single, as_key, holds, folded, gathered, list_value, comprehended};
 ghost use Rattle.cel_meaning.specs.Steps.{folded_steps, gathered_steps, comprehended_steps};
 ghost use Rattle.cel_meaning.specs.Meaning.{means, form_means, bound_to, each, items_of, entries_of as table_of, has_means, comprehension_means, bind_means};
 ghost use Rattle.cel_meaning.specs.Cost.{cost, within, each_steps, items_steps, entries_steps, has_steps, comprehension_steps, bind_steps};
-ghost use Rattle.cel_eval.specs.Parts.{method_means, method_steps, body, turn, bodies, all_turns, needed, maker, maker_steps};
+ghost use Rattle.cel_eval.specs.Parts.{connected_means, connected_steps, combined_means, combined_steps, indexed_means, method_means, method_steps, body, turn, bodies, all_turns, needed, maker, maker_steps};
 ghost use Rattle.cel_eval.specs.Answers.{bindings, Counts};
 
 use crate::making::Making;
@@ -14,8 +14,8 @@ use crate::scope::Scope;
 use crate::steps::{Steps, weighed, weights};
 use cel_meaning::{Connective, connective_of};
 use cel_tree::{
-    Called, Comprehension, Entry, Kind, Tree, called_of, is_bind, nodes_have_their_lists,
-    variable_of,
+    BinaryOp, Called, Comprehension, Entry, Kind, Tree, UnaryOp, called_of, is_bind,
+    nodes_have_their_lists, variable_of,
 };
 use cel_value::{
     DeviceEnv, EvalError, Key, Single, Value, binary, constant, device_member, elements, has,
@@ -43,67 +43,154 @@ pub fn value_of<'x>(
     match &tree.kind {
         Kind::Literal(literal) => constant(alloc, literal),
         Kind::Ident(name) => scope.value_of(alloc, name.as_str()),
-        Kind::Unary(op, operand) => {
-            let operand = value_of(alloc, device, operand, scope, steps)?;
-            unary(*op, &operand)
-        }
+        Kind::Unary(op, operand) => unary_of(alloc, device, *op, operand, scope, steps),
         Kind::Binary(op, left, right) => match connective_of(*op) {
             Some(connective) => {
                 let left = truth_of(alloc, device, left, scope, steps);
-                if connective.stops(left) {
-                    return truth_value(left);
-                }
-                let right = truth_of(alloc, device, right, scope, steps);
-                truth_value(connective.join(left, right))
+                connected(alloc, device, connective, left, right, scope, steps)
             }
             None => {
                 let left = value_of(alloc, device, left, scope, steps)?;
-                let right = value_of(alloc, device, right, scope, steps)?;
-                steps.count += weighed(*op, &left, &right);
-                binary(alloc, device, *op, &left, &right)
+                combined(alloc, device, *op, &left, right, scope, steps)
             }
         },
         Kind::Conditional(test, then, otherwise) => {
-            if truth_of(alloc, device, test, scope, steps)? {
-                value_of(alloc, device, then, scope, steps)
-            } else {
-                value_of(alloc, device, otherwise, scope, steps)
-            }
+            let holds = truth_of(alloc, device, test, scope, steps)?;
+            let branch = if holds { then } else { otherwise };
+            value_of(alloc, device, branch, scope, steps)
         }
-        Kind::Member(object, name) => {
-            if scope.is_device(object) {
-                steps.count += 1;
-                return device_member(alloc, device, name.as_str());
-            }
-            let object = value_of(alloc, device, object, scope, steps)?;
-            member(alloc, device, &object, name.as_str())
-        }
+        Kind::Member(object, name) => member_of(alloc, device, object, name.as_str(), scope, steps),
         Kind::Index(object, place) => {
             let object = value_of(alloc, device, object, scope, steps)?;
-            let place = value_of(alloc, device, place, scope, steps)?;
-            index(alloc, device, &object, &place)
+            indexed(alloc, device, &object, place, scope, steps)
         }
         Kind::Call(function, arguments) => {
             call(alloc, device, function.as_str(), arguments, scope, steps)
         }
         Kind::Method(object, function, arguments) => {
-            if is_bind(object, function.as_str()) {
+            let name = function.as_str();
+            if is_bind(object, name) {
                 return bind(alloc, device, arguments, scope, steps);
             }
             let object = value_of(alloc, device, object, scope, steps)?;
-            method(
-                alloc,
-                device,
-                &object,
-                function.as_str(),
-                arguments,
-                scope,
-                steps,
-            )
+            method(alloc, device, &object, name, arguments, scope, steps)
         }
         Kind::List(items) => list_value(items_of(alloc, device, items, scope, steps)),
         Kind::Map(entries) => map_value(table_of(alloc, device, entries, scope, steps)),
     }
+}
+
+/// `!operand` or `-operand`, beside the node's own step.
+#[cycle(evaluate)]
+fn unary_of<'x>(
+    alloc: Global,
+    device: &'x DeviceEnv,
+    op: UnaryOp,
+    operand: &'x Tree,
+    scope: &'x Scope<'x>,
+    steps: &mut Steps,
+) -> Result<Value, EvalError>
+    requires { steps.old.count + cost device.now (bindings scope.now) (tree_view operand.now) < 2 ^ 64 }
+    ensures means { Gives result
+        (form_means device.now (bindings scope.now) (Unary op (tree_view operand.now))) }
+    ensures counts { Counts result steps.old.count steps.new.count
+        (cost device.now (bindings scope.now) (tree_view operand.now)) }
+{
+    let operand = value_of(alloc, device, operand, scope, steps)?;
+    unary(op, &operand)
+}
+
+/// `left && right` or `left || right`, after its left side.
+#[cycle(evaluate)]
+fn connected<'x>(
+    alloc: Global,
+    device: &'x DeviceEnv,
+    connective: Connective,
+    left: Result<bool, EvalError>,
+    right: &'x Tree,
+    scope: &'x Scope<'x>,
+    steps: &mut Steps,
+) -> Result<Value, EvalError>
+    requires { steps.old.count
+        + connected_steps device.now (bindings scope.now) connective left (tree_view right.now) < 2 ^ 64 }
+    ensures means { Gives result
+        (connected_means device.now (bindings scope.now) connective left (tree_view right.now)) }
+    ensures counts { Counts result steps.old.count steps.new.count
+        (connected_steps device.now (bindings scope.now) connective left (tree_view right.now)) }
+{
+    if connective.stops(left) {
+        return truth_value(left);
+    }
+    let right = truth_of(alloc, device, right, scope, steps);
+    truth_value(connective.join(left, right))
+}
+
+/// Another operation of two operands, after its left one.
+#[cycle(evaluate)]
+fn combined<'x>(
+    alloc: Global,
+    device: &'x DeviceEnv,
+    op: BinaryOp,
+    left: &Value,
+    right: &'x Tree,
+    scope: &'x Scope<'x>,
+    steps: &mut Steps,
+) -> Result<Value, EvalError>
+    requires { steps.old.count
+        + combined_steps device.now (bindings scope.now) op left.now (tree_view right.now) < 2 ^ 64 }
+    ensures means { Gives result
+        (combined_means device.now (bindings scope.now) op left.now (tree_view right.now)) }
+    ensures counts { Counts result steps.old.count steps.new.count
+        (combined_steps device.now (bindings scope.now) op left.now (tree_view right.now)) }
+{
+    let right = value_of(alloc, device, right, scope, steps)?;
+    steps.count += weighed(op, left, &right);
+    binary(alloc, device, op, left, &right)
+}
+
+/// `object.name`, beside the node's own step.
+#[cycle(evaluate)]
+fn member_of<'x>(
+    alloc: Global,
+    device: &'x DeviceEnv,
+    object: &'x Tree,
+    name: &str,
+    scope: &'x Scope<'x>,
+    steps: &mut Steps,
+) -> Result<Value, EvalError>
+    requires { steps.old.count
+        + within device.now (bindings scope.now) (Member (tree_view object.now) name.now) < 2 ^ 64 }
+    ensures means { Gives result
+        (form_means device.now (bindings scope.now) (Member (tree_view object.now) name.now)) }
+    ensures counts { Counts result steps.old.count steps.new.count
+        (within device.now (bindings scope.now) (Member (tree_view object.now) name.now)) }
+{
+    if scope.is_device(object) {
+        steps.count += 1;
+        return device_member(alloc, device, name);
+    }
+    let object = value_of(alloc, device, object, scope, steps)?;
+    member(alloc, device, &object, name)
+}
+
+/// `object[place]`, after its object.
+#[cycle(evaluate)]
+fn indexed<'x>(
+    alloc: Global,
+    device: &'x DeviceEnv,
+    object: &Value,
+    place: &'x Tree,
+    scope: &'x Scope<'x>,
+    steps: &mut Steps,
+) -> Result<Value, EvalError>
+    requires { steps.old.count + cost device.now (bindings scope.now) (tree_view place.now) < 2 ^ 64 }
+    ensures means { Gives result
+        (indexed_means device.now (bindings scope.now) object.now (tree_view place.now)) }
+    ensures counts { Counts result steps.old.count steps.new.count
+        (cost device.now (bindings scope.now) (tree_view place.now)) }
+{
+    let place = value_of(alloc, device, place, scope, steps)?;
+    index(alloc, device, object, &place)
 }
 
 /// What a test, or a side of `&&` or `||`, means.

@@ -9,16 +9,16 @@ use Rattle.cel_tree.specs.Typing.{is_bind}
 use Rattle.cel_value.specs.declared.value.Key.{Key}
 use Rattle.cel_value.specs.declared.value.Single.{Single}
 use Rattle.cel_value.specs.declared.value.Value.{Value}
-use Rattle.cel_meaning.specs.Folds.{holds, as_value}
+use Rattle.cel_meaning.specs.Folds.{tested, holds, as_value}
 use Rattle.cel_meaning.specs.Meaning.{means}
 use Rattle.cel_meaning.specs.Cost.{cost}
 use Rattle.cel_eval.specs.Parts.{body, turn, bodies, all_turns, maker, maker_steps}
 use Rattle.cel_eval.specs.Answers.{bindings}
-use Rattle.cel_eval.proofs.Stops.{counts-are, gives-behind, counts-behind, counts-after, counts-between}
+use Rattle.cel_eval.proofs.Stops.{gives-behind, counts-behind, counts-after, counts-between, join-means, join-count}
 use Rattle.cel_eval.proofs.Fronts.{items-step, items-count, items-stop, values-count, values-step, values-stop, entries-step, entries-count, key-stop, value-stop, made-count, made-stop}
 use Rattle.cel_eval.proofs.Folding.{fold-step, fold-count, fold-least, fold-stop}
 use Rattle.cel_eval.proofs.Bodies.{has-other, has-other-steps, has-no_member, has-no_member-steps, bind-other, bind-other-steps, bind-is, bind-steps-are, with-name, with-name-steps, no-bodies, no-turns, neither, not-two, gives-value, gives-one, counts-one, one-body, filter-is, filter-steps, one-is, one-steps, map-is, map-steps, both-is, both-are}
-use Rattle.cel_eval.proofs.Methods.{method-arm, method-room, index-count, connect-arm, connect-count}
+use Rattle.cel_eval.proofs.Methods.{method-arm, method-room, connect-arm, connect-count, connect-room}
 use Rattle.cel_eval.proofs.evaluate.+evaluate.Goals as goal
 
 pub comprehension-returns-clause-means : goal.comprehension-returns-clause-means
@@ -75,46 +75,55 @@ table_of-loop-at-preserved t c = record {
   counts = entries-count c.args.device.now (bindings c.args.scope.now) c.args.entries.now c.loop-at.at c.index-entries-at.result c.in_ok-key.key c.in_ok-value.value c.loop-at.steps.count c.key_of.new.steps.count c.single_of.new.steps.count _ c.index-entries-at.is c.loop-at-test.true c.in_ok-key.ensures.means c.in_ok-value.ensures.means c.in_ok-key.ensures.counts c.in_ok-value.ensures.counts c.loop-at.invariant.counts;
 }
 
-pub value_of-returns-in_ok-place-in-Index-clause-counts : goal.value_of-returns-in_ok-place-in-Index-clause-counts
-value_of-returns-in_ok-place-in-Index-clause-counts t c = counts-are c.index.result _ _ _
-    (index-count c.args.device.now (bindings c.args.scope.now) (kind_view c.args.tree.now.kind) (tree_view c.in-Index.object.value) (tree_view c.in-Index.place.value) (tree_view c.deref-in-Index.result.now) (tree_view c.deref-in-Index-2.result.now) c.in_ok-object-in-Index.object c.args.steps.now.count c.value_of-in-Index.new.steps.count c.value_of-in-Index-2.new.steps.count
-    (ap kind_view c.in-Index.is) (ap tree_view c.deref-in-Index.ensures) (ap tree_view c.deref-in-Index-2.ensures) c.in_ok-object-in-Index.ensures.means c.in_ok-object-in-Index.ensures.counts c.in_ok-place-in-Index.ensures.counts)
-
 pub value_of-returns-in_ok-object-in-Method-clause-means : goal.value_of-returns-in_ok-object-in-Method-clause-means
-value_of-returns-in_ok-object-in-Method-clause-means t c = method-arm c.args.device.now (bindings c.args.scope.now) (kind_view c.args.tree.now.kind) (tree_view c.in-Method.object.value) c.in-Method.function c.as_str-in-Method-2.result.now c.in-Method.arguments.items c.deref-in-Method-3.result.now c.in_ok-object-in-Method.object c.method.result
+value_of-returns-in_ok-object-in-Method-clause-means t c = method-arm c.args.device.now (bindings c.args.scope.now) (kind_view c.args.tree.now.kind) (tree_view c.in-Method.object.value) c.in-Method.function c.as_str-name.result.now c.in-Method.arguments.items c.deref-in-Method-3.result.now c.in_ok-object-in-Method.object c.method.result
     (ap kind_view c.in-Method.is ∙ c.nodes_have_their_lists.ensures.method c.in-Method.object c.in-Method.function c.in-Method.arguments)
-    (ap (λ (u : Tree). is_bind (tree_view u) c.in-Method.function) (sym c.deref-in-Method.ensures) ∙ ap (is_bind (tree_view c.deref-in-Method.result.now)) (sym c.as_str-in-Method.ensures) ∙ sym c.if-is_bind.ensures)
+    (ap (λ (u : Tree). is_bind (tree_view u) c.in-Method.function) (sym c.deref-in-Method.ensures) ∙ ap (is_bind (tree_view c.deref-in-Method.result.now)) (sym c.as_str-name.ensures) ∙ sym c.if-is_bind.ensures)
     (ap (λ (u : Tree). means c.args.device.now (bindings c.args.scope.now) (tree_view u)) (sym c.deref-in-Method-2.ensures) ∙ c.in_ok-object-in-Method.ensures.means)
-    c.as_str-in-Method-2.ensures c.deref-in-Method-3.ensures.value
+    c.as_str-name.ensures c.deref-in-Method-3.ensures.value
     c.method.ensures.means
 
 pub value_of-returns-in_ok-object-in-Method-clause-counts : goal.value_of-returns-in_ok-object-in-Method-clause-counts
 value_of-returns-in_ok-object-in-Method-clause-counts t c =
-    let room = method-room c.args.device.now (bindings c.args.scope.now) (kind_view c.args.tree.now.kind) (tree_view c.in-Method.object.value) c.in-Method.function c.as_str-in-Method-2.result.now c.in-Method.arguments.items c.deref-in-Method-3.result.now c.in_ok-object-in-Method.object
+    let room = method-room c.args.device.now (bindings c.args.scope.now) (kind_view c.args.tree.now.kind) (tree_view c.in-Method.object.value) c.in-Method.function c.as_str-name.result.now c.in-Method.arguments.items c.deref-in-Method-3.result.now c.in_ok-object-in-Method.object
     (ap kind_view c.in-Method.is ∙ c.nodes_have_their_lists.ensures.method c.in-Method.object c.in-Method.function c.in-Method.arguments)
-    (ap (λ (u : Tree). is_bind (tree_view u) c.in-Method.function) (sym c.deref-in-Method.ensures) ∙ ap (is_bind (tree_view c.deref-in-Method.result.now)) (sym c.as_str-in-Method.ensures) ∙ sym c.if-is_bind.ensures)
+    (ap (λ (u : Tree). is_bind (tree_view u) c.in-Method.function) (sym c.deref-in-Method.ensures) ∙ ap (is_bind (tree_view c.deref-in-Method.result.now)) (sym c.as_str-name.ensures) ∙ sym c.if-is_bind.ensures)
     (ap (λ (u : Tree). means c.args.device.now (bindings c.args.scope.now) (tree_view u)) (sym c.deref-in-Method-2.ensures) ∙ c.in_ok-object-in-Method.ensures.means)
-    c.as_str-in-Method-2.ensures c.deref-in-Method-3.ensures.value in
+    c.as_str-name.ensures c.deref-in-Method-3.ensures.value in
     let rose = (c.in_ok-object-in-Method.ensures.counts ∙ ap (λ (u : Tree). c.args.steps.now.count + 1 + cost c.args.device.now (bindings c.args.scope.now) (tree_view u)) c.deref-in-Method-2.ensures) in
     counts-after c.method.result c.args.steps.now.count c.value_of-in-Method.new.steps.count c.method.new.steps.count (1 + cost c.args.device.now (bindings c.args.scope.now) (tree_view c.in-Method.object.value)) _ _ (omega (arith, rose)) (omega (arith, room)) c.method.ensures.counts
 
 pub value_of-method-requires : goal.value_of-method-requires
 value_of-method-requires t c =
-    let room = method-room c.args.device.now (bindings c.args.scope.now) (kind_view c.args.tree.now.kind) (tree_view c.in-Method.object.value) c.in-Method.function c.as_str-in-Method-2.result.now c.in-Method.arguments.items c.deref-in-Method-3.result.now c.in_ok-object-in-Method.object
+    let room = method-room c.args.device.now (bindings c.args.scope.now) (kind_view c.args.tree.now.kind) (tree_view c.in-Method.object.value) c.in-Method.function c.as_str-name.result.now c.in-Method.arguments.items c.deref-in-Method-3.result.now c.in_ok-object-in-Method.object
     (ap kind_view c.in-Method.is ∙ c.nodes_have_their_lists.ensures.method c.in-Method.object c.in-Method.function c.in-Method.arguments)
-    (ap (λ (u : Tree). is_bind (tree_view u) c.in-Method.function) (sym c.deref-in-Method.ensures) ∙ ap (is_bind (tree_view c.deref-in-Method.result.now)) (sym c.as_str-in-Method.ensures) ∙ sym c.if-is_bind.ensures)
+    (ap (λ (u : Tree). is_bind (tree_view u) c.in-Method.function) (sym c.deref-in-Method.ensures) ∙ ap (is_bind (tree_view c.deref-in-Method.result.now)) (sym c.as_str-name.ensures) ∙ sym c.if-is_bind.ensures)
     (ap (λ (u : Tree). means c.args.device.now (bindings c.args.scope.now) (tree_view u)) (sym c.deref-in-Method-2.ensures) ∙ c.in_ok-object-in-Method.ensures.means)
-    c.as_str-in-Method-2.ensures c.deref-in-Method-3.ensures.value in
+    c.as_str-name.ensures c.deref-in-Method-3.ensures.value in
     let rose = (c.in_ok-object-in-Method.ensures.counts ∙ ap (λ (u : Tree). c.args.steps.now.count + 1 + cost c.args.device.now (bindings c.args.scope.now) (tree_view u)) c.deref-in-Method-2.ensures) in
     (search (rules, the_lemmas, c.decreases, c.in-Method.is, c.deref-in-Method-3.ensures.value), omega (arith, c.requires, room, rose))
 
-pub value_of-returns-else-stops-clause-means : goal.value_of-returns-else-stops-clause-means
-value_of-returns-else-stops-clause-means t c = connect-arm c.args.device.now (bindings c.args.scope.now) (kind_view c.args.tree.now.kind) c.in-Binary.op (tree_view c.in-Binary.left.value) (tree_view c.in-Binary.right.value) (tree_view c.deref-in-Some.result.now) (tree_view c.deref-in-Some-2.result.now) c.in-Some.connective c.truth_of-left.result c.truth_of-right.result c.truth_value-in-Some.result
-    (ap kind_view c.in-Binary.is) (sym c.connective_of.ensures ∙ c.in-Some.is) (ap tree_view c.deref-in-Some.ensures) (ap tree_view c.deref-in-Some-2.ensures) (sym c.stops.ensures ∙ c.if-stops.false) c.truth_of-left.ensures.means c.truth_of-right.ensures.means (c.truth_value-in-Some.ensures ∙ ap as_value c.join.ensures)
+pub connected-returns-clause-means : goal.connected-returns-clause-means
+connected-returns-clause-means t c = join-means c.args.connective c.args.left c.truth_of-right.result (tested (means c.args.device.now (bindings c.args.scope.now) (tree_view c.args.right.now))) c.truth_value-2.result
+    (sym c.stops.ensures ∙ c.if-stops.false) c.truth_of-right.ensures.means (c.truth_value-2.ensures ∙ ap as_value c.join.ensures)
 
-pub value_of-returns-else-stops-clause-counts : goal.value_of-returns-else-stops-clause-counts
-value_of-returns-else-stops-clause-counts t c = connect-count c.args.device.now (bindings c.args.scope.now) (kind_view c.args.tree.now.kind) c.in-Binary.op (tree_view c.in-Binary.left.value) (tree_view c.in-Binary.right.value) (tree_view c.deref-in-Some.result.now) (tree_view c.deref-in-Some-2.result.now) c.in-Some.connective c.truth_of-left.result c.truth_of-right.result c.truth_value-in-Some.result c.args.steps.now.count c.truth_of-left.new.steps.count c.truth_of-right.new.steps.count
-    (ap kind_view c.in-Binary.is) (sym c.connective_of.ensures ∙ c.in-Some.is) (ap tree_view c.deref-in-Some.ensures) (ap tree_view c.deref-in-Some-2.ensures) (sym c.stops.ensures ∙ c.if-stops.false) c.truth_of-left.ensures.means c.truth_of-left.ensures.counts c.truth_of-right.ensures.counts (c.truth_value-in-Some.ensures ∙ ap as_value c.join.ensures)
+pub connected-returns-clause-counts : goal.connected-returns-clause-counts
+connected-returns-clause-counts t c = join-count c.args.connective c.args.left c.truth_of-right.result c.truth_value-2.result c.args.steps.now.count c.truth_of-right.new.steps.count (cost c.args.device.now (bindings c.args.scope.now) (tree_view c.args.right.now))
+    (sym c.stops.ensures ∙ c.if-stops.false) c.truth_of-right.ensures.counts (c.truth_value-2.ensures ∙ ap as_value c.join.ensures)
+
+pub value_of-returns-in-Some-clause-means : goal.value_of-returns-in-Some-clause-means
+value_of-returns-in-Some-clause-means t c = connect-arm c.args.device.now (bindings c.args.scope.now) (kind_view c.args.tree.now.kind) c.in-Binary.op (tree_view c.in-Binary.left.value) (tree_view c.in-Binary.right.value) (tree_view c.deref-in-Some.result.now) (tree_view c.deref-in-Some-2.result.now) c.in-Some.connective c.truth_of-left.result c.connected.result
+    (ap kind_view c.in-Binary.is) (sym c.connective_of.ensures ∙ c.in-Some.is) (ap tree_view c.deref-in-Some.ensures) (ap tree_view c.deref-in-Some-2.ensures) c.truth_of-left.ensures.means c.connected.ensures.means
+
+pub value_of-returns-in-Some-clause-counts : goal.value_of-returns-in-Some-clause-counts
+value_of-returns-in-Some-clause-counts t c = connect-count c.args.device.now (bindings c.args.scope.now) (kind_view c.args.tree.now.kind) c.in-Binary.op (tree_view c.in-Binary.left.value) (tree_view c.in-Binary.right.value) (tree_view c.deref-in-Some.result.now) (tree_view c.deref-in-Some-2.result.now) c.in-Some.connective c.truth_of-left.result c.connected.result c.args.steps.now.count c.truth_of-left.new.steps.count c.connected.new.steps.count
+    (ap kind_view c.in-Binary.is) (sym c.connective_of.ensures ∙ c.in-Some.is) (ap tree_view c.deref-in-Some.ensures) (ap tree_view c.deref-in-Some-2.ensures) c.truth_of-left.ensures.means c.truth_of-left.ensures.counts c.connected.ensures.means c.connected.ensures.counts
+
+pub value_of-connected-requires : goal.value_of-connected-requires
+value_of-connected-requires t c =
+    let room = connect-room c.args.device.now (bindings c.args.scope.now) (kind_view c.args.tree.now.kind) c.in-Binary.op (tree_view c.in-Binary.left.value) (tree_view c.in-Binary.right.value) (tree_view c.deref-in-Some.result.now) (tree_view c.deref-in-Some-2.result.now) c.in-Some.connective c.truth_of-left.result c.args.steps.now.count c.truth_of-left.new.steps.count
+    (ap kind_view c.in-Binary.is) (sym c.connective_of.ensures ∙ c.in-Some.is) (ap tree_view c.deref-in-Some.ensures) (ap tree_view c.deref-in-Some-2.ensures) c.truth_of-left.ensures.means c.truth_of-left.ensures.counts in
+    (search (rules, the_lemmas, c.decreases, c.in-Binary.is, c.deref-in-Some-2.ensures), omega (arith, c.requires, room))
 
 pub with_one-list-requires : goal.with_one-list-requires
 with_one-list-requires t c = (search rules, (omega (arith, c.requires.1.1.0), omega (arith, c.requires.1.1.1, filter-steps c.args.device.now (bindings c.args.scope.now) c.args.name.now c.args.arguments.now c.args.elements.now c.args.form c.in-Filter.is c.requires.1.1.0)))
