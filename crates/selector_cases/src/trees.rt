@@ -1,7 +1,7 @@
 use crate::input::{CaseError, push_quoted, text};
 use crate::selectors::push_parse_error;
 use cel_parse::{ParseError, parse};
-use cel_tree::{BinaryOp, Kind, Literal, Span, Tree, UnaryOp};
+use cel_tree::{BinaryOp, Entry, Kind, Literal, Span, Tree, UnaryOp};
 use serde_json::Value;
 use std::alloc::{AllocError, Global};
 
@@ -78,6 +78,106 @@ fn push_place(spans: bool, span: Span, out: &mut String) -> Result<(), AllocErro
     }
 }
 
+/// The tree with brackets around each node with operands.
+#[cycle(show)]
+fn show(alloc: Global, tree: &Tree, spans: bool, out: &mut String) -> Result<(), AllocError> {
+    match &tree.kind {
+        Kind::Literal(literal) => push_literal(alloc, literal, out)?,
+        Kind::Ident(name) => out.push_str(name.as_str())?,
+        Kind::Unary(op, operand) => {
+            out.push_str(prefix(*op))?;
+            show_before(alloc, operand, ")", spans, out)?;
+        }
+        Kind::Binary(op, left, right) => {
+            out.push('(')?;
+            show_before(alloc, left, operator(*op), spans, out)?;
+            show_before(alloc, right, ")", spans, out)?;
+        }
+        Kind::Conditional(test, then, otherwise) => {
+            out.push('(')?;
+            show_before(alloc, test, " ? ", spans, out)?;
+            show_before(alloc, then, " : ", spans, out)?;
+            show_before(alloc, otherwise, ")", spans, out)?;
+        }
+        Kind::Member(object, name) => {
+            show_before(alloc, object, ".", spans, out)?;
+            out.push_str(name.as_str())?;
+        }
+        Kind::Index(object, index) => {
+            show_before(alloc, object, "[", spans, out)?;
+            show_before(alloc, index, "]", spans, out)?;
+        }
+        Kind::Call(function, arguments) => {
+            show_call(alloc, function.as_str(), arguments, spans, out)?;
+        }
+        Kind::Method(object, function, arguments) => {
+            show_before(alloc, object, ".", spans, out)?;
+            show_call(alloc, function.as_str(), arguments, spans, out)?;
+        }
+        Kind::List(items) => show_list(alloc, items, spans, out)?,
+        Kind::Map(entries) => show_map(alloc, entries, spans, out)?,
+    }
+    push_place(spans, tree.span, out)
+}
+
+/// The tree, and the text after it.
+#[cycle(show)]
+fn show_before(
+    alloc: Global,
+    tree: &Tree,
+    after: &str,
+    spans: bool,
+    out: &mut String,
+) -> Result<(), AllocError> {
+    show(alloc, tree, spans, out)?;
+    out.push_str(after)
+}
+
+/// `function(arguments)`
+#[cycle(show)]
+fn show_call(
+    alloc: Global,
+    function: &str,
+    arguments: &[Tree],
+    spans: bool,
+    out: &mut String,
+) -> Result<(), AllocError> {
+    out.push_str(function)?;
+    out.push('(')?;
+    show_all(alloc, arguments, spans, out)?;
+    out.push(')')
+}
+
+/// `[item, item]`
+#[cycle(show)]
+fn show_list(
+    alloc: Global,
+    items: &[Tree],
+    spans: bool,
+    out: &mut String,
+) -> Result<(), AllocError> {
+    out.push('[')?;
+    show_all(alloc, items, spans, out)?;
+    out.push(']')
+}
+
+/// `{key: value;key: value;}`
+#[cycle(show)]
+fn show_map(
+    alloc: Global,
+    entries: &[Entry],
+    spans: bool,
+    out: &mut String,
+) -> Result<(), AllocError> {
+    out.push('{')?;
+    for entry in entries {
+        show_before(alloc, &entry.key, ": ", spans, out)?;
+        show_before(alloc, &entry.value, ";", spans, out)?;
+    }
+    out.push('}')
+}
+
+/// Trees with commas between them.
 #[cycle(show)]
 fn show_all(
     alloc: Global,
@@ -94,71 +194,4 @@ fn show_all(
         show(alloc, tree, spans, out)?;
     }
     Ok(())
-}
-
-/// The tree with brackets around each node with operands.
-#[cycle(show)]
-fn show(alloc: Global, tree: &Tree, spans: bool, out: &mut String) -> Result<(), AllocError> {
-    match &tree.kind {
-        Kind::Literal(literal) => push_literal(alloc, literal, out)?,
-        Kind::Ident(name) => out.push_str(name.as_str())?,
-        Kind::Unary(op, operand) => {
-            out.push_str(prefix(*op))?;
-            show(alloc, operand, spans, out)?;
-            out.push(')')?;
-        }
-        Kind::Binary(op, left, right) => {
-            out.push('(')?;
-            show(alloc, left, spans, out)?;
-            out.push_str(operator(*op))?;
-            show(alloc, right, spans, out)?;
-            out.push(')')?;
-        }
-        Kind::Conditional(test, then, otherwise) => {
-            out.push('(')?;
-            show(alloc, test, spans, out)?;
-            out.push_str(" ? ")?;
-            show(alloc, then, spans, out)?;
-            out.push_str(" : ")?;
-            show(alloc, otherwise, spans, out)?;
-            out.push(')')?;
-        }
-        Kind::Member(object, name) => {
-            show(alloc, object, spans, out)?;
-            write!(out, ".{name}")?;
-        }
-        Kind::Index(object, index) => {
-            show(alloc, object, spans, out)?;
-            out.push('[')?;
-            show(alloc, index, spans, out)?;
-            out.push(']')?;
-        }
-        Kind::Call(function, arguments) => {
-            write!(out, "{function}(")?;
-            show_all(alloc, arguments, spans, out)?;
-            out.push(')')?;
-        }
-        Kind::Method(object, function, arguments) => {
-            show(alloc, object, spans, out)?;
-            write!(out, ".{function}(")?;
-            show_all(alloc, arguments, spans, out)?;
-            out.push(')')?;
-        }
-        Kind::List(items) => {
-            out.push('[')?;
-            show_all(alloc, items, spans, out)?;
-            out.push(']')?;
-        }
-        Kind::Map(entries) => {
-            out.push('{')?;
-            for entry in entries {
-                show(alloc, &entry.key, spans, out)?;
-                out.push_str(": ")?;
-                show(alloc, &entry.value, spans, out)?;
-                out.push(';')?;
-            }
-            out.push('}')?;
-        }
-    }
-    push_place(spans, tree.span, out)
 }
