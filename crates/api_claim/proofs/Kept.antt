@@ -10,6 +10,7 @@ use Rattle.serde_json.specs.Find.{as_array}
 use Rattle.object_fields.specs.Fields.{dns_label_at, error_at, field_at, field_error, if_there, items_length, list_at, member_of, name_in, natural_at, natural_between, object_at, object_value, optional_at, short_list_at, some_or, text_at, unless, whole_at, ◌>>=◌}
 use Rattle.object_fields.specs.Lists.{each, each_at, each_beside, each_from, each_in}
 use Rattle.object_fields.specs.Names.{is_dns_label, label_most}
+use Rattle.object_fields.specs.NewNames.{is_among}
 use Rattle.object_fields.specs.Selectors.{selector_at, selectors_at, selectors_most}
 use Rattle.object_fields.specs.declared.error.FieldError.{FieldError}
 use Rattle.object_fields.specs.declared.kind.FieldErrorKind.TheVariants.{Doubled, Missing, NotOne, OutOfRange, TooMany, WrongType}
@@ -17,7 +18,7 @@ use Rattle.object_fields.specs.declared.path.Step.{Step}
 use Rattle.object_fields.specs.declared.path.Step.TheVariants.{Member, Place}
 use Rattle.api_claim.specs.Asks.{admin_at, all_at, ask_at, asked_at, count_at, count_most, exactly_at, exactly_in, first_available_at, left_out_at, mode_at, mode_with, subrequest_in}
 use Rattle.api_claim.specs.Limits.{AreDistinct, AreNames, AskKept, CountKept, EachOf, KindKept, RequestsKept, SubrequestsKept}
-use Rattle.api_claim.specs.Lists.{has_items, has_some, has_text, is_no_empty_list, new_name_at, passes, some_items, some_items_at}
+use Rattle.api_claim.specs.Lists.{has_items, has_some, is_no_empty_list, new_name_at, passes, some_items, some_items_at}
 use Rattle.api_claim.specs.Requests.{has_one_kind, kind_of, kind_with, kinds_in, request_name_at, request_of, requests_in, requests_most, subrequest_name_at, subrequest_names_at, subrequest_of, subrequests_most}
 use Rattle.api_claim.specs.declared.asks.Asked.{Asked}
 use Rattle.api_claim.specs.declared.asks.Asked.TheVariants as asked
@@ -34,17 +35,17 @@ or_false : (a b : Bool) → (a || b) ≡ false → (a ≡ false) × (b ≡ false
 or_false true b h = cc
 or_false false b h = (refl, h)
 
-distinct_more : (xs : List (List ℕ)) (x : List ℕ) → AreDistinct xs → has_text x xs ≡ false → AreDistinct (xs ++ x ∷ [])
+distinct_more : (xs : List (List ℕ)) (x : List ℕ) → AreDistinct xs → is_among x xs ≡ false → AreDistinct (xs ++ x ∷ [])
 distinct_more [] x h n = (tt, tt)
 distinct_more (y ∷ ys) x h n =
-    let o = or_false (bytes_eq y x) (has_text x ys) n in
+    let o = or_false (bytes_eq y x) (is_among x ys) n in
     (each_more (λ u. bytes_eq y u ≡ false) ys x h.0 o.0, distinct_more ys x h.1 o.1)
 
-names_more : (xs : List (List ℕ)) (x : List ℕ) → AreNames xs → is_dns_label x ≡ true → has_text x xs ≡ false → AreNames (xs ++ x ∷ [])
+names_more : (xs : List (List ℕ)) (x : List ℕ) → AreNames xs → is_dns_label x ≡ true → is_among x xs ≡ false → AreNames (xs ++ x ∷ [])
 names_more xs x h l n =
     record { labels = each_more (λ name. is_dns_label name ≡ true) xs x h.labels l; distinct = distinct_more xs x h.distinct n }
 
-pub names_from : (r : List Step → List (List ℕ) → Data → Result (List ℕ) FieldError) (new : (path : List Step) (before : List (List ℕ)) (d : Data) (name : List ℕ) → r path before d ≡ Ok name → (is_dns_label name ≡ true) × (has_text name before ≡ false)) (path : List Step) (place : ℕ) (before all : List (List ℕ)) (ds : Items) → AreNames before → each_from r path place before ds ≡ Ok all → AreNames all × (length all ≡ length before + items_length ds)
+pub names_from : (r : List Step → List (List ℕ) → Data → Result (List ℕ) FieldError) (new : (path : List Step) (before : List (List ℕ)) (d : Data) (name : List ℕ) → r path before d ≡ Ok name → (is_dns_label name ≡ true) × (is_among name before ≡ false)) (path : List Step) (place : ℕ) (before all : List (List ℕ)) (ds : Items) → AreNames before → each_from r path place before ds ≡ Ok all → AreNames all × (length all ≡ length before + items_length ds)
 names_from r new path place before all no_items n h =
     let e : before ≡ all = cc in (subst AreNames e n, omega (arith, ap length e))
 names_from r new path place before all (item d ds) n h =
@@ -59,25 +60,25 @@ two_tests true right e1 e2 t a h = cc
 two_tests false true e1 e2 t a h = (refl, cc)
 two_tests false false e1 e2 t a h = cc
 
-new_name : (path : List Step) (before : List (List ℕ)) (d : Data) (name : List ℕ) → new_name_at path before d ≡ Ok name → (is_dns_label name ≡ true) × (has_text name before ≡ false)
+new_name : (path : List Step) (before : List (List ℕ)) (d : Data) (name : List ℕ) → new_name_at path before d ≡ Ok name → (is_dns_label name ≡ true) × (is_among name before ≡ false)
 new_name path before d name h =
-    let s = then_ok (dns_label_at path (codes "name") d) (λ n. unless (field_error path (codes "name") Doubled) (has_text n before) n) name h in
-    let u = unless_ok (field_error path (codes "name") Doubled) (has_text s.0 before) s.0 name s.1.1 in
+    let s = then_ok (dns_label_at path (codes "name") d) (λ n. unless (field_error path (codes "name") Doubled) (is_among n before) n) name h in
+    let u = unless_ok (field_error path (codes "name") Doubled) (is_among s.0 before) s.0 name s.1.1 in
     let t = then_ok (text_at path (codes "name") d) (name_in (path ++ Member (codes "name") ∷ []) label_most is_dns_label) s.0 s.1.0 in
     let j = two_tests (nat_lt label_most (length t.0)) (is_dns_label t.0) _ _ t.0 s.0 t.1.1 in
     let label : is_dns_label name ≡ true = ap is_dns_label (sym u.1) ∙ ap is_dns_label (sym j.1) ∙ j.0 in
-    let fresh : has_text name before ≡ false = ap (λ n. has_text n before) (sym u.1) ∙ u.0 in
+    let fresh : is_among name before ≡ false = ap (λ n. is_among n before) (sym u.1) ∙ u.0 in
     (label, fresh)
 
-pub request_name : (path : List Step) (before : List (List ℕ)) (d : Data) (name : List ℕ) → request_name_at path before d ≡ Ok name → (is_dns_label name ≡ true) × (has_text name before ≡ false)
+pub request_name : (path : List Step) (before : List (List ℕ)) (d : Data) (name : List ℕ) → request_name_at path before d ≡ Ok name → (is_dns_label name ≡ true) × (is_among name before ≡ false)
 request_name path before d name h =
     let s = then_ok (object_value path d) (λ request. new_name_at path before request >>= λ n. unless (error_at path NotOne) (not (has_one_kind request)) n) name h in
     let t = then_ok (new_name_at path before s.0) (λ n. unless (error_at path NotOne) (not (has_one_kind s.0)) n) name s.1.1 in
     let u = unless_ok (error_at path NotOne) (not (has_one_kind s.0)) t.0 name t.1.1 in
-    let P : List ℕ → Type 0 = λ n. (is_dns_label n ≡ true) × (has_text n before ≡ false) in
+    let P : List ℕ → Type 0 = λ n. (is_dns_label n ≡ true) × (is_among n before ≡ false) in
     subst P u.1 (new_name path before s.0 t.0 t.1.0)
 
-subrequest_name : (path : List Step) (before : List (List ℕ)) (d : Data) (name : List ℕ) → subrequest_name_at path before d ≡ Ok name → (is_dns_label name ≡ true) × (has_text name before ≡ false)
+subrequest_name : (path : List Step) (before : List (List ℕ)) (d : Data) (name : List ℕ) → subrequest_name_at path before d ≡ Ok name → (is_dns_label name ≡ true) × (is_among name before ≡ false)
 subrequest_name path before d name h =
     let s = then_ok (object_value path d) (new_name_at path before) name h in
     new_name path before s.0 name s.1.1

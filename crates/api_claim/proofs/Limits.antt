@@ -7,7 +7,8 @@ use Rattle.object_fields.specs.Lists.{each, each_in}
 use Rattle.object_fields.specs.Limits.{MetaKept}
 use Rattle.object_fields.specs.Meta.{meta_at}
 use Rattle.object_fields.specs.Names.{is_dns_name}
-use Rattle.object_fields.specs.Qualified.{cut_at, domain_and_id, domain_most, id_most, is_c_identifier}
+use Rattle.object_fields.specs.NewNames.{is_among}
+use Rattle.object_fields.specs.Qualified.{IsFullName, cut_at, domain_and_id, domain_most, id_most, is_c_identifier}
 use Rattle.object_fields.specs.declared.error.FieldError.{FieldError}
 use Rattle.object_fields.specs.declared.kind.FieldErrorKind.TheVariants.{BadName, TooLong, Unknown}
 use Rattle.object_fields.specs.declared.meta.ObjectMeta.{ObjectMeta}
@@ -18,8 +19,8 @@ use Rattle.object_fields.specs.declared.path.Step.TheVariants.{Member}
 use Rattle.object_fields.specs.declared.qualified.QualName.{QualName}
 use Rattle.api_claim.specs.Claims.{claim_of, constraints_over, devices_at, devices_in, devices_with}
 use Rattle.api_claim.specs.Constraints.{attribute_at, constraint_at, constraints_at, constraints_most, full_name_from, full_name_in, known_at, known_requests_at}
-use Rattle.api_claim.specs.Limits.{ClaimKept, ConstraintKept, ConstraintsKept, IsFullName, RequestsKept, StatusKept}
-use Rattle.api_claim.specs.Lists.{has_text, some_items_at}
+use Rattle.api_claim.specs.Limits.{ClaimKept, ConstraintKept, ConstraintsKept, RequestsKept, StatusKept}
+use Rattle.api_claim.specs.Lists.{some_items_at}
 use Rattle.api_claim.specs.Requests.{all_names, requests_at, requests_in, requests_most}
 use Rattle.api_claim.specs.Status.{allocation_at, allocation_in, members_at, node_at, result_at, results_at, results_most, status_at, status_of}
 use Rattle.api_claim.specs.declared.claim.Devices.{Devices}
@@ -38,11 +39,11 @@ not_false : (b : Bool) → not b ≡ false → b ≡ true
 not_false true h = refl
 not_false false h = cc
 
-known_kept : (names : List (List ℕ)) (path : List Step) (d : Data) (t : List ℕ) → known_at names path d ≡ Ok t → has_text t names ≡ true
+known_kept : (names : List (List ℕ)) (path : List Step) (d : Data) (t : List ℕ) → known_at names path d ≡ Ok t → is_among t names ≡ true
 known_kept names path d t h =
-    let s = then_ok (text_value path d) (λ x. unless (error_at path Unknown) (not (has_text x names)) x) t h in
-    let u = unless_ok (error_at path Unknown) (not (has_text s.0 names)) s.0 t s.1.1 in
-    ap (λ x. has_text x names) (sym u.1) ∙ not_false (has_text s.0 names) u.0
+    let s = then_ok (text_value path d) (λ x. unless (error_at path Unknown) (not (is_among x names)) x) t h in
+    let u = unless_ok (error_at path Unknown) (not (is_among s.0 names)) s.0 t s.1.1 in
+    ap (λ x. is_among x names) (sym u.1) ∙ not_false (is_among s.0 names) u.0
 
 or_false : (a b : Bool) → (a || b) ≡ false → (a ≡ false) × (b ≡ false)
 or_false true b h = cc
@@ -63,7 +64,7 @@ full_name path domain id name h =
     let t = name_by (nat_lt domain_most (length domain) || nat_lt id_most (length id)) (is_dns_name domain && is_c_identifier id) (error_at path TooLong) (error_at path BadName) made name h in
     let o = or_false (nat_lt domain_most (length domain)) (nat_lt id_most (length id)) t.0 in
     let a = and_true (is_dns_name domain) (is_c_identifier id) t.1.0 in
-    let kept : IsFullName made = record { domain_length = ltb-false domain_most (length domain) o.0; id_length = ltb-false id_most (length id) o.1; domain = a.0; id = a.1 } in
+    let kept : IsFullName made = record { domain = ltb-false domain_most (length domain) o.0; domain_form = a.0; id = ltb-false id_most (length id) o.1; id_form = a.1 } in
     subst IsFullName t.1.1 kept
 
 full_name_of : (path : List Step) (o : Option (List ℕ × List ℕ)) (name : QualName) → full_name_from path o ≡ Ok name → IsFullName name
@@ -82,7 +83,7 @@ constraint_kept names path d c h =
     let r = then_ok (optional_at list_at path (codes "requests") s.0) (each_in (known_at names) (path ++ Member (codes "requests") ∷ [])) u.0 u.1.0 in
     let a = then_ok (text_at path (codes "matchAttribute") s.0) (full_name_in (path ++ Member (codes "matchAttribute") ∷ [])) v.0 v.1.0 in
     let kept : ConstraintKept names made = record {
-      requests = each_in_each (λ t. has_text t names ≡ true) (known_at names) (known_kept names) (path ++ Member (codes "requests") ∷ []) r.0 u.0 r.1.1;
+      requests = each_in_each (λ t. is_among t names ≡ true) (known_at names) (known_kept names) (path ++ Member (codes "requests") ∷ []) r.0 u.0 r.1.1;
       attribute = full_name_of (path ++ Member (codes "matchAttribute") ∷ []) (cut_at 47 a.0) v.0 a.1.1;
     } in
     subst (ConstraintKept names) {x = made} is kept

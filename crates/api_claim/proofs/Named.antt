@@ -6,7 +6,7 @@ use Rattle.std.specs.List.{zip}
 use Rattle.serde_json.specs.Data.{Data, null, boolean, number, string, array, object, Items, no_items, item, Members}
 use Rattle.serde_json.specs.Find.{as_array, as_object}
 use Rattle.object_fields.specs.Fields.{dns_label_at, error_at, field_at, field_error, items_length, list_at, member_of, object_at, object_value, short_list_at, some_or, table_at, unless, ◌>>=◌}
-use Rattle.object_fields.specs.Lists.{each_beside}
+use Rattle.object_fields.specs.Lists.{each_beside, items_or_none}
 use Rattle.object_fields.specs.Meta.{meta_at}
 use Rattle.object_fields.specs.NewNames.{IsNewNameReading, IsTakenName, doubled_at, is_among, label_of, named, names_in}
 use Rattle.object_fields.specs.declared.error.FieldError.{FieldError}
@@ -15,8 +15,8 @@ use Rattle.object_fields.specs.declared.meta.Scope.TheVariants.{Namespaced}
 use Rattle.object_fields.specs.declared.path.Step.{Step}
 use Rattle.object_fields.specs.declared.path.Step.TheVariants.{Member}
 use Rattle.api_claim.specs.Claims.{claim_of, constraints_over, devices_at, devices_in, devices_with}
-use Rattle.api_claim.specs.Documents.{items_or_none, listed_requests, request_label}
-use Rattle.api_claim.specs.Lists.{has_text, new_name_at, some_items, some_items_at}
+use Rattle.api_claim.specs.Documents.{listed_requests, request_label}
+use Rattle.api_claim.specs.Lists.{new_name_at, some_items, some_items_at}
 use Rattle.api_claim.specs.Requests.{has_one_kind, kinds_in, request_name_at, request_of, requests_at, requests_in, requests_most, subrequest_name_at}
 use Rattle.api_claim.specs.declared.claim.Devices.{Devices}
 use Rattle.api_claim.specs.declared.types.DeviceRequest.{DeviceRequest}
@@ -49,25 +49,25 @@ one_after (Err e) f g = refl
 
 new_given : Labels → (path : List Step) (before : List (List ℕ)) (d : Data) (name : List ℕ) → new_name_at path before d ≡ Ok name → named d ≡ Some name
 new_given law path before d name h =
-    let s = then_ok (dns_label_at path (codes "name") d) (λ n. unless (doubled_at path) (has_text n before) n) name h in
-    let u = unless_ok (doubled_at path) (has_text s.0 before) s.0 name s.1.1 in
+    let s = then_ok (dns_label_at path (codes "name") d) (λ n. unless (doubled_at path) (is_among n before) n) name h in
+    let u = unless_ok (doubled_at path) (is_among s.0 before) s.0 name s.1.1 in
     law.name path d s.0 s.1.0 ∙ ap Some u.1
 
 new_only : Labels → (path : List Step) (before : List (List ℕ)) (d : Data) (e : FieldError) → new_name_at path before d ≡ Err e → e.kind ≡ Doubled → IsTakenName path before d e
 new_only law path before d e h k =
     ⊎_elim (λ x. absurd (law.label_once path d e x k))
     (λ y.
-    let r = refused_as (doubled_at path) e (has_text y.0 before) y.0 y.1.1 in
+    let r = refused_as (doubled_at path) e (is_among y.0 before) y.0 y.1.1 in
     let made : IsTakenName path before d e = record { name = y.0; is_named = law.name path d y.0 y.1.0; stands = r.0; is = r.1 } in
     made)
-    (either_err (dns_label_at path (codes "name") d) (λ n. unless (doubled_at path) (has_text n before) n) e h)
+    (either_err (dns_label_at path (codes "name") d) (λ n. unless (doubled_at path) (is_among n before) n) e h)
 
 -- ---- subrequests
 
 pub subrequest_reading : Labels → IsNewNameReading label_of subrequest_name_at
 subrequest_reading law = record {
   taken = λ path before d name h.
-      sym (one_after (object_value path d) (dns_label_at path (codes "name")) (λ n. unless (doubled_at path) (has_text n before) n)) ∙ ap (λ x. x >>= λ n. unless (doubled_at path) (has_text n before) n) h;
+      sym (one_after (object_value path d) (dns_label_at path (codes "name")) (λ n. unless (doubled_at path) (is_among n before) n)) ∙ ap (λ x. x >>= λ n. unless (doubled_at path) (is_among n before) n) h;
   given = λ path before d name h.
       let s = then_ok (object_value path d) (new_name_at path before) name h in
       subst (λ v. named v ≡ Some name) (law.object_ path d s.0 s.1.0) (new_given law path before s.0 name s.1.1);
@@ -89,11 +89,11 @@ request_reading law = record {
       let s = then_ok (object_value path d) (λ request. dns_label_at path (codes "name") request >>= λ n. unless (error_at path NotOne) (not (has_one_kind request)) n) name h in
       let t = then_ok (dns_label_at path (codes "name") s.0) (λ n. unless (error_at path NotOne) (not (has_one_kind s.0)) n) name s.1.1 in
       let u = unless_ok (error_at path NotOne) (not (has_one_kind s.0)) t.0 name t.1.1 in
-      let one : new_name_at path before s.0 ≡ unless (doubled_at path) (has_text t.0 before) t.0 = ap (λ x. x >>= λ n. unless (doubled_at path) (has_text n before) n) t.1.0 in
+      let one : new_name_at path before s.0 ≡ unless (doubled_at path) (is_among t.0 before) t.0 = ap (λ x. x >>= λ n. unless (doubled_at path) (is_among n before) n) t.1.0 in
       ap (λ x. x >>= λ request. new_name_at path before request >>= λ n. unless (error_at path NotOne) (not (has_one_kind request)) n) s.1.0 ∙
       ap (λ x. x >>= λ n. unless (error_at path NotOne) (not (has_one_kind s.0)) n) one ∙
-      both_tests (has_text t.0 before) (not (has_one_kind s.0)) (doubled_at path) (error_at path NotOne) t.0 u.0 ∙
-      ap (λ n. unless (doubled_at path) (has_text n before) n) u.1;
+      both_tests (is_among t.0 before) (not (has_one_kind s.0)) (doubled_at path) (error_at path NotOne) t.0 u.0 ∙
+      ap (λ n. unless (doubled_at path) (is_among n before) n) u.1;
   given = λ path before d name h.
       let s = then_ok (object_value path d) (λ request. new_name_at path before request >>= λ n. unless (error_at path NotOne) (not (has_one_kind request)) n) name h in
       let t = then_ok (new_name_at path before s.0) (λ n. unless (error_at path NotOne) (not (has_one_kind s.0)) n) name s.1.1 in

@@ -3,13 +3,13 @@ use Rattle.std.specs.Prelude.{ℕ, not, List, [], ◌∷◌, ◌++◌, Option, S
 use Rattle.serde_json.specs.Data.{Data}
 use Rattle.object_fields.specs.Fields.{error_at, list_at, object_value, optional_at, text_at, text_value, unless, unset_at, ◌>>=◌}
 use Rattle.object_fields.specs.Lists.{each_at, each_in}
+use Rattle.object_fields.specs.NewNames.{is_among}
 use Rattle.object_fields.specs.Qualified.{cut_at, domain_and_id}
 use Rattle.object_fields.specs.declared.error.FieldError.{FieldError}
 use Rattle.object_fields.specs.declared.kind.FieldErrorKind.TheVariants.{BadName, Unknown}
 use Rattle.object_fields.specs.declared.path.Step.{Step}
 use Rattle.object_fields.specs.declared.path.Step.TheVariants.{Member}
 use Rattle.object_fields.specs.declared.qualified.QualName.{QualName}
-use Rattle.api_claim.specs.Lists.{has_text}
 use Rattle.api_claim.specs.declared.types.DeviceConstraint.{DeviceConstraint}
 
 -- a claim has at most 32 constraints
@@ -19,7 +19,7 @@ constraints_most = 32
 -- a text that is one of the names
 abbrev pub known_at : List (List ℕ) → List Step → Data → Result (List ℕ) FieldError
 known_at names path d =
-    text_value path d >>= λ text. unless (error_at path Unknown) (not (has_text text names)) text
+    text_value path d >>= λ text. unless (error_at path Unknown) (not (is_among text names)) text
 
 -- the requests that a constraint names, of any number
 abbrev pub known_requests_at : List (List ℕ) → List Step → Data → Result (List (List ℕ)) FieldError

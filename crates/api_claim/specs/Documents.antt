@@ -1,16 +1,13 @@
 -- The requests as they are in the document of a claim, and what reads the name of one by itself.
-use Rattle.std.specs.Prelude.{ℕ, not, List, Option, Some, None, Result, codes, option_and_then}
-use Rattle.serde_json.specs.Data.{Data, Items, no_items}
+use Rattle.std.specs.Prelude.{ℕ, not, List, Result, codes, option_and_then}
+use Rattle.serde_json.specs.Data.{Data, Items}
 use Rattle.serde_json.specs.Find.{as_array}
 use Rattle.object_fields.specs.Fields.{dns_label_at, error_at, member_of, object_value, unless, ◌>>=◌}
+use Rattle.object_fields.specs.Lists.{items_or_none}
 use Rattle.object_fields.specs.declared.error.FieldError.{FieldError}
 use Rattle.object_fields.specs.declared.kind.FieldErrorKind.TheVariants.{NotOne}
 use Rattle.object_fields.specs.declared.path.Step.{Step}
 use Rattle.api_claim.specs.Requests.{has_one_kind}
-
-abbrev pub items_or_none : Option Items → Items
-items_or_none None = no_items
-items_or_none (Some ds) = ds
 
 -- the list `spec.devices.requests`; none if it isn't there
 abbrev pub listed_requests : Data → Items

@@ -3,14 +3,13 @@
 use Rattle.std.specs.Prelude.{◌≡◌, ℕ, ◌≤◌, ◌^◌, ◌-◌, true, false, List, [], ◌∷◌, length, map}
 use Rattle.std.specs.Str.{bytes_eq}
 use Rattle.object_fields.specs.Limits.{KeyKept, VersionKept}
-use Rattle.object_fields.specs.Names.{is_dns_label, is_dns_name}
-use Rattle.object_fields.specs.Qualified.{domain_most, id_most, is_c_identifier}
+use Rattle.object_fields.specs.Names.{is_dns_label}
+use Rattle.object_fields.specs.NewNames.{is_among}
+use Rattle.object_fields.specs.Qualified.{IsFullName}
 use Rattle.object_fields.specs.Selectors.{selectors_most}
 use Rattle.object_fields.specs.declared.meta.Scope.TheVariants.{Namespaced}
-use Rattle.object_fields.specs.declared.qualified.QualName.{QualName}
 use Rattle.api_claim.specs.Constraints.{constraints_most}
 use Rattle.api_claim.specs.Fields.{ClaimFields, StatusFields}
-use Rattle.api_claim.specs.Lists.{has_text}
 use Rattle.api_claim.specs.Requests.{all_names, requests_most, subrequests_most}
 use Rattle.api_claim.specs.Status.{results_most}
 use Rattle.api_claim.specs.declared.types.AllocationMode.{AllocationMode}
@@ -60,15 +59,8 @@ pub record RequestsKept (requests : List DeviceRequest) : Type 0 where
   pub names : AreNames (map (λ r. r.name) requests)
   pub kinds : EachOf (λ r. KindKept r.kind) requests
 
--- a full name of an attribute
-pub record IsFullName (name : QualName) : Type 0 where
-  pub domain_length : length name.domain ≤ domain_most
-  pub id_length : length name.id ≤ id_most
-  pub domain : is_dns_name name.domain ≡ true
-  pub id : is_c_identifier name.id ≡ true
-
 pub record ConstraintKept (names : List (List ℕ)) (constraint : DeviceConstraint) : Type 0 where
-  pub requests : EachOf (λ t. has_text t names ≡ true) constraint.requests
+  pub requests : EachOf (λ t. is_among t names ≡ true) constraint.requests
   pub attribute : IsFullName constraint.attribute
 
 -- of a claim whose requests have these names

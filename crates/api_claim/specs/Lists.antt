@@ -1,9 +1,8 @@
 -- Lists that must have an item, and names that appear once.
 use Rattle.std.specs.Prelude.{ℕ, Bool, false, true, List, Option, Some, None, Result, Ok, Err, codes}
-use Rattle.std.specs.List.{list_any}
-use Rattle.std.specs.Str.{bytes_eq}
 use Rattle.serde_json.specs.Data.{Data, null, boolean, number, string, array, object, Items, no_items, item}
 use Rattle.object_fields.specs.Fields.{dns_label_at, field_error, member_of, short_list_at, unless, ◌>>=◌}
+use Rattle.object_fields.specs.NewNames.{is_among}
 use Rattle.object_fields.specs.declared.error.FieldError.{FieldError}
 use Rattle.object_fields.specs.declared.kind.FieldErrorKind.TheVariants.{Doubled, Missing}
 use Rattle.object_fields.specs.declared.path.Step.{Step}
@@ -41,11 +40,8 @@ some_items_at most path name d =
 
 -- ---- names
 
-abbrev pub has_text : List ℕ → List (List ℕ) → Bool
-has_text text texts = list_any (λ t. bytes_eq t text) texts
-
 -- `name`, a DNS label that isn't among the names before
 abbrev pub new_name_at : List Step → List (List ℕ) → Data → Result (List ℕ) FieldError
 new_name_at path before d =
     dns_label_at path (codes "name") d >>= λ name.
-    unless (field_error path (codes "name") Doubled) (has_text name before) name
+    unless (field_error path (codes "name") Doubled) (is_among name before) name

@@ -1,6 +1,7 @@
 ghost use Rattle.std.specs.Prelude.{◌≡◌};
 ghost use Rattle.serde_json.specs.View.{items_view, view};
 ghost use Rattle.object_fields.specs.Fields.{Gives, Reads};
+ghost use Rattle.object_fields.specs.NewNames.{is_among};
 ghost use Rattle.api_claim.specs.Lists as fields;
 
 use dra_values::Text;
@@ -46,7 +47,7 @@ pub(crate) fn read_new_name(
 
 /// Whether the text is among the texts.
 pub(crate) fn has_text(texts: &[Text], text: &str) -> bool
-    ensures { result ≡ fields.has_text text.now texts.now }
+    ensures { result ≡ is_among text.now texts.now }
 {
     for one in texts {
         if one.as_str() == text {

@@ -6,14 +6,14 @@ use Rattle.serde_json.specs.Data.{Data, string, object, Members, no_members, mem
 use Rattle.serde_json.specs.Find.{get, get_member}
 use Rattle.object_fields.specs.Fields.{items_length, unset_at}
 use Rattle.object_fields.specs.Names.{is_dns_name}
-use Rattle.object_fields.specs.Qualified.{domain_and_id, domain_most, id_most, is_c_identifier}
+use Rattle.object_fields.specs.NewNames.{is_among}
+use Rattle.object_fields.specs.Qualified.{IsFullName, domain_and_id, domain_most, id_most, is_c_identifier}
 use Rattle.object_fields.specs.declared.path.Step.{Step}
 use Rattle.object_fields.specs.declared.path.Step.TheVariants.{Member}
 use Rattle.object_fields.specs.declared.qualified.QualName.{QualName}
 use Rattle.api_claim.specs.Claims.{claim_of, devices_in}
 use Rattle.api_claim.specs.Constraints.{attribute_at, constraint_at, constraints_at, constraints_most, full_name_in, known_at, known_requests_at}
-use Rattle.api_claim.specs.Limits.{ClaimKept, ConstraintKept, ConstraintsKept, EachOf, IsFullName}
-use Rattle.api_claim.specs.Lists.{has_text}
+use Rattle.api_claim.specs.Limits.{ClaimKept, ConstraintKept, ConstraintsKept, EachOf}
 use Rattle.api_claim.specs.Requests.{all_names}
 use Rattle.api_claim.specs.declared.types.DeviceConstraint.{DeviceConstraint}
 use Rattle.api_claim.specs.declared.types.ResourceClaim.{ResourceClaim}
@@ -39,27 +39,27 @@ neither false b p q = q
 
 pub parts_back : (p : List Step) (q : QualName) → IsFullName q → domain_and_id p q.domain q.id ≡ Ok q
 parts_back p q full =
-    let short : (nat_lt domain_most (length q.domain) || nat_lt id_most (length q.id)) ≡ false = neither _ _ (not_longer domain_most (length q.domain) full.domain_length) (not_longer id_most (length q.id) full.id_length) in
-    let right : (is_dns_name q.domain && is_c_identifier q.id) ≡ true = and_from _ _ full.domain full.id in
+    let short : (nat_lt domain_most (length q.domain) || nat_lt id_most (length q.id)) ≡ false = neither _ _ (not_longer domain_most (length q.domain) full.domain) (not_longer id_most (length q.id) full.id) in
+    let right : (is_dns_name q.domain && is_c_identifier q.id) ≡ true = and_from _ _ full.domain_form full.id_form in
     rw (short, right) refl
 
 name_back : (p : List Step) (q : QualName) → IsFullName q → full_name_in p (full_name q) ≡ Ok q
-name_back p q full = rw (append_assoc q.domain (codes "/") q.id, name_cut q.domain q.id full.domain) (parts_back p q full)
+name_back p q full = rw (append_assoc q.domain (codes "/") q.id, name_cut q.domain q.id full.domain_form) (parts_back p q full)
 
 attribute_back : (path : List Step) (d : Data) (q : QualName) → get (codes "matchAttribute") d ≡ Some (string (full_name q)) → IsFullName q → attribute_at path d ≡ Ok q
 attribute_back path d q h full = rw h (name_back (path ++ Member (codes "matchAttribute") ∷ []) q full)
 
-known_back : (names : List (List ℕ)) (p : List Step) (t : List ℕ) → has_text t names ≡ true → known_at names p (string t) ≡ Ok t
+known_back : (names : List (List ℕ)) (p : List Step) (t : List ℕ) → is_among t names ≡ true → known_at names p (string t) ≡ Ok t
 known_back names p t h = rw h refl
 
 texts_same : (ts : List (List ℕ)) → map (λ t. t) ts ≡ ts
 texts_same [] = refl
 texts_same (t ∷ ts) = ap (λ l. t ∷ l) (texts_same ts)
 
-requests_known : (names : List (List ℕ)) (path : List Step) (d : Data) (ts : List (List ℕ)) → get (codes "requests") d ≡ list_if string ts → EachOf (λ t. has_text t names ≡ true) ts → known_requests_at names path d ≡ Ok ts
+requests_known : (names : List (List ℕ)) (path : List Step) (d : Data) (ts : List (List ℕ)) → get (codes "requests") d ≡ list_if string ts → EachOf (λ t. is_among t names ≡ true) ts → known_requests_at names path d ≡ Ok ts
 requests_known names path d [] h known = rw h refl
 requests_known names path d (t ∷ ts) h known =
-    rw h (each_kept (known_at names) string (λ u. u) _ 0 [] (t ∷ ts) (each_of (λ u. has_text u names ≡ true) (λ u. (p : List Step) → known_at names p (string u) ≡ Ok u) (t ∷ ts) (λ u k p. known_back names p u k) known) ∙ ap Ok (texts_same (t ∷ ts)))
+    rw h (each_kept (known_at names) string (λ u. u) _ 0 [] (t ∷ ts) (each_of (λ u. is_among u names ≡ true) (λ u. (p : List Step) → known_at names p (string u) ≡ Ok u) (t ∷ ts) (λ u k p. known_back names p u k) known) ∙ ap Ok (texts_same (t ∷ ts)))
 
 constraint_from : (names : List (List ℕ)) (path : List Step) (ms : Members) (c : DeviceConstraint) → get_member (codes "distinctAttribute") ms ≡ None → get_member (codes "requests") ms ≡ list_if string c.requests → get_member (codes "matchAttribute") ms ≡ Some (string (full_name c.attribute))
     → ConstraintKept names c → constraint_at names path (object ms) ≡ Ok c

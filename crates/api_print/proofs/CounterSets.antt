@@ -16,11 +16,12 @@ use Rattle.std.specs.Str.{bytes_eq}
 use Rattle.serde_json.specs.Data.{Data, no_members}
 use Rattle.serde_json.specs.Find.{get}
 use Rattle.object_fields.specs.Names.{label_most}
+use Rattle.object_fields.specs.NewNames.{AreDifferent}
 use Rattle.object_fields.specs.declared.path.Step.{Step}
 use Rattle.object_fields.specs.declared.path.Step.TheVariants.{Key, Member, Place}
 use Rattle.api_slice.specs.Amounts.{amount_of}
 use Rattle.api_slice.specs.Counters.{counter_name, counter_sets_at, counters_at, counters_most, counters_with, has_set, new_set_name, sets_from}
-use Rattle.api_slice.specs.Limits.{AreDifferent, IsAmount, IsCounterSet, IsLabel}
+use Rattle.api_slice.specs.Limits.{IsAmount, IsCounterSet, IsLabel}
 use Rattle.api_slice.specs.Lists.{members_length}
 use Rattle.api_slice.specs.declared.types.CounterSet.{CounterSet}
 use Rattle.api_print.specs.Devices.{amount_json, counter_set_json}

@@ -9,6 +9,8 @@ use Rattle.serde_json.specs.Data.{Data, string}
 use Rattle.serde_json.specs.Find.{get}
 use Rattle.object_fields.specs.Fields.{items_length}
 use Rattle.object_fields.specs.Lists.{alone, each_from}
+use Rattle.object_fields.specs.NewNames.{AreDifferent}
+use Rattle.object_fields.specs.Qualified.{IsFullName}
 use Rattle.object_fields.specs.declared.error.FieldError.{FieldError}
 use Rattle.object_fields.specs.declared.path.Step.{Step}
 use Rattle.object_fields.specs.declared.path.Step.TheVariants.{Member, Place}
@@ -16,10 +18,10 @@ use Rattle.object_fields.specs.declared.qualified.QualName.{QualName}
 use Rattle.api_slice.specs.Attributes.{attributes_of}
 use Rattle.api_slice.specs.Capacity.{capacity_of}
 use Rattle.api_slice.specs.Consumption.{consumes_of}
-use Rattle.api_slice.specs.Devices.{devices_at, devices_most, devices_with, names_from, new_device_name, nothing_more, nothing_more_from, rows_of}
-use Rattle.api_slice.specs.Limits.{AreDifferent, DrawsOn, IsLabel, KeepsLimits}
+use Rattle.api_slice.specs.Devices.{devices_at, devices_most, devices_with, new_device_name, nothing_more, nothing_more_from, rows_of}
+use Rattle.api_slice.specs.Limits.{DrawsOn, IsLabel, KeepsLimits}
 use Rattle.api_slice.specs.Nodes.{device_nodes_of}
-use Rattle.api_slice.specs.Properties.{IsFullName, IsValue}
+use Rattle.api_slice.specs.Properties.{IsValue}
 use Rattle.api_slice.specs.declared.types.Attribute.{Attribute}
 use Rattle.api_slice.specs.declared.types.CounterConsumption.{CounterConsumption}
 use Rattle.api_slice.specs.declared.types.CounterSet.{CounterSet}
@@ -123,7 +125,7 @@ unfolding device_json
 name_back p before d rest label differ =
     rw (label_read p (device_json d) (codes "name") d.name (device_has_name d) label, is_new before d.name rest differ) refl
 
-names_back : (path : List Step) (place : ℕ) (before : List (List ℕ)) (ds : List Device) → AreDifferent (before ++ map device_name ds) → AllByRecursion (λ d. IsLabel d.name) ds → names_from path place before (listed device_json ds) ≡ Ok (before ++ map device_name ds)
+names_back : (path : List Step) (place : ℕ) (before : List (List ℕ)) (ds : List Device) → AreDifferent (before ++ map device_name ds) → AllByRecursion (λ d. IsLabel d.name) ds → each_from new_device_name path place before (listed device_json ds) ≡ Ok (before ++ map device_name ds)
 names_back path place before [] differ labels = rw (append-nil before) refl
 names_back path place before (d ∷ ds) differ labels =
     let same : (before ++ d.name ∷ []) ++ map device_name ds ≡ before ++ d.name ∷ map device_name ds = append_assoc before (d.name ∷ []) (map device_name ds) in

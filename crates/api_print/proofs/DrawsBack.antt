@@ -14,10 +14,11 @@ use Rattle.std.specs.Ordering.{nat_cmp}
 use Rattle.std.specs.Str.{bytes_eq}
 use Rattle.serde_json.specs.Data.{Data, no_members}
 use Rattle.serde_json.specs.Find.{get}
+use Rattle.object_fields.specs.NewNames.{AreDifferent}
 use Rattle.object_fields.specs.declared.path.Step.{Step}
 use Rattle.object_fields.specs.declared.path.Step.TheVariants.{Key, Member, Place}
 use Rattle.api_slice.specs.Consumption.{amounts_at, amounts_most, amounts_with, consumes_of, draws_from, draws_on, find_set, has_counter, new_draw_on}
-use Rattle.api_slice.specs.Limits.{AreDifferent, DrawsOn, IsAmount}
+use Rattle.api_slice.specs.Limits.{DrawsOn, IsAmount}
 use Rattle.api_slice.specs.declared.types.CounterConsumption.{CounterConsumption}
 use Rattle.api_slice.specs.declared.types.CounterSet.{CounterSet}
 use Rattle.api_print.specs.Devices.{amount_json, consumption_json}

@@ -15,15 +15,14 @@ use Rattle.std.specs.Ordering.{is_eq, nat_cmp}
 use Rattle.std.specs.Str.{chars}
 use Rattle.serde_json.specs.Data.{Data, no_members}
 use Rattle.serde_json.specs.Find.{get}
-use Rattle.object_fields.specs.Qualified.{cut_at, qual_name_in}
+use Rattle.object_fields.specs.Qualified.{IsFullName, cut_at, qual_name_in}
 use Rattle.object_fields.specs.declared.path.Step.{Step}
 use Rattle.object_fields.specs.declared.path.Step.TheVariants.{Key, Member}
 use Rattle.object_fields.specs.declared.qualified.QualName.{QualName}
-use Rattle.api_claim.specs.Limits as claim
 use Rattle.api_slice.specs.Attributes.{attribute_of, attributes_of, attributes_with, chars_most, new_name, qual_cmp}
 use Rattle.api_slice.specs.Capacity.{capacity_of, capacity_with, together_at, together_most, value_without_policy}
 use Rattle.api_slice.specs.Lists.{count_at}
-use Rattle.api_slice.specs.Properties.{IsFullName, IsValue}
+use Rattle.api_slice.specs.Properties.{IsValue}
 use Rattle.api_slice.specs.declared.types.Attribute.{Attribute}
 use Rattle.api_slice.specs.declared.types.Attribute.TheVariants as attribute
 use Rattle.api_print.specs.Devices.{amount_json, attribute_json, full_name}
@@ -54,8 +53,7 @@ cut_full q full = rw (append_assoc q.domain (codes "/") q.id) (name_cut q.domain
 
 meant : (p : List Step) (driver : List ℕ) (q : QualName) → IsFullName q → qual_name_in p driver (full_name q) ≡ Ok q
 meant p driver q full =
-    let kept : claim.IsFullName q = record { domain_length = full.domain; id_length = full.id; domain = full.domain_form; id = full.id_form } in
-    rw (cut_full q full) (parts_back p q kept)
+    rw (cut_full q full) (parts_back p q full)
 
 abbrev domain_cut : Option (List ℕ × List ℕ) → List ℕ
 domain_cut None = []

@@ -11,6 +11,7 @@ use Rattle.serde_json.specs.Data.{Data, string, object, Members, no_members, mem
 use Rattle.serde_json.specs.Find.{get, get_member}
 use Rattle.object_fields.specs.Fields.{items_length, text_at, ◌>>=◌}
 use Rattle.object_fields.specs.Lists.{alone, each, each_from}
+use Rattle.object_fields.specs.NewNames.{is_among}
 use Rattle.object_fields.specs.Selectors.{selector_at, selectors_most}
 use Rattle.object_fields.specs.declared.error.FieldError.{FieldError}
 use Rattle.object_fields.specs.declared.path.Step.{Step}
@@ -18,7 +19,7 @@ use Rattle.object_fields.specs.declared.path.Step.TheVariants.{Member, Place}
 use Rattle.api_claim.specs.Asks.{admin_at, ask_at, asked_at, exactly_in, left_out_at, mode_at, subrequest_in}
 use Rattle.api_claim.specs.Limits.{AreDistinct, AskKept, CountKept, EachOf, KindKept, RequestsKept}
 use Rattle.object_fields.specs.Names.{is_dns_label}
-use Rattle.api_claim.specs.Lists.{has_text, new_name_at}
+use Rattle.api_claim.specs.Lists.{new_name_at}
 use Rattle.api_claim.specs.Requests.{kind_of, kinds_in, request_name_at, request_of, requests_at, requests_in, requests_most, subrequest_name_at, subrequest_names_at, subrequest_of, subrequests_most}
 use Rattle.api_claim.specs.declared.types.AllocationMode.{AllocationMode}
 use Rattle.api_claim.specs.declared.types.AllocationMode.TheVariants.{ExactCount, All}
@@ -147,12 +148,12 @@ middle : (P : List ℕ → Type 0) (ts : List (List ℕ)) (n : List ℕ) (rest :
 middle P [] n rest h = h.0
 middle P (t ∷ ts) n rest h = middle P ts n rest h.1
 
-fresh : (before : List (List ℕ)) (n : List ℕ) (rest : List (List ℕ)) → AreDistinct (before ++ n ∷ rest) → has_text n before ≡ false
+fresh : (before : List (List ℕ)) (n : List ℕ) (rest : List (List ℕ)) → AreDistinct (before ++ n ∷ rest) → is_among n before ≡ false
 fresh [] n rest d = refl
 fresh (t ∷ ts) n rest d = neither (bytes_eq t n) _ (middle (λ u. bytes_eq t u ≡ false) ts n rest d.0) (fresh ts n rest d.1)
 
 -- names that are read one beside the other
-names_back : {A : Type 0} (reading : List Step → List (List ℕ) → Data → Result (List ℕ) FieldError) (json : A → Data) (name : A → List ℕ) (Q : A → Type 0) → ((p : List Step) (before : List (List ℕ)) (x : A) → Q x → has_text (name x) before ≡ false → reading p before (json x) ≡ Ok (name x))
+names_back : {A : Type 0} (reading : List Step → List (List ℕ) → Data → Result (List ℕ) FieldError) (json : A → Data) (name : A → List ℕ) (Q : A → Type 0) → ((p : List Step) (before : List (List ℕ)) (x : A) → Q x → is_among (name x) before ≡ false → reading p before (json x) ≡ Ok (name x))
     → (path : List Step) (place : ℕ) (before : List (List ℕ)) (xs : List A) → AreDistinct (before ++ map name xs) → EachOf Q xs → each_from reading path place before (listed json xs) ≡ Ok (before ++ map name xs)
 names_back reading json name Q step path place before [] d q = rw (append-nil before) refl
 names_back reading json name Q step path place before (x ∷ xs) d q =
@@ -160,10 +161,10 @@ names_back reading json name Q step path place before (x ∷ xs) d q =
     let distinct : AreDistinct ((before ++ name x ∷ []) ++ map name xs) = rw same d in
     rw (step (path ++ Place place ∷ []) before x q.0 (fresh before (name x) (map name xs) d)) (names_back reading json name Q step path (place + 1) (before ++ name x ∷ []) xs distinct q.1 ∙ ap Ok same)
 
-name_step : (p : List Step) (before : List (List ℕ)) (ms : Members) (n : List ℕ) → get_member (codes "name") ms ≡ Some (string n) → is_dns_label n ≡ true → has_text n before ≡ false → new_name_at p before (object ms) ≡ Ok n
+name_step : (p : List Step) (before : List (List ℕ)) (ms : Members) (n : List ℕ) → get_member (codes "name") ms ≡ Some (string n) → is_dns_label n ≡ true → is_among n before ≡ false → new_name_at p before (object ms) ≡ Ok n
 name_step p before ms n h label new = rw (label_read p (object ms) (codes "name") n h label, new) refl
 
-subrequest_step : (p : List Step) (before : List (List ℕ)) (s : DeviceSubRequest) → is_dns_label s.name ≡ true → has_text s.name before ≡ false → subrequest_name_at p before (subrequest_json s) ≡ Ok s.name
+subrequest_step : (p : List Step) (before : List (List ℕ)) (s : DeviceSubRequest) → is_dns_label s.name ≡ true → is_among s.name before ≡ false → subrequest_name_at p before (subrequest_json s) ≡ Ok s.name
 subrequest_step p before s label new =
     let rest = member (codes "deviceClassName") (string s.ask.class) (member (codes "name") (string s.name) (member_if (codes "selectors") (selectors_if s.ask.selectors) no_members)) in
     name_step p before (member (codes "allocationMode") (string (mode_text s.ask.mode)) (member_if (codes "count") (count_if s.ask.mode) rest)) s.name (skip (codes "name") (codes "count") (count_if s.ask.mode) rest refl) label new
@@ -221,7 +222,7 @@ kinds_back path rs kept =
     let inner = each_kept subrequest_names_at (λ r. made_json r.name r.kind) (λ r. inner_of r.kind) path 0 [] rs (each_of (λ r. KindKept r.kind) (λ r. (p : List Step) → subrequest_names_at p (made_json r.name r.kind) ≡ Ok (inner_of r.kind)) rs (λ r k p. inner_back p r.name r.kind k) kept) in
     rw (asks.1, inner) (ap Ok asks.2)
 
-request_step : (p : List Step) (before : List (List ℕ)) (name : List ℕ) (k : RequestKind) → KindKept k → is_dns_label name ≡ true → has_text name before ≡ false → request_name_at p before (made_json name k) ≡ Ok name
+request_step : (p : List Step) (before : List (List ℕ)) (name : List ℕ) (k : RequestKind) → KindKept k → is_dns_label name ≡ true → is_among name before ≡ false → request_name_at p before (made_json name k) ≡ Ok name
 request_step p before name (kind.Exactly e) kept label new =
     rw (name_step p before (kind_before (kind.Exactly e) (member (codes "name") (string name) no_members)) name refl label new) refl
 request_step p before name (kind.FirstAvailable []) kept label new = absurd (omega (arith, kept.some))

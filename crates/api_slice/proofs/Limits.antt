@@ -6,9 +6,10 @@ use Rattle.std.specs.List.{All}
 use Rattle.serde_json.specs.Data.{Data, Items, no_items, item}
 use Rattle.object_fields.specs.Fields.{dns_label_at, field_error, items_length, name_in, natural_at, object_at, pool_name_at, object_value, optional_at, short_list_at, table_at, text_at, unless, ◌>>=◌}
 use Rattle.object_fields.specs.Limits.{MetaKept, VersionKept}
-use Rattle.object_fields.specs.Lists.{alone, each, each_from}
+use Rattle.object_fields.specs.Lists.{alone, each, each_beside, each_from, items_or_none}
 use Rattle.object_fields.specs.Meta.{meta_at, name_most}
 use Rattle.object_fields.specs.Names.{is_dns_name, is_pool_name, pool_most}
+use Rattle.object_fields.specs.NewNames.{AreDifferent, is_among}
 use Rattle.object_fields.specs.declared.error.FieldError.{FieldError}
 use Rattle.object_fields.specs.declared.kind.FieldErrorKind.TheVariants.{Doubled, TooMany}
 use Rattle.object_fields.specs.declared.meta.ObjectMeta.{ObjectMeta}
@@ -21,11 +22,11 @@ use Rattle.api_slice.specs.Attributes.{attributes_in, attributes_of}
 use Rattle.api_slice.specs.Capacity.{capacity_in, capacity_of, together_at, together_most}
 use Rattle.api_slice.specs.Consumption.{consumes_of}
 use Rattle.api_slice.specs.Counters.{counter_sets_at}
-use Rattle.api_slice.specs.Devices.{columns_of, devices_at, devices_most, devices_of, devices_with, has_device, names_from, new_device_name, nothing_more_from, rows_of}
+use Rattle.api_slice.specs.Devices.{columns_of, devices_at, devices_most, devices_of, devices_with, new_device_name, nothing_more_from, rows_of}
 use Rattle.api_slice.specs.Drivers.{IsDriver, driver_most}
-use Rattle.api_slice.specs.Limits.{AreDifferent, IsLabel, IsPool, IsWithinLimits, KeepsLimits}
+use Rattle.api_slice.specs.Limits.{IsLabel, IsPool, IsWithinLimits, KeepsLimits}
 use Rattle.api_slice.specs.Properties.{ArePaired, AreProperties}
-use Rattle.api_slice.specs.Lists.{count_at, items_or_none}
+use Rattle.api_slice.specs.Lists.{count_at}
 use Rattle.api_slice.specs.Nodes.{device_nodes_of, is_per_device, slice_nodes_at}
 use Rattle.api_slice.specs.Slices.{driver_at, pool_at, pool_in, signed_most, slice_of, spec_in}
 use Rattle.api_slice.specs.declared.device.Columns.{Columns}
@@ -153,19 +154,19 @@ record AreNames (most : ℕ) (names : List (List ℕ)) : Type 0 where
 
 new_name_of : (path : List Step) (before : List (List ℕ)) (value : Data) (name : List ℕ) → new_device_name path before value ≡ Ok name → IsLabel name × All (λ other. other ≢ name) before
 new_name_of path before value name h =
-    let g = gave (object_value path value >>= dns_label_at path (codes "name")) (λ text. unless (field_error path (codes "name") Doubled) (has_device text before) text) name h in
+    let g = gave (object_value path value >>= dns_label_at path (codes "name")) (λ text. unless (field_error path (codes "name") Doubled) (is_among text before) text) name h in
     let o = gave (object_value path value) (dns_label_at path (codes "name")) g.value g.first in
-    let e : g.value ≡ name = kept (field_error path (codes "name") Doubled) (has_device g.value before) g.value name g.second in
-    let b : has_device g.value before ≡ false = not_refused (field_error path (codes "name") Doubled) (has_device g.value before) g.value name g.second in
+    let e : g.value ≡ name = kept (field_error path (codes "name") Doubled) (is_among g.value before) g.value name g.second in
+    let b : is_among g.value before ≡ false = not_refused (field_error path (codes "name") Doubled) (is_among g.value before) g.value name g.second in
     let l : IsLabel g.value = labelled path (codes "name") o.value g.value o.second in
     (along IsLabel g.value name e l, along (λ n. All (λ other. other ≢ n) before) g.value name e (none_is g.value before b))
 
-names_keep : (path : List Step) (place most : ℕ) (before : List (List ℕ)) (ds : Items) (out : List (List ℕ)) → AreNames most before → names_from path place before ds ≡ Ok out → AreNames (most + items_length ds) out
+names_keep : (path : List Step) (place most : ℕ) (before : List (List ℕ)) (ds : Items) (out : List (List ℕ)) → AreNames most before → each_from new_device_name path place before ds ≡ Ok out → AreNames (most + items_length ds) out
 names_keep path place most before no_items out t h =
     let more : AreNames (most + 0) before = record { labels = t.labels; different = t.different; size = omega (arith, t.size) } in
     along (AreNames (most + 0)) before out (the_same before out h) more
 names_keep path place most before (item d ds) out t h =
-    let g = gave (new_device_name (path ++ step.Place place ∷ []) before d) (λ name. names_from path (place + 1) (before ++ name ∷ []) ds) out h in
+    let g = gave (new_device_name (path ++ step.Place place ∷ []) before d) (λ name. each_from new_device_name path (place + 1) (before ++ name ∷ []) ds) out h in
     let n = new_name_of (path ++ step.Place place ∷ []) before d g.value g.first in
     let one : AreNames (most + 1) (before ++ g.value ∷ []) = record {
       labels = All-append IsLabel before (g.value ∷ []) t.labels (All-cons IsLabel g.value [] n.0 (All-nil IsLabel));
@@ -185,7 +186,7 @@ record AllKeep (sets : List CounterSet) (per_device : Bool) (most : ℕ) (device
 
 columns_keep : (driver : List ℕ) (sets : List CounterSet) (per_device : Bool) (path : List Step) (ds : Items) (out : Columns) → IsDriver driver → columns_of driver sets per_device path ds ≡ Ok out → AllKeep sets per_device (items_length ds) (devices_of out) × ArePaired out.attributes out.capacity
 columns_keep driver sets per_device path ds out is h =
-    let n = gave (names_from path 0 [] ds) (λ names.
+    let n = gave (each_beside new_device_name path ds) (λ names.
     each (attributes_of driver) path ds >>= λ attributes.
     each (capacity_of driver) path ds >>= λ capacity.
     each (consumes_of sets) path ds >>= λ consumes.

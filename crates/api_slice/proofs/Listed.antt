@@ -5,7 +5,7 @@ use Rattle.std.proofs.lemmas.List.{append-nil}
 use Rattle.serde_json.specs.Data.{Data, null, boolean, number, string, array, object, Items, no_items, item, Members}
 use Rattle.serde_json.specs.Find.{as_array, as_object}
 use Rattle.object_fields.specs.Fields.{dns_label_at, field_at, field_error, if_there, list_at, member_of, object_at, object_value, optional_at, items_length, short_list_at, some_or, table_at, unless, ◌>>=◌}
-use Rattle.object_fields.specs.Lists.{each, each_beside, each_from}
+use Rattle.object_fields.specs.Lists.{each, each_beside, items_or_none}
 use Rattle.object_fields.specs.Meta.{meta_at}
 use Rattle.object_fields.specs.NewNames.{IsNewNameReading, IsTakenName, doubled_at, is_among, label_of, named, names_in}
 use Rattle.object_fields.specs.declared.error.FieldError.{FieldError}
@@ -18,9 +18,8 @@ use Rattle.api_slice.specs.Attributes.{attributes_of}
 use Rattle.api_slice.specs.Capacity.{capacity_of}
 use Rattle.api_slice.specs.Consumption.{consumes_of}
 use Rattle.api_slice.specs.Counters.{counter_sets_at, counters_at, has_set, new_set_name, sets_from}
-use Rattle.api_slice.specs.Devices.{columns_of, devices_at, devices_most, devices_of, devices_with, has_device, names_from, new_device_name, nothing_more_from, rows_of}
+use Rattle.api_slice.specs.Devices.{columns_of, devices_at, devices_most, devices_of, devices_with, new_device_name, nothing_more_from, rows_of}
 use Rattle.api_slice.specs.Documents.{listed}
-use Rattle.api_slice.specs.Lists.{items_or_none}
 use Rattle.api_slice.specs.Nodes.{device_nodes_of, is_per_device, slice_nodes_at}
 use Rattle.api_slice.specs.Slices.{driver_at, pool_at, slice_of, spec_in}
 use Rattle.api_slice.specs.declared.device.Columns.{Columns}
@@ -55,32 +54,20 @@ pub device_reading : Labels → IsNewNameReading label_of new_device_name
 device_reading law = record {
   taken = λ path before d name h. ap (λ x. x >>= λ n. unless (doubled_at path) (is_among n before) n) h;
   given = λ path before d name h.
-      let g = gave (label_of path d) (λ n. unless (doubled_at path) (has_device n before) n) name h in
-      let e = kept (doubled_at path) (has_device g.value before) g.value name g.second in
+      let g = gave (label_of path d) (λ n. unless (doubled_at path) (is_among n before) n) name h in
+      let e = kept (doubled_at path) (is_among g.value before) g.value name g.second in
       let l = gave (object_value path d) (dns_label_at path (codes "name")) g.value g.first in
       along (λ v. named v ≡ Some name) l.value d (law.object_ path d l.value l.first) (law.name path l.value g.value l.second ∙ ap Some e);
   only = λ path before d e h k.
       ⊎_elim (λ x. absurd (⊎_elim (λ y. law.object_once path d e y k) (λ y. law.label_once path y.0 e y.1.1 k) (either_err (object_value path d) (dns_label_at path (codes "name")) e x)))
       (λ y.
-      let r = refused_as (doubled_at path) e (has_device y.0 before) y.0 y.1.1 in
+      let r = refused_as (doubled_at path) e (is_among y.0 before) y.0 y.1.1 in
       let l = gave (object_value path d) (dns_label_at path (codes "name")) y.0 y.1.0 in
       let is : named d ≡ Some y.0 = along (λ v. named v ≡ Some y.0) l.value d (law.object_ path d l.value l.first) (law.name path l.value y.0 l.second) in
       let made : IsTakenName path before d e = record { name = y.0; is_named = is; stands = r.0; is = r.1 } in
       made)
-      (either_err (label_of path d) (λ n. unless (doubled_at path) (has_device n before) n) e h);
+      (either_err (label_of path d) (λ n. unless (doubled_at path) (is_among n before) n) e h);
 }
-
-go : {A B : Type 0} (r : Result A FieldError) {f g : A → Result B FieldError} → ((a : A) → f a ≡ g a) → r >>= f ≡ r >>= g
-go (Ok a) h = h a
-go (Err e) h = refl
-
--- the reading of the names is that of a list of names that are to be new
-names_are : (path : List Step) (place : ℕ) (before : List (List ℕ)) (ds : Items) → names_from path place before ds ≡ each_from new_device_name path place before ds
-names_are path place before no_items = refl
-names_are path place before (item d ds) = go (new_device_name (path ++ step.Place place ∷ []) before d) (λ n. names_are path (place + 1) (before ++ n ∷ []) ds)
-
-pub names_begin : (path : List Step) (ds : Items) → names_from path 0 [] ds ≡ each_beside new_device_name path ds
-names_begin path ds = names_are path 0 [] ds
 
 -- ---- devices joined from their columns
 
@@ -109,7 +96,7 @@ rows_names : GivenNames → (driver : List ℕ) (sets : List CounterSet) (per_de
 rows_names law driver sets per_device path ds out h =
     let r = gave (columns_of driver sets per_device path ds) (λ columns. nothing_more_from path 0 ds >>= λ nothing. Ok (devices_of columns)) out h in
     let m = gave (nothing_more_from path 0 ds) (λ nothing. Ok (devices_of r.value)) out r.second in
-    let n = gave (names_from path 0 [] ds) (λ names.
+    let n = gave (each_beside new_device_name path ds) (λ names.
     each (attributes_of driver) path ds >>= λ attributes.
     each (capacity_of driver) path ds >>= λ capacity.
     each (consumes_of sets) path ds >>= λ consumes.
@@ -130,7 +117,7 @@ rows_names law driver sets per_device path ds out h =
     let w = gave (each (device_nodes_of per_device) path ds) (λ nodes.
     Ok (record { names = n.value; attributes = a.value; capacity = c.value; consumes = k.value; nodes = nodes })) r.value k.second in
     let made : Columns = record { names = n.value; attributes = a.value; capacity = c.value; consumes = k.value; nodes = w.value } in
-    let names : map Some n.value ≡ names_in ds = law path ds n.value (sym (names_begin path ds) ∙ n.first) in
+    let names : map Some n.value ≡ names_in ds = law path ds n.value n.first in
     let all = joined driver sets per_device path 0 ds n.value a.value c.value k.value w.value names (column (attributes_of driver) path ds a.value a.first) (column (capacity_of driver) path ds c.value c.first) (column (consumes_of sets) path ds k.value k.first) (column (device_nodes_of per_device) path ds w.value w.first) in
     along (λ xs. map with_some xs ≡ names_in ds) (devices_of r.value) out (the_same (devices_of r.value) out m.second)
     (along (λ (x : Columns). map with_some (devices_of x) ≡ names_in ds) made r.value (the_same made r.value w.second) all)

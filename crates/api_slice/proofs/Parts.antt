@@ -13,7 +13,10 @@ use Rattle.std.specs.Str.{bytes_eq, chars}
 use Rattle.serde_json.specs.Data.{Data, Items, no_items, item, Members, no_members, member}
 use Rattle.serde_json.specs.Find.{as_object}
 use Rattle.object_fields.specs.Fields.{dns_label_at, error_at, field_error, if_there, list_at, member_of, object_value, optional_at, signed_at, some_or, table_at, text_at, truth_at, unless, ◌>>=◌}
+use Rattle.object_fields.specs.Lists.{items_or_none}
 use Rattle.object_fields.specs.Names.{is_dns_label, label_most}
+use Rattle.object_fields.specs.NewNames.{AreDifferent}
+use Rattle.object_fields.specs.Qualified.{IsFullName}
 use Rattle.object_fields.specs.declared.error.FieldError.{FieldError}
 use Rattle.object_fields.specs.declared.kind.FieldErrorKind.TheVariants.{BadVersion, Doubled, NotOne, TooLong, TooMany, Missing, Unknown, WrongType}
 use Rattle.object_fields.specs.declared.path.Step.{Step}
@@ -25,9 +28,9 @@ use Rattle.api_slice.specs.Capacity.{capacity_in, capacity_with, value_without_p
 use Rattle.api_slice.specs.Consumption.{amounts_at, amounts_most, amounts_with, consumes_of, draws_from, draws_on, find_set, has_counter, known_counter, new_draw_on}
 use Rattle.api_slice.specs.Counters.{counter_name, counter_sets_at, counters_at, counters_most, counters_with, has_set, new_set_name, sets_from}
 use Rattle.api_slice.specs.Drivers.{IsDriver}
-use Rattle.api_slice.specs.Limits.{AreDifferent, DrawsOn, IsAmount, IsCounterSet, IsLabel}
-use Rattle.api_slice.specs.Properties.{IsFullName, IsValue}
-use Rattle.api_slice.specs.Lists.{count_at, count_on, items_or_none, members_length, members_or_none}
+use Rattle.api_slice.specs.Limits.{DrawsOn, IsAmount, IsCounterSet, IsLabel}
+use Rattle.api_slice.specs.Properties.{IsValue}
+use Rattle.api_slice.specs.Lists.{count_at, count_on, members_length, members_or_none}
 use Rattle.api_slice.specs.declared.types.Attribute.{Attribute}
 use Rattle.api_slice.specs.declared.types.Attribute.TheVariants as attribute
 use Rattle.api_slice.specs.declared.types.CounterConsumption.{CounterConsumption}

@@ -10,13 +10,12 @@ use Rattle.node_select.specs.declared.requirement.Test.{Test}
 use Rattle.node_select.specs.declared.requirement.Test.TheVariants.{OneOf, NoneOf, Present, Absent, Above, Below}
 use Rattle.node_select.specs.declared.selector.Selector.{Selector}
 use Rattle.object_fields.specs.Fields.{error_at, field_at, field_error, list_at, member_of, object_value, optional_at, some_or, text_at, text_value, unless, ◌>>=◌}
-use Rattle.object_fields.specs.Lists.{alone, each, each_from}
+use Rattle.object_fields.specs.Lists.{alone, each, each_from, items_or_none}
 use Rattle.object_fields.specs.declared.error.FieldError.{FieldError}
 use Rattle.object_fields.specs.declared.kind.FieldErrorKind.TheVariants.{NotOne, NotSupported}
 use Rattle.object_fields.specs.declared.path.Step.{Step}
 use Rattle.object_fields.specs.declared.path.Step.TheVariants as step
 use Rattle.api_slice.specs.Limits.{HasValues, IsDue, IsExpression, IsField, IsNodes, IsSelector, IsSliceNodes, is_of_values}
-use Rattle.api_slice.specs.Lists.{items_or_none}
 use Rattle.api_slice.specs.Nodes.{all_set, as_due, device_nodes_of, everywhere, flag_at, named, node_name_at, not_empty, one_of_slice, only, places_at, selected, selector_at, slice_nodes_at}
 use Rattle.api_slice.specs.Selectors.{expression_of, expressions_at, field_key_at, field_of, field_operator_at, fields_at, is_membership, no_texts, one_number, one_term, operator_at, selector_of, some_texts, term_of, test_at, test_of, values_at}
 use Rattle.api_slice.specs.declared.nodes.Places.{Places}

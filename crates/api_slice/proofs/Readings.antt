@@ -13,8 +13,10 @@ use Rattle.std.specs.declared.cmp.Ordering.TheVariants.{Less, Equal, Greater}
 use Rattle.std.specs.Str.{bytes_eq}
 use Rattle.serde_json.specs.Data.{Data, Items}
 use Rattle.object_fields.specs.Fields.{dns_label_at, error_at, field_error, if_there, items_length, judged, list_at, member_of, name_at, name_in, natural_at, natural_between, whole_at, optional_at, short_list_at, some_or, text_at, unless, ◌>>=◌}
+use Rattle.object_fields.specs.Lists.{items_or_none}
 use Rattle.object_fields.specs.Names.{is_dns_label, is_dns_name, label_most}
-use Rattle.object_fields.specs.Qualified.{cut_at, domain_and_id, domain_most, id_alone, id_most, is_c_identifier, qual_name_in, qualified_from}
+use Rattle.object_fields.specs.NewNames.{AreDifferent}
+use Rattle.object_fields.specs.Qualified.{IsFullName, cut_at, domain_and_id, domain_most, id_alone, id_most, is_c_identifier, qual_name_in, qualified_from}
 use Rattle.object_fields.specs.declared.error.FieldError.{FieldError}
 use Rattle.object_fields.specs.declared.kind.FieldErrorKind.TheVariants.{BadName, Doubled, OutOfRange, TooLong, TooMany}
 use Rattle.object_fields.specs.declared.path.Step.{Step}
@@ -23,9 +25,7 @@ use Rattle.object_fields.specs.declared.qualified.QualName.{QualName}
 use Rattle.api_slice.specs.Amounts as amounts
 use Rattle.api_slice.specs.Attributes.{new_name, has_name}
 use Rattle.api_slice.specs.Drivers.{IsDriver}
-use Rattle.api_slice.specs.Limits.{AreDifferent, IsAmount, IsLabel}
-use Rattle.api_slice.specs.Properties.{IsFullName}
-use Rattle.api_slice.specs.Lists.{items_or_none}
+use Rattle.api_slice.specs.Limits.{IsAmount, IsLabel}
 
 -- ---- readings that returned a value
 

@@ -8,12 +8,13 @@ use Rattle.std.specs.Str.{bytes_eq}
 use Rattle.serde_json.specs.Data.{Data, Items, no_items, item, Members, no_members, member}
 use Rattle.object_fields.specs.Names.{is_dns_label, label_most}
 use Rattle.object_fields.specs.Fields.{dns_label_at, field_error, list_at, name_in, object_value, optional_at, table_at, unless, ◌>>=◌}
+use Rattle.object_fields.specs.Lists.{items_or_none}
 use Rattle.object_fields.specs.declared.error.FieldError.{FieldError}
 use Rattle.object_fields.specs.declared.kind.FieldErrorKind.TheVariants.{Doubled}
 use Rattle.object_fields.specs.declared.path.Step.{Step}
 use Rattle.object_fields.specs.declared.path.Step.TheVariants.{Member, Place, Key}
 use Rattle.api_slice.specs.Amounts.{amount_of}
-use Rattle.api_slice.specs.Lists.{count_on, items_or_none}
+use Rattle.api_slice.specs.Lists.{count_on}
 use Rattle.api_slice.specs.declared.types.CounterSet.{CounterSet}
 
 -- a slice has at most 32 counters in all

@@ -1,10 +1,9 @@
 -- The devices of a slice. A row of fields is read of all devices before the next row of any.
 use Rattle.std.specs.Prelude.{ℕ, ◌+◌, ℤ, Bool, List, [], ◌∷◌, ◌++◌, Option, Result, Ok, ⊤, codes}
-use Rattle.std.specs.List.{list_any}
-use Rattle.std.specs.Str.{bytes_eq}
 use Rattle.serde_json.specs.Data.{Data, Items, no_items, item}
 use Rattle.object_fields.specs.Fields.{dns_label_at, field_error, object_value, optional_at, short_list_at, unless, unset_at, ◌>>=◌}
-use Rattle.object_fields.specs.Lists.{each}
+use Rattle.object_fields.specs.Lists.{each, each_beside, items_or_none}
+use Rattle.object_fields.specs.NewNames.{is_among}
 use Rattle.object_fields.specs.declared.error.FieldError.{FieldError}
 use Rattle.object_fields.specs.declared.kind.FieldErrorKind.TheVariants.{Doubled}
 use Rattle.object_fields.specs.declared.path.Step.{Step}
@@ -13,7 +12,6 @@ use Rattle.object_fields.specs.declared.qualified.QualName.{QualName}
 use Rattle.api_slice.specs.Attributes.{attributes_of}
 use Rattle.api_slice.specs.Capacity.{capacity_of}
 use Rattle.api_slice.specs.Consumption.{consumes_of}
-use Rattle.api_slice.specs.Lists.{items_or_none}
 use Rattle.api_slice.specs.Nodes.{device_nodes_of}
 use Rattle.api_slice.specs.declared.device.Columns.{Columns}
 use Rattle.api_slice.specs.declared.types.Attribute.{Attribute}
@@ -24,21 +22,11 @@ use Rattle.api_slice.specs.declared.types.Nodes.{Nodes}
 
 -- ---- names
 
-abbrev pub has_device : List ℕ → List (List ℕ) → Bool
-has_device name before = list_any (λ other. bytes_eq other name) before
-
 -- a DNS label, which no device before has
 abbrev pub new_device_name : List Step → List (List ℕ) → Data → Result (List ℕ) FieldError
 new_device_name path before value =
     object_value path value >>= dns_label_at path (codes "name") >>= λ name.
-    unless (field_error path (codes "name") Doubled) (has_device name before) name
-
--- the names from an index on, after those before
-abbrev pub names_from : List Step → ℕ → List (List ℕ) → Items → Result (List (List ℕ)) FieldError
-names_from path place before no_items = Ok before
-names_from path place before (item d ds) =
-    new_device_name (path ++ Place place ∷ []) before d >>= λ name.
-    names_from path (place + 1) (before ++ name ∷ []) ds
+    unless (field_error path (codes "name") Doubled) (is_among name before) name
 
 -- ---- members that are left out
 
@@ -73,7 +61,7 @@ devices_of c = devices_with c.names c.attributes c.capacity c.consumes c.nodes
 -- names, attributes, capacities, what is drawn, and where
 abbrev pub columns_of : List ℕ → List CounterSet → Bool → List Step → Items → Result Columns FieldError
 columns_of driver sets per_device path ds =
-    names_from path 0 [] ds >>= λ names.
+    each_beside new_device_name path ds >>= λ names.
     each (attributes_of driver) path ds >>= λ attributes.
     each (capacity_of driver) path ds >>= λ capacity.
     each (consumes_of sets) path ds >>= λ consumes.

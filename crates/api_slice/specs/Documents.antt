@@ -3,7 +3,7 @@ use Rattle.std.specs.Prelude.{ℕ, List, option_and_then, codes}
 use Rattle.serde_json.specs.Data.{Data, Items}
 use Rattle.serde_json.specs.Find.{as_array}
 use Rattle.object_fields.specs.Fields.{member_of}
-use Rattle.api_slice.specs.Lists.{items_or_none}
+use Rattle.object_fields.specs.Lists.{items_or_none}
 
 -- the list of that name in `spec`; empty if it is missing
 abbrev pub listed : List ℕ → Data → Items

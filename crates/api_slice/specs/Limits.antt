@@ -1,6 +1,6 @@
 -- The limits and the name rules that each slice keeps that is read (API reference of
 -- resource.k8s.io/v1).
-use Rattle.std.specs.Prelude.{◌≡◌, ℕ, ◌≤◌, ◌≢◌, ℤ, pos, Bool, true, List, [], ◌∷◌, map, length, Option, Some, is_some, codes, false}
+use Rattle.std.specs.Prelude.{◌≡◌, ℕ, ◌≤◌, ◌≢◌, ℤ, pos, Bool, true, List, [], map, length, Option, Some, is_some, codes, false}
 use Rattle.std.specs.List.{All, sum_by}
 use Rattle.std.specs.Map.{keys_of, values_of}
 use Rattle.node_select.specs.declared.requirement.Requirement.{Requirement}
@@ -10,6 +10,7 @@ use Rattle.node_select.specs.declared.selector.Selector.{Selector}
 use Rattle.object_fields.specs.Limits.{VersionKept}
 use Rattle.object_fields.specs.Meta.{name_most}
 use Rattle.object_fields.specs.Names.{is_dns_label, is_dns_name, is_pool_name, pool_most}
+use Rattle.object_fields.specs.NewNames.{AreDifferent}
 use Rattle.api_slice.specs.Consumption.{amounts_most, find_set, has_counter}
 use Rattle.api_slice.specs.Counters.{counters_most}
 use Rattle.api_slice.specs.Devices.{devices_most}
@@ -26,11 +27,6 @@ use Rattle.api_slice.specs.declared.types.Nodes.TheVariants as nodes
 use Rattle.api_slice.specs.declared.types.Pool.{Pool}
 use Rattle.api_slice.specs.declared.types.SliceNodes.{SliceNodes}
 use Rattle.api_slice.specs.declared.types.SliceNodes.TheVariants as slice
-
--- no name appears twice
-abbrev pub AreDifferent : List (List ℕ) → Type 0
-AreDifferent [] = Unit {0}
-AreDifferent (name ∷ names) = All (λ other. other ≢ name) names × AreDifferent names
 
 abbrev pub IsLabel : List ℕ → Type 0
 IsLabel name = is_dns_label name ≡ true

@@ -1,16 +1,11 @@
--- The parts of lists and objects that may be missing, and how many parts there are.
+-- The parts of objects that may be missing, and how many parts there are.
 use Rattle.std.specs.Prelude.{ℕ, ◌+◌, nat_lt, List, Option, Some, None, Result, option_and_then}
-use Rattle.serde_json.specs.Data.{Data, Items, no_items, Members, no_members, member}
+use Rattle.serde_json.specs.Data.{Data, Members, no_members, member}
 use Rattle.serde_json.specs.Find.{as_object}
 use Rattle.object_fields.specs.Fields.{error_at, member_of, unless}
 use Rattle.object_fields.specs.declared.error.FieldError.{FieldError}
 use Rattle.object_fields.specs.declared.kind.FieldErrorKind.TheVariants.{TooMany}
 use Rattle.object_fields.specs.declared.path.Step.{Step}
-
--- the items of a list that may be missing
-abbrev pub items_or_none : Option Items → Items
-items_or_none None = no_items
-items_or_none (Some ds) = ds
 
 -- the members of an object that may be missing
 abbrev pub members_or_none : Option Members → Members

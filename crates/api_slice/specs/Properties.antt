@@ -4,8 +4,7 @@ use Rattle.std.specs.Prelude.{◌≡◌, ℕ, ◌+◌, ◌≤◌, ℤ, Bool, tru
 use Rattle.std.specs.List.{All}
 use Rattle.std.specs.Map.{keys_of, values_of}
 use Rattle.std.specs.Str.{chars}
-use Rattle.object_fields.specs.Names.{is_dns_name}
-use Rattle.object_fields.specs.Qualified.{domain_most, id_most, is_c_identifier}
+pub use Rattle.object_fields.specs.Qualified.{IsFullName}
 use Rattle.object_fields.specs.declared.qualified.QualName.{QualName}
 use Rattle.api_slice.specs.Attributes.{chars_most, is_version}
 use Rattle.api_slice.specs.Capacity.{together_most}
@@ -16,13 +15,6 @@ use Rattle.api_slice.specs.declared.types.Attribute.TheVariants as attribute
 pub record PropertyTables : Type 0 where
   pub attributes : List (QualName × Attribute)
   pub capacity : List (QualName × ℤ)
-
--- a full name: a DNS subdomain of at most 63 bytes and a C identifier of at most 32
-pub record IsFullName (q : QualName) : Type 0 where
-  pub domain : length q.domain ≤ domain_most
-  pub domain_form : is_dns_name q.domain ≡ true
-  pub id : length q.id ≤ id_most
-  pub id_form : is_c_identifier q.id ≡ true
 
 -- how many characters the text of a string or of a version has
 abbrev pub char_count : Attribute → ℕ

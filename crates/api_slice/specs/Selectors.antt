@@ -9,12 +9,11 @@ use Rattle.node_select.specs.declared.requirement.Test.{Test}
 use Rattle.node_select.specs.declared.requirement.Test.TheVariants.{OneOf, NoneOf, Present, Absent, Above, Below}
 use Rattle.node_select.specs.declared.selector.Selector.{Selector}
 use Rattle.object_fields.specs.Fields.{error_at, field_error, list_at, object_value, optional_at, some_or, text_at, text_value, unless, ◌>>=◌}
-use Rattle.object_fields.specs.Lists.{each}
+use Rattle.object_fields.specs.Lists.{each, items_or_none}
 use Rattle.object_fields.specs.declared.error.FieldError.{FieldError}
 use Rattle.object_fields.specs.declared.kind.FieldErrorKind.TheVariants.{NotOne, NotSupported, WrongType}
 use Rattle.object_fields.specs.declared.path.Step.{Step}
 use Rattle.object_fields.specs.declared.path.Step.TheVariants.{Member, Place}
-use Rattle.api_slice.specs.Lists.{items_or_none}
 use Rattle.api_slice.specs.declared.operator.Operator.{Operator}
 use Rattle.api_slice.specs.declared.operator.Operator.TheVariants.{In, NotIn, Exists, DoesNotExist, Gt, Lt}
 

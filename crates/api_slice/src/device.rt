@@ -1,7 +1,7 @@
-ghost use Rattle.std.specs.Prelude.{◌≡◌, [], IfOk};
+ghost use Rattle.std.specs.Prelude.{◌≡◌, IfOk};
 ghost use Rattle.serde_json.specs.View.{items_view, view};
 ghost use Rattle.object_fields.specs.Fields.{Reads};
-ghost use Rattle.object_fields.specs.Lists.{each};
+ghost use Rattle.object_fields.specs.Lists.{each, each_beside};
 ghost use Rattle.api_slice.specs.Devices as fields;
 ghost use Rattle.api_slice.specs.Attributes.{attributes_of};
 ghost use Rattle.api_slice.specs.Capacity.{capacity_of};
@@ -110,7 +110,7 @@ fn read_columns(
 
 /// The names of devices, each a DNS label that no device before has.
 fn each_name(alloc: Global, values: &[Value], path: &Path) -> Result<Seq<Text>, FieldError>
-    ensures { Reads result (fields.names_from path.now 0 [] (items_view values.now)) }
+    ensures { Reads result (each_beside fields.new_device_name path.now (items_view values.now)) }
 {
     let mut names = ByName::empty(alloc);
     for place in 0..values.len() {

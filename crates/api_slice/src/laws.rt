@@ -5,8 +5,8 @@ ghost use Rattle.object_fields.specs.declared.error.FieldError.{FieldError};
 ghost use Rattle.object_fields.specs.declared.kind.FieldErrorKind.TheVariants.{Doubled};
 ghost use Rattle.object_fields.specs.declared.path.Step.{Step};
 ghost use Rattle.object_fields.specs.declared.path.Step.TheVariants.{Place};
-ghost use Rattle.object_fields.specs.Lists.{each};
-ghost use Rattle.api_slice.specs.Devices.{names_from};
+ghost use Rattle.object_fields.specs.Lists.{each, each_beside};
+ghost use Rattle.api_slice.specs.Devices.{new_device_name};
 ghost use Rattle.api_slice.specs.Documents.{listed};
 ghost use Rattle.api_slice.specs.Limits.{IsWithinLimits};
 ghost use Rattle.api_slice.specs.Slices.{slice_of};
@@ -53,12 +53,12 @@ pub fn slices_have_their_lists()
 /// where two devices of the document have the same name, at the later of the two.
 pub fn device_names_are_new()
     ensures new { (path : List Step) (ds : Items) (names : List (List ℕ)) →
-        each label_of path ds ≡ Ok names → AreNew [] names → names_from path 0 [] ds ≡ Ok names }
+        each label_of path ds ≡ Ok names → AreNew [] names → each_beside new_device_name path ds ≡ Ok names }
     ensures doubled { (path : List Step) (ds : Items) (before behind : List (List ℕ)) (name : List ℕ) →
         each label_of path ds ≡ Ok (before ++ name ∷ behind) → AreNew [] before → is_among name before ≡ true →
-        names_from path 0 [] ds ≡ Err (doubled_at (path ++ Place (length before) ∷ [])) }
+        each_beside new_device_name path ds ≡ Err (doubled_at (path ++ Place (length before) ∷ [])) }
     ensures only { (path : List Step) (ds : Items) (e : FieldError) →
-        names_from path 0 [] ds ≡ Err e → e.kind ≡ Doubled → IsDoubled path ds e }
+        each_beside new_device_name path ds ≡ Err e → e.kind ≡ Doubled → IsDoubled path ds e }
 {
     labels_are_names();
     names_are_new();

@@ -1,7 +1,8 @@
 ghost use Rattle.std.specs.Prelude.{◌≡◌, ◌+◌, nat_lt, option_map};
 ghost use Rattle.serde_json.specs.View.{items_view, members_view, view};
 ghost use Rattle.object_fields.specs.Fields.{Reads};
-ghost use Rattle.api_slice.specs.Lists.{count_on, count_at, items_or_none, members_length};
+ghost use Rattle.object_fields.specs.Lists.{items_or_none};
+ghost use Rattle.api_slice.specs.Lists.{count_on, count_at, members_length};
 
 use object_fields::{FieldError, FieldErrorKind, Path, member};
 use serde_json::{Map, Value};

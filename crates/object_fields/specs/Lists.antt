@@ -6,6 +6,11 @@ use Rattle.object_fields.specs.declared.error.FieldError.{FieldError}
 use Rattle.object_fields.specs.declared.path.Step.{Step}
 use Rattle.object_fields.specs.declared.path.Step.TheVariants.{Member, Place}
 
+-- the items of a list that may be missing
+abbrev pub items_or_none : Option Items → Items
+items_or_none None = no_items
+items_or_none (Some ds) = ds
+
 -- the items from an index on, each read at its index, given those before, and appended to them
 abbrev pub each_from : {A : Type 0} → (List Step → List A → Data → Result A FieldError) → List Step → ℕ → List A → Items → Result (List A) FieldError
 each_from reading path place before no_items = Ok before

@@ -1,6 +1,6 @@
 -- Lists whose items have names, each of which must be new.
-use Rattle.std.specs.Prelude.{◌≡◌, ℕ, ◌<◌, Bool, true, false, List, [], ◌∷◌, ◌++◌, map, length, Option, Some, Result, Ok, Err, codes, option_and_then}
-use Rattle.std.specs.List.{list_any}
+use Rattle.std.specs.Prelude.{◌≡◌, ◌≢◌, ℕ, ◌<◌, Bool, true, false, List, [], ◌∷◌, ◌++◌, map, length, Option, Some, Result, Ok, Err, codes, option_and_then}
+use Rattle.std.specs.List.{All, list_any}
 use Rattle.std.specs.Str.{bytes_eq}
 use Rattle.serde_json.specs.Data.{Data, Items, no_items, item}
 use Rattle.serde_json.specs.Find.{as_str}
@@ -22,6 +22,11 @@ names_in no_items = []
 names_in (item d ds) = named d ∷ names_in ds
 
 -- ---- names that are new
+
+-- no name appears twice
+abbrev pub AreDifferent : List (List ℕ) → Type 0
+AreDifferent [] = Unit {0}
+AreDifferent (name ∷ names) = All (λ other. other ≢ name) names × AreDifferent names
 
 abbrev pub is_among : List ℕ → List (List ℕ) → Bool
 is_among name names = list_any (λ other. bytes_eq other name) names

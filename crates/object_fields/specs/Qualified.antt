@@ -1,5 +1,5 @@
 -- Qualified names of attributes and capacities (API reference of resource.k8s.io/v1).
-use Rattle.std.specs.Prelude.{ℕ, ◌==◌, nat_lt, ◌&&◌, ◌||◌, Bool, false, List, [], ◌∷◌, length, Option, Some, None, Result, Ok, Err, if◌then◌else◌}
+use Rattle.std.specs.Prelude.{◌≡◌, ℕ, ◌≤◌, ◌==◌, nat_lt, ◌&&◌, ◌||◌, Bool, true, false, List, [], ◌∷◌, length, Option, Some, None, Result, Ok, Err, if◌then◌else◌}
 use Rattle.std.specs.List.{after_first, before_first, list_all, position_or_len}
 use Rattle.object_fields.specs.Names.{between, is_dns_name}
 use Rattle.object_fields.specs.Fields.{error_at, name_in, ◌>>=◌}
@@ -30,6 +30,13 @@ domain_most = 63
 
 abbrev pub id_most : ℕ
 id_most = 32
+
+-- a full name: a DNS subdomain of at most 63 bytes and a C identifier of at most 32
+pub record IsFullName (q : QualName) : Type 0 where
+  pub domain : length q.domain ≤ domain_most
+  pub domain_form : is_dns_name q.domain ≡ true
+  pub id : length q.id ≤ id_most
+  pub id_form : is_c_identifier q.id ≡ true
 
 -- what precedes and what follows the first such byte
 abbrev pub cut_at : ℕ → List ℕ → Option (List ℕ × List ℕ)
