@@ -1,7 +1,9 @@
 -- What is read keeps the limits and name rules.
-use Rattle.std.proofs.Common.{◌≡◌, ◌∙◌, ℕ, zero, suc, ◌+◌, ◌≤◌, ◌&&◌, ◌||◌, Bool, true, false, List, [], ◌∷◌, ◌++◌, length, map, Option, Some, None, Result, Ok, Err, ap, arith, codes, if◌then◌else◌, lit≤, nat_le, nat_lt, not, refl, subst, sym, ℤ, pos, negsuc}
+use Rattle.std.proofs.Common.{◌≡◌, ◌≢◌, ◌∙◌, ℕ, zero, suc, ◌+◌, ◌≤◌, ◌&&◌, ◌||◌, Bool, true, false, List, [], ◌∷◌, ◌++◌, length, map, Option, Some, None, Result, Ok, Err, ap, arith, codes, if◌then◌else◌, lit≤, nat_le, nat_lt, not, refl, subst, sym, ℤ, pos, negsuc}
 use Rattle.std.proofs.lemmas.Bool.{leb-true, ltb-false}
 use Rattle.std.proofs.lemmas.List.{length-append, length-map}
+use Rattle.std.proofs.lemmas.List.Elements.{All-nil, All-push}
+use Rattle.std.proofs.lemmas.Slice.Eq.{bytes_eq-Decides}
 use Rattle.std.proofs.lemmas.Slice.Zip.{firsts-zip, length-zip}
 use Rattle.std.specs.List.{zip}
 use Rattle.std.specs.Str.{bytes_eq}
@@ -10,14 +12,14 @@ use Rattle.serde_json.specs.Find.{as_array}
 use Rattle.object_fields.specs.Fields.{dns_label_at, error_at, field_at, field_error, if_there, items_length, list_at, member_of, name_in, natural_at, natural_between, object_at, object_value, optional_at, short_list_at, some_or, text_at, unless, whole_at, ◌>>=◌}
 use Rattle.object_fields.specs.Lists.{each, each_at, each_beside, each_from, each_in}
 use Rattle.object_fields.specs.Names.{is_dns_label, label_most}
-use Rattle.object_fields.specs.NewNames.{is_among}
+use Rattle.object_fields.specs.NewNames.{AreDifferent, is_among}
 use Rattle.object_fields.specs.Selectors.{selector_at, selectors_at, selectors_most}
 use Rattle.object_fields.specs.declared.error.FieldError.{FieldError}
 use Rattle.object_fields.specs.declared.kind.FieldErrorKind.TheVariants.{Doubled, Missing, NotOne, OutOfRange, TooMany, WrongType}
 use Rattle.object_fields.specs.declared.path.Step.{Step}
 use Rattle.object_fields.specs.declared.path.Step.TheVariants.{Member, Place}
 use Rattle.api_claim.specs.Asks.{admin_at, all_at, ask_at, asked_at, count_at, count_most, exactly_at, exactly_in, first_available_at, left_out_at, mode_at, mode_with, subrequest_in}
-use Rattle.api_claim.specs.Limits.{AreDistinct, AreNames, AskKept, CountKept, EachOf, KindKept, RequestsKept, SubrequestsKept}
+use Rattle.api_claim.specs.Limits.{AreNames, AskKept, CountKept, EachOf, KindKept, RequestsKept, SubrequestsKept}
 use Rattle.api_claim.specs.Lists.{has_items, has_some, is_no_empty_list, new_name_at, passes, some_items, some_items_at}
 use Rattle.api_claim.specs.Requests.{has_one_kind, kind_of, kind_with, kinds_in, request_name_at, request_of, requests_in, requests_most, subrequest_name_at, subrequest_names_at, subrequest_of, subrequests_most}
 use Rattle.api_claim.specs.declared.asks.Asked.{Asked}
@@ -35,11 +37,15 @@ or_false : (a b : Bool) → (a || b) ≡ false → (a ≡ false) × (b ≡ false
 or_false true b h = cc
 or_false false b h = (refl, h)
 
-distinct_more : (xs : List (List ℕ)) (x : List ℕ) → AreDistinct xs → is_among x xs ≡ false → AreDistinct (xs ++ x ∷ [])
-distinct_more [] x h n = (tt, tt)
+isnt : (y x : List ℕ) → bytes_eq y x ≡ false → x ≢ y
+isnt y x h e = let same : bytes_eq y x ≡ true = (bytes_eq-Decides y x).1 (sym e) in let no_value : ⊥ = cc in no_value
+
+-- a name that is none of those before it
+distinct_more : (xs : List (List ℕ)) (x : List ℕ) → AreDifferent xs → is_among x xs ≡ false → AreDifferent (xs ++ x ∷ [])
+distinct_more [] x h n = (All-nil (λ other. other ≢ x), tt)
 distinct_more (y ∷ ys) x h n =
     let o = or_false (bytes_eq y x) (is_among x ys) n in
-    (each_more (λ u. bytes_eq y u ≡ false) ys x h.0 o.0, distinct_more ys x h.1 o.1)
+    (All-push (λ other. other ≢ y) ys x h.0 (isnt y x o.0), distinct_more ys x h.1 o.1)
 
 names_more : (xs : List (List ℕ)) (x : List ℕ) → AreNames xs → is_dns_label x ≡ true → is_among x xs ≡ false → AreNames (xs ++ x ∷ [])
 names_more xs x h l n =

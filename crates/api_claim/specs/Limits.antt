@@ -1,10 +1,9 @@
 -- The limits and name rules that each claim and each status keeps which is read (API reference of
 -- resource.k8s.io/v1).
-use Rattle.std.specs.Prelude.{◌≡◌, ℕ, ◌≤◌, ◌^◌, ◌-◌, true, false, List, [], ◌∷◌, length, map}
-use Rattle.std.specs.Str.{bytes_eq}
+use Rattle.std.specs.Prelude.{◌≡◌, ℕ, ◌≤◌, ◌^◌, ◌-◌, true, List, [], ◌∷◌, length, map}
 use Rattle.object_fields.specs.Limits.{KeyKept, VersionKept}
 use Rattle.object_fields.specs.Names.{is_dns_label}
-use Rattle.object_fields.specs.NewNames.{is_among}
+use Rattle.object_fields.specs.NewNames.{AreDifferent, is_among}
 use Rattle.object_fields.specs.Qualified.{IsFullName}
 use Rattle.object_fields.specs.Selectors.{selectors_most}
 use Rattle.object_fields.specs.declared.meta.Scope.TheVariants.{Namespaced}
@@ -26,14 +25,9 @@ abbrev pub EachOf : {A : Type 0} → (A → Type 0) → List A → Type 0
 EachOf P [] = Unit {0}
 EachOf P (x ∷ xs) = P x × EachOf P xs
 
--- no text is one of those after it
-abbrev pub AreDistinct : List (List ℕ) → Type 0
-AreDistinct [] = Unit {0}
-AreDistinct (t ∷ ts) = EachOf (λ u. bytes_eq t u ≡ false) ts × AreDistinct ts
-
 pub record AreNames (names : List (List ℕ)) : Type 0 where
   pub labels : EachOf (λ name. is_dns_label name ≡ true) names
-  pub distinct : AreDistinct names
+  pub distinct : AreDifferent names
 
 abbrev pub CountKept : AllocationMode → Type 0
 CountKept (ExactCount n) = (1 ≤ n) × (n ≤ 2 ^ 31 - 1)

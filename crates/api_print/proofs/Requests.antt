@@ -1,23 +1,22 @@
 -- The requests of a claim read as they are.
 use Rattle.std.proofs.Common.{◌≡◌, ℕ, zero, suc, ◌+◌, ◌-◌, ◌^◌, nat_lt, nat_le, Ordering, Less, Equal, Greater, Bool, true, false, ◌&&◌, List, [], ◌∷◌, ◌++◌, length, map, Option, Some, None, Result, Ok, refl, ap, ◌∙◌, append_assoc, arith}
-use Rattle.std.specs.Prelude.{◌||◌, codes}
+use Rattle.std.specs.Prelude.{codes}
 use Rattle.std.proofs.lemmas.Bool.{and_from, le-leb}
 use Rattle.std.proofs.lemmas.List.{append-nil}
 use Rattle.std.specs.Cmp.Lexicographic.{slice_cmp}
 use Rattle.std.specs.List.{zip}
 use Rattle.std.specs.Ordering.{is_eq, match_ordering, nat_cmp}
-use Rattle.std.specs.Str.{bytes_eq}
 use Rattle.serde_json.specs.Data.{Data, string, object, Members, no_members, member}
 use Rattle.serde_json.specs.Find.{get, get_member}
 use Rattle.object_fields.specs.Fields.{items_length, text_at, ◌>>=◌}
 use Rattle.object_fields.specs.Lists.{alone, each, each_from}
-use Rattle.object_fields.specs.NewNames.{is_among}
+use Rattle.object_fields.specs.NewNames.{AreDifferent, is_among}
 use Rattle.object_fields.specs.Selectors.{selector_at, selectors_most}
 use Rattle.object_fields.specs.declared.error.FieldError.{FieldError}
 use Rattle.object_fields.specs.declared.path.Step.{Step}
 use Rattle.object_fields.specs.declared.path.Step.TheVariants.{Member, Place}
 use Rattle.api_claim.specs.Asks.{admin_at, ask_at, asked_at, exactly_in, left_out_at, mode_at, subrequest_in}
-use Rattle.api_claim.specs.Limits.{AreDistinct, AskKept, CountKept, EachOf, KindKept, RequestsKept}
+use Rattle.api_claim.specs.Limits.{AskKept, CountKept, EachOf, KindKept, RequestsKept}
 use Rattle.object_fields.specs.Names.{is_dns_label}
 use Rattle.api_claim.specs.Lists.{new_name_at}
 use Rattle.api_claim.specs.Requests.{kind_of, kinds_in, request_name_at, request_of, requests_at, requests_in, requests_most, subrequest_name_at, subrequest_names_at, subrequest_of, subrequests_most}
@@ -32,6 +31,7 @@ use Rattle.api_claim.specs.declared.types.RequestKind.TheVariants as kind
 use Rattle.api_print.specs.Classes.{selector_json, selectors_if}
 use Rattle.api_print.specs.Claims.{count_if, exactly_json, kind_before, mode_text, request_json, subrequest_json}
 use Rattle.api_print.specs.Shapes.{flag_if, list_json, listed, member_if}
+use Rattle.api_print.proofs.CounterSets.{is_new}
 use Rattle.api_print.proofs.Decimals.{not_longer}
 use Rattle.api_print.proofs.Readings.{each_found, label_read, listed_length}
 
@@ -140,26 +140,14 @@ both_of : {A : Type 0} (P : List ℕ → Type 0) (name : A → List ℕ) (R : A 
 both_of P name R [] h k = tt
 both_of P name R (x ∷ xs) h k = ((h.0, k.0), both_of P name R xs h.1 k.1)
 
-neither : (a b : Bool) → a ≡ false → b ≡ false → (a || b) ≡ false
-neither true b p q = p
-neither false b p q = q
-
-middle : (P : List ℕ → Type 0) (ts : List (List ℕ)) (n : List ℕ) (rest : List (List ℕ)) → EachOf P (ts ++ n ∷ rest) → P n
-middle P [] n rest h = h.0
-middle P (t ∷ ts) n rest h = middle P ts n rest h.1
-
-fresh : (before : List (List ℕ)) (n : List ℕ) (rest : List (List ℕ)) → AreDistinct (before ++ n ∷ rest) → is_among n before ≡ false
-fresh [] n rest d = refl
-fresh (t ∷ ts) n rest d = neither (bytes_eq t n) _ (middle (λ u. bytes_eq t u ≡ false) ts n rest d.0) (fresh ts n rest d.1)
-
 -- names that are read one beside the other
 names_back : {A : Type 0} (reading : List Step → List (List ℕ) → Data → Result (List ℕ) FieldError) (json : A → Data) (name : A → List ℕ) (Q : A → Type 0) → ((p : List Step) (before : List (List ℕ)) (x : A) → Q x → is_among (name x) before ≡ false → reading p before (json x) ≡ Ok (name x))
-    → (path : List Step) (place : ℕ) (before : List (List ℕ)) (xs : List A) → AreDistinct (before ++ map name xs) → EachOf Q xs → each_from reading path place before (listed json xs) ≡ Ok (before ++ map name xs)
+    → (path : List Step) (place : ℕ) (before : List (List ℕ)) (xs : List A) → AreDifferent (before ++ map name xs) → EachOf Q xs → each_from reading path place before (listed json xs) ≡ Ok (before ++ map name xs)
 names_back reading json name Q step path place before [] d q = rw (append-nil before) refl
 names_back reading json name Q step path place before (x ∷ xs) d q =
     let same : (before ++ name x ∷ []) ++ map name xs ≡ before ++ name x ∷ map name xs = append_assoc before (name x ∷ []) (map name xs) in
-    let distinct : AreDistinct ((before ++ name x ∷ []) ++ map name xs) = rw same d in
-    rw (step (path ++ Place place ∷ []) before x q.0 (fresh before (name x) (map name xs) d)) (names_back reading json name Q step path (place + 1) (before ++ name x ∷ []) xs distinct q.1 ∙ ap Ok same)
+    let distinct : AreDifferent ((before ++ name x ∷ []) ++ map name xs) = rw same d in
+    rw (step (path ++ Place place ∷ []) before x q.0 (is_new before (name x) (map name xs) d)) (names_back reading json name Q step path (place + 1) (before ++ name x ∷ []) xs distinct q.1 ∙ ap Ok same)
 
 name_step : (p : List Step) (before : List (List ℕ)) (ms : Members) (n : List ℕ) → get_member (codes "name") ms ≡ Some (string n) → is_dns_label n ≡ true → is_among n before ≡ false → new_name_at p before (object ms) ≡ Ok n
 name_step p before ms n h label new = rw (label_read p (object ms) (codes "name") n h label, new) refl

@@ -1,20 +1,21 @@
 -- Names of requests have no slash, so that the name of a result determines its request and its subrequest.
-use Rattle.std.proofs.Common.{ℕ, zero, suc, ◌≡◌, ◌≢◌, List, [], ◌∷◌, ◌++◌, true, false, None, Some, map, refl, sym, ap, ◌∙◌, subst, append_assoc}
-use Rattle.std.specs.List.{slice_get, list_all}
+use Rattle.std.proofs.Common.{ℕ, zero, suc, ◌≡◌, ◌≢◌, List, [], ◌∷◌, ◌++◌, true, None, Some, map, refl, sym, ap, ◌∙◌, subst, append_assoc}
+use Rattle.std.proofs.lemmas.List.Elements.{All-head, All-tail}
+use Rattle.std.specs.List.{All, slice_get, list_all}
 use Rattle.object_fields.specs.Names.{is_dns_byte, is_dns_label}
+use Rattle.object_fields.specs.NewNames.{AreDifferent}
 use Rattle.object_fields.specs.declared.key.Key.{Key}
-use Rattle.api_claim.specs.Limits.{AreDistinct, EachOf, KindKept, RequestsKept}
+use Rattle.api_claim.specs.Limits.{EachOf, KindKept, RequestsKept}
 use Rattle.api_claim.specs.declared.types.DeviceRequest.{DeviceRequest}
 use Rattle.api_claim.specs.declared.types.DeviceSubRequest.{DeviceSubRequest}
 use Rattle.api_claim.specs.declared.types.RequestKind.{RequestKind}
 use Rattle.api_claim.specs.declared.types.RequestKind.TheVariants.{Exactly, FirstAvailable}
-use Rattle.pool_view.specs.Names.{text_eq}
 use Rattle.request_rules.specs.Asked.{Wish}
 use Rattle.request_rules.specs.Lists.{Each}
 use Rattle.request_rules.specs.Names.{name_by}
 use Rattle.request_rows.specs.Ways.{wishes_in}
 use Rattle.plan_check.proofs.Elements.{get-map, map-at}
-use Rattle.plan_check.proofs.Tests.{left_of, right_of, text_eq-same, truth_isnt}
+use Rattle.plan_check.proofs.Tests.{left_of, right_of}
 
 -- ---- slashes
 
@@ -67,10 +68,12 @@ each_of_at P [] h i x e = absurd (cc)
 each_of_at P (y ∷ ys) h zero x e = let f : y ≡ x = cc in subst P f h.0
 each_of_at P (y ∷ ys) h (suc i) x e = each_of_at P ys h.1 i x e
 
-prefix_differs : (u t : List ℕ) (ts : List (List ℕ)) (n : ℕ) → EachOf (λ v. text_eq u v ≡ false) ts → slice_get ts n ≡ Some t → u ≡ t → ⊥
-prefix_differs u t ts n h e f = truth_isnt (text_eq u t) (sym (ap (text_eq u) f) ∙ text_eq-same u) (each_of_at (λ v. text_eq u v ≡ false) ts h n t e)
+prefix_differs : (u t : List ℕ) (ts : List (List ℕ)) (n : ℕ) → All (λ other. other ≢ u) ts → slice_get ts n ≡ Some t → u ≡ t → ⊥
+prefix_differs u t [] n h e f = absurd (cc)
+prefix_differs u t (v ∷ ts) zero h e f = All-head (λ other. other ≢ u) v ts h (let g : v ≡ t = cc in g ∙ sym f)
+prefix_differs u t (v ∷ ts) (suc n) h e f = prefix_differs u t ts n (All-tail (λ other. other ≢ u) v ts h) e f
 
-pub place_tells : (ts : List (List ℕ)) → AreDistinct ts → (m n : ℕ) (t u : List ℕ) → slice_get ts m ≡ Some t → slice_get ts n ≡ Some u → t ≡ u → m ≡ n
+pub place_tells : (ts : List (List ℕ)) → AreDifferent ts → (m n : ℕ) (t u : List ℕ) → slice_get ts m ≡ Some t → slice_get ts n ≡ Some u → t ≡ u → m ≡ n
 place_tells [] d m n t u e f s = absurd (cc)
 place_tells (v ∷ ts) d zero zero t u e f s = refl
 place_tells (v ∷ ts) d zero (suc n) t u e f s = let g : v ≡ t = cc in absurd (prefix_differs v u ts n d.0 f (g ∙ s))
@@ -88,7 +91,7 @@ pub record WellNamed (qs : List Wish) : Type 0 where
   pub tells : (m n : ℕ) (q r : Wish) → slice_get qs m ≡ Some q → slice_get qs n ≡ Some r → q.request.name ≡ r.request.name → m ≡ n
   pub subs : Each (λ q. (ss : List DeviceSubRequest) → q.request.kind ≡ FirstAvailable ss → Apart ss) qs
 
-apart_of : (ss : List DeviceSubRequest) → AreDistinct (map (λ s. s.name) ss) → Apart ss
+apart_of : (ss : List DeviceSubRequest) → AreDifferent (map (λ s. s.name) ss) → Apart ss
 apart_of ss d = record {
   tells = λ j k s t e f same. place_tells (map (λ (s : DeviceSubRequest). s.name) ss) d j k s.name t.name (map-at (λ (s : DeviceSubRequest). s.name) ss j s e) (map-at (λ (s : DeviceSubRequest). s.name) ss k t f) same;
 }
