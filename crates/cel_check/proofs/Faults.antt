@@ -20,7 +20,8 @@ use Rattle.cel_tree.specs.Ast.{Constant, Ast, Node, Form, Literal', Ident, Unary
 use Rattle.cel_tree.specs.Types.{bool, accepts, unary_type, binary_type, conditional_type, index_type, member_type, element_type}
 use Rattle.cel_tree.specs.Calls.{called_of, call_type, method_type}
 use Rattle.cel_tree.specs.Faults.{◌>>=◌, row, item_type, joined, list_of, mapped_type, comprehension_type, called_type, method_called_type}
-use Rattle.cel_tree.specs.Typing.{Names, look_up, name_type, is_device, is_bind, device_type, variable_of, is_has, comprehension_in, with_first, has_type, body_type, key_type, beside, literal_of, key_of, keys_type, list_type, map_type, with_variable, elements, by_comprehension, type_of, form_type, has_of, has_in, has_form, comprehension_of, bind_of, bound_of, types_of, items_of, values_of}
+use Rattle.cel_tree.specs.Scopes.{look_up, is_device}
+use Rattle.cel_tree.specs.Typing.{Names, name_type, is_bind, device_type, variable_of, is_has, comprehension_in, with_first, has_type, body_type, key_type, beside, literal_of, key_of, keys_type, list_type, map_type, with_variable, elements, by_comprehension, type_of, form_type, has_of, has_in, has_form, comprehension_of, bind_of, bound_of, types_of, items_of, values_of}
 use Rattle.cel_tree.specs.HasType.{HasType, HaveTypes, no_argument, argument}
 use Rattle.cel_check.specs.HasFault.{is_device_member, member_of, has_object, first_variable, has_bodies, item_of, is_one, is_key, ItemFault, list_inside, map_inside, domains_inside, entries_inside, BodiesFault, no_bodies, no_scalar, HasFault, HaveFault, ItemsFault, ValuesFault}
 use Rattle.cel_check.specs.HasFault as rule

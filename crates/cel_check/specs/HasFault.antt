@@ -23,7 +23,8 @@ use Rattle.cel_tree.specs.declared.fault.Fault.TheVariants.{NotSupported, NoSuch
 use Rattle.cel_tree.specs.Ast.{Constant, Ast, Node, Ident, Unary, Binary, Conditional, Member, Index, Call, Method, ListOf, MapOf, Asts, End, More, Entries, Pair, span_of}
 use Rattle.cel_tree.specs.Types.{accepts, unary_type, binary_type, conditional_type, index_type, member_type, element_type}
 use Rattle.cel_tree.specs.Calls.{called_of, call_type, method_type}
-use Rattle.cel_tree.specs.Typing.{Names, look_up, is_device, is_bind, variable_of, is_has, comprehension_in, literal_of, key_type, beside}
+use Rattle.cel_tree.specs.Scopes.{look_up, is_device}
+use Rattle.cel_tree.specs.Typing.{Names, is_bind, variable_of, is_has, comprehension_in, literal_of, key_type, beside}
 use Rattle.cel_tree.specs.HasType.{HasType, HaveTypes}
 
 -- the members of `device`

@@ -3,4 +3,3 @@ pub mod Fronts
 pub mod HasFault
 pub mod Keys
 pub mod Parts
-pub mod Scopes

@@ -9,9 +9,8 @@ ghost use Rattle.cel_check.specs.Checks.{error_of, checked_of, IsError};
 ghost use Rattle.cel_check.specs.HasFault.{HasFault};
 
 use crate::laws::first_faults_are_found;
-use crate::scope::Scope;
 use crate::typing::type_of;
-use cel_tree::{CelType, Checked, Fault, Scalar, Span, Tree, types_are_found};
+use cel_tree::{CelType, Checked, Fault, Scalar, Scope, Span, Tree, types_are_found};
 use thiserror::Error;
 
 /// Why a tree is no selector. Its spans are byte offsets into the text.

@@ -1,10 +1,9 @@
 ghost use Rattle.std.specs.Prelude.{◌≡◌, ◌<◌, ◌≤◌, Ok, Err, length, map};
-ghost use Rattle.cel_tree.specs.Ast.{tree_view, constant_view};
-ghost use Rattle.cel_tree.specs.Typing.{look_up, constant_type, name_type, is_device, device_type};
-ghost use Rattle.cel_check.specs.Scopes.{names_of};
+ghost use Rattle.cel_tree.specs.Ast.{constant_view};
+ghost use Rattle.cel_tree.specs.Scopes.{bound, look_up};
+ghost use Rattle.cel_tree.specs.Typing.{constant_type, name_type, device_type};
 
-use crate::scope::Scope;
-use cel_tree::{CelType, Facet, Fault, Literal, Span, Tree, is_ident};
+use cel_tree::{CelType, Facet, Fault, Literal, Scope, Span};
 
 pub fn constant_type(literal: &Literal) -> CelType
     ensures { result ≡ constant_type (constant_view literal.now) }
@@ -18,21 +17,14 @@ pub fn constant_type(literal: &Literal) -> CelType
 }
 
 /// The type of a name alone. `device` has none of its own.
-pub fn name_type(span: Span, name: &str, scope: &Scope) -> Result<CelType, Fault>
-    ensures { result ≡ name_type span name.now (look_up name.now (names_of scope.now)) }
+pub fn name_type(span: Span, name: &str, scope: &Scope<CelType>) -> Result<CelType, Fault>
+    ensures { result ≡ name_type span name.now (look_up name.now (bound scope.now)) }
 {
     match scope.find(name) {
         Some(kind) => Ok(kind),
         None if name == "device" => Err(Fault::NoOverload(span)),
         None => Err(Fault::NoSuchName(span)),
     }
-}
-
-/// Whether the tree is `device`, and no bound name hides it.
-pub fn is_device(tree: &Tree, scope: &Scope) -> bool
-    ensures { result ≡ is_device (names_of scope.now) (tree_view tree.now) }
-{
-    is_ident(tree, "device") && scope.find("device").is_none()
 }
 
 /// The type of a member of `device`.

@@ -6,7 +6,6 @@ mod checks;
 mod keys;
 mod laws;
 mod leaf;
-mod scope;
 mod typing;
 
 pub use checks::{CheckError, check};

@@ -1,24 +1,23 @@
 ghost use Rattle.std.specs.Prelude.{◌≡◌, ◌≤◌, length, drop, map};
 ghost use Rattle.cel_tree.specs.Ast.{Call, Member, tree_view, entry_view, asts_of, entries_of};
+ghost use Rattle.cel_tree.specs.Scopes.{bound};
 ghost use Rattle.cel_tree.specs.Typing.{over, type_of, form_type, has_of, comprehension_of, bind_of, types_of};
-ghost use Rattle.cel_check.specs.Scopes.{names_of};
 ghost use Rattle.cel_check.specs.Fronts.{with_last, also};
 ghost use Rattle.cel_check.specs.Parts.{method_of, list_of, map_of};
 
 use crate::keys::{is_key, keys_type};
-use crate::leaf::{constant_type, device_type, is_device, name_type};
-use crate::scope::Scope;
+use crate::leaf::{constant_type, device_type, name_type};
 use cel_tree::{
-    Arguments, Called, CelType, Comprehension, Entry, Fault, Kind, Scalar, Span, Tree, binary_type,
-    called_of, called_type, comprehension_type, conditional_type, element_type, index_type,
-    is_bind, item_type, joined, member_type, method_called_type, nodes_have_their_lists, row,
-    unary_type, variable_of,
+    Arguments, Called, CelType, Comprehension, Entry, Fault, Kind, Scalar, Scope, Span, Tree,
+    binary_type, called_of, called_type, comprehension_type, conditional_type, element_type,
+    index_type, is_bind, item_type, joined, member_type, method_called_type,
+    nodes_have_their_lists, row, unary_type, variable_of,
 };
 
 /// The type of a tree under the names that are bound, or its first fault.
 #[cycle(typing)]
-pub fn type_of<'x>(tree: &'x Tree, scope: &'x Scope<'x>) -> Result<CelType, Fault>
-    ensures { result ≡ type_of (names_of scope.now) (tree_view tree.now) }
+pub fn type_of<'x>(tree: &'x Tree, scope: &'x Scope<'x, CelType>) -> Result<CelType, Fault>
+    ensures { result ≡ type_of (bound scope.now) (tree_view tree.now) }
 {
     nodes_have_their_lists();
     let span = tree.span;
@@ -65,11 +64,11 @@ fn member<'x>(
     span: Span,
     object: &'x Tree,
     name: &'x str,
-    scope: &'x Scope<'x>,
+    scope: &'x Scope<'x, CelType>,
 ) -> Result<CelType, Fault>
-    ensures { result ≡ form_type (names_of scope.now) span (Member (tree_view object.now) name.now) }
+    ensures { result ≡ form_type (bound scope.now) span (Member (tree_view object.now) name.now) }
 {
-    if is_device(object, scope) {
+    if scope.is_device(object) {
         return device_type(span, name);
     }
     let object = type_of(object, scope)?;
@@ -82,9 +81,9 @@ fn call<'x>(
     span: Span,
     function: &'x str,
     arguments: &'x [Tree],
-    scope: &'x Scope<'x>,
+    scope: &'x Scope<'x, CelType>,
 ) -> Result<CelType, Fault>
-    ensures { result ≡ form_type (names_of scope.now) span
+    ensures { result ≡ form_type (bound scope.now) span
         (Call function.now (asts_of (map tree_view arguments.now))) }
 {
     let called = called_of(function);
@@ -99,15 +98,19 @@ fn call<'x>(
 
 /// `has(object.name)`
 #[cycle(typing)]
-fn has<'x>(span: Span, arguments: &'x [Tree], scope: &'x Scope<'x>) -> Result<CelType, Fault>
-    ensures { result ≡ has_of (names_of scope.now) span (asts_of (map tree_view arguments.now)) }
+fn has<'x>(
+    span: Span,
+    arguments: &'x [Tree],
+    scope: &'x Scope<'x, CelType>,
+) -> Result<CelType, Fault>
+    ensures { result ≡ has_of (bound scope.now) span (asts_of (map tree_view arguments.now)) }
 {
     if arguments.len() != 1 {
         return Err(Fault::NoOverload(span));
     }
     match &arguments[0].kind {
         Kind::Member(object, _) => {
-            if is_device(object, scope) {
+            if scope.is_device(object) {
                 return Err(Fault::NoOverload(span));
             }
             let object = type_of(object, scope)?;
@@ -127,9 +130,9 @@ fn method<'x>(
     function: &'x str,
     object: CelType,
     arguments: &'x [Tree],
-    scope: &'x Scope<'x>,
+    scope: &'x Scope<'x, CelType>,
 ) -> Result<CelType, Fault>
-    ensures { result ≡ method_of (names_of scope.now) span function.now object (asts_of (map tree_view arguments.now)) }
+    ensures { result ≡ method_of (bound scope.now) span function.now object (asts_of (map tree_view arguments.now)) }
 {
     let called = called_of(function);
     match called {
@@ -150,10 +153,10 @@ fn comprehension<'x>(
     comprehension: Comprehension,
     range: CelType,
     arguments: &'x [Tree],
-    scope: &'x Scope<'x>,
+    scope: &'x Scope<'x, CelType>,
 ) -> Result<CelType, Fault>
     ensures { result ≡ over span range
-        (λ e. comprehension_of (names_of scope.now) span comprehension e (asts_of (map tree_view arguments.now))) }
+        (λ e. comprehension_of (bound scope.now) span comprehension e (asts_of (map tree_view arguments.now))) }
 {
     let Some(element) = element_type(range) else {
         return Err(Fault::NoOverload(span));
@@ -171,8 +174,12 @@ fn comprehension<'x>(
 
 /// `cel.bind(x, value, body)`
 #[cycle(typing)]
-fn bind<'x>(span: Span, arguments: &'x [Tree], scope: &'x Scope<'x>) -> Result<CelType, Fault>
-    ensures { result ≡ bind_of (names_of scope.now) span (asts_of (map tree_view arguments.now)) }
+fn bind<'x>(
+    span: Span,
+    arguments: &'x [Tree],
+    scope: &'x Scope<'x, CelType>,
+) -> Result<CelType, Fault>
+    ensures { result ≡ bind_of (bound scope.now) span (asts_of (map tree_view arguments.now)) }
 {
     if arguments.len() < 2 {
         return Err(Fault::NoOverload(span));
@@ -190,9 +197,13 @@ fn bind<'x>(span: Span, arguments: &'x [Tree], scope: &'x Scope<'x>) -> Result<C
 
 /// The types of the trees from an index on.
 #[cycle(typing)]
-fn types_of<'x>(trees: &'x [Tree], from: usize, scope: &'x Scope<'x>) -> Result<Arguments, Fault>
+fn types_of<'x>(
+    trees: &'x [Tree],
+    from: usize,
+    scope: &'x Scope<'x, CelType>,
+) -> Result<Arguments, Fault>
     requires { from ≤ length trees.now }
-    ensures { result ≡ types_of (names_of scope.now) (asts_of (map tree_view (drop from trees.now))) }
+    ensures { result ≡ types_of (bound scope.now) (asts_of (map tree_view (drop from trees.now))) }
 {
     let mut given = Arguments::None;
     for at in from..trees.len() {
@@ -204,8 +215,8 @@ fn types_of<'x>(trees: &'x [Tree], from: usize, scope: &'x Scope<'x>) -> Result<
 
 /// A list literal.
 #[cycle(typing)]
-fn list<'x>(items: &'x [Tree], scope: &'x Scope<'x>) -> Result<CelType, Fault>
-    ensures { result ≡ list_of (names_of scope.now) (asts_of (map tree_view items.now)) }
+fn list<'x>(items: &'x [Tree], scope: &'x Scope<'x, CelType>) -> Result<CelType, Fault>
+    ensures { result ≡ list_of (bound scope.now) (asts_of (map tree_view items.now)) }
 {
     let mut found = None;
     for at in 0..items.len() {
@@ -219,8 +230,8 @@ fn list<'x>(items: &'x [Tree], scope: &'x Scope<'x>) -> Result<CelType, Fault>
 
 /// A map literal.
 #[cycle(typing)]
-fn map<'x>(entries: &'x [Entry], scope: &'x Scope<'x>) -> Result<CelType, Fault>
-    ensures { result ≡ map_of (names_of scope.now) (entries_of (map entry_view entries.now)) }
+fn map<'x>(entries: &'x [Entry], scope: &'x Scope<'x, CelType>) -> Result<CelType, Fault>
+    ensures { result ≡ map_of (bound scope.now) (entries_of (map entry_view entries.now)) }
 {
     let mut found = None;
     for at in 0..entries.len() {

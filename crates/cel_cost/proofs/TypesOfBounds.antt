@@ -11,15 +11,16 @@ use Rattle.cel_tree.specs.Ast.{Ast, Asts, Entries, Constant}
 use Rattle.cel_tree.specs.Types.{unary_type, binary_type, conditional_type, index_type, member_type}
 use Rattle.cel_tree.specs.Calls.{call_type, method_type}
 use Rattle.cel_tree.specs.Faults.{row, joined, comprehension_type}
-use Rattle.cel_tree.specs.Typing.{is_none, is_ident, is_bind, with_first, device_type}
+use Rattle.cel_tree.specs.Scopes.{look_up, is_none, is_ident, is_device}
+use Rattle.cel_tree.specs.Typing.{is_bind, with_first, device_type}
 use Rattle.cel_tree.specs.Typing as typing
 use Rattle.cel_tree.specs.HasType.{HasType, HaveTypes, HaveItems, HaveValues, literal, name, unary, binary, conditional, of_device, member, index, has, call, method, comprehension, bind, list, map, no_argument, argument, no_item, item, no_value, value}
-use Rattle.cel_tree.specs.Estimate.{Bounds, Names, kinds, look_up, is_device, typed, bounds_of, each, values_of, arguments_of, elements_type, scalar_in, element_of, constant_bounds, name_bounds, unary_bounds, binary_bounds, conditional_bounds, member_bounds, index_bounds, device_bounds, plain_bounds, has_bounds, element_bounds, comprehension_bounds, bind_bounds, list_bounds, map_bounds}
+use Rattle.cel_tree.specs.Estimate.{Bounds, Names, kinds, typed, bounds_of, each, values_of, arguments_of, elements_type, scalar_in, element_of, constant_bounds, name_bounds, unary_bounds, binary_bounds, conditional_bounds, member_bounds, index_bounds, device_bounds, plain_bounds, has_bounds, element_bounds, comprehension_bounds, bind_bounds, list_bounds, map_bounds}
 
-look_kind : (x : List ℕ) (env : Names) → typing.look_up x (kinds env) ≡ option_map (λ (b : Bounds). b.kind) (look_up x env)
+look_kind : (x : List ℕ) (env : Names) → look_up x (kinds env) ≡ option_map (λ (b : Bounds). b.kind) (look_up x env)
 look_kind x [] = refl
 look_kind x (b ∷ bs) =
-    elim (bytes_eq b.0 x) as (λ t. (if t then Some b.1.kind else typing.look_up x (kinds bs)) ≡ option_map (λ (b : Bounds). b.kind) (if t then Some b.1 else look_up x bs))
+    elim (bytes_eq b.0 x) as (λ t. (if t then Some b.1.kind else look_up x (kinds bs)) ≡ option_map (λ (b : Bounds). b.kind) (if t then Some b.1 else look_up x bs))
     [ true ↦ refl | false ↦ look_kind x bs ]
 
 name_kind : (o : Option Bounds) (k : CelType) → option_map (λ (b : Bounds). b.kind) o ≡ Some k → (name_bounds o).kind ≡ k
@@ -31,9 +32,9 @@ none_kind : (o : Option Bounds) → is_none (option_map (λ (b : Bounds). b.kind
 none_kind None = refl
 none_kind (Some b) = refl
 
-device_kind : (env : Names) (ts : typing.Names) → ts ≡ kinds env → (t : Ast) → typing.is_device ts t ≡ is_device env t
+device_kind : (env : Names) (ts : typing.Names) → ts ≡ kinds env → (t : Ast) → is_device ts t ≡ is_device env t
 device_kind env ts e t =
-    ap (λ (b : Bool). is_ident (codes "device") t && b) (ap (λ (n : typing.Names). is_none (typing.look_up (codes "device") n)) e ∙ ap is_none (look_kind (codes "device") env) ∙ none_kind (look_up (codes "device") env))
+    ap (λ (b : Bool). is_ident (codes "device") t && b) (ap (λ (n : typing.Names). is_none (look_up (codes "device") n)) e ∙ ap is_none (look_kind (codes "device") env) ∙ none_kind (look_up (codes "device") env))
 
 mutual
   unfolding constant_bounds name_bounds unary_bounds binary_bounds conditional_bounds member_bounds index_bounds device_bounds plain_bounds has_bounds element_bounds comprehension_bounds bind_bounds list_bounds map_bounds
@@ -41,7 +42,7 @@ mutual
   pub kind_is : (env : Names) (ts : typing.Names) → ts ≡ kinds env → (t : Ast) (k : CelType) → HasType ts t k → (bounds_of env t).kind ≡ k
   kind_is env ts e _ _ (literal c) = refl
   kind_is env ts e _ k (name {x = x} p) =
-      name_kind (look_up x env) k (sym (ap (λ (n : typing.Names). typing.look_up x n) e ∙ look_kind x env) ∙ p)
+      name_kind (look_up x env) k (sym (ap (λ (n : typing.Names). look_up x n) e ∙ look_kind x env) ∙ p)
   kind_is env ts e _ _ (unary {span = s} {op = o} {t = t} {k = k} d p) =
       ap (λ (j : CelType). typed (row s (unary_type o j))) (kind_is env ts e t k d) ∙ ap (λ (r : Option CelType). typed (row s r)) p
   kind_is env ts e _ _ (binary {span = s} {op = o} {t = t} {u = u} {k = k} {l = l} d f p) =

@@ -9,7 +9,7 @@ use Rattle.cel_tree.specs.Typing.{comprehension_in}
 use Rattle.cel_tree.specs.Estimate.{Bounds, Names, most, each, keys_of, values_of, arguments_of, elements_type, weights_of, steps_of, last_weight, by_comprehension, comprehension_bounds, bodies_of, variable_in, element_bounds, method_bounds}
 use Rattle.cel_cost.specs.declared.bounds.Bounds as code
 use Rattle.cel_cost.specs.declared.parts.Parts as parts
-use Rattle.cel_cost.specs.declared.scope.Scope.{Scope, Top, Bound'}
+use Rattle.cel_tree.specs.declared.scope.Scope.{Scope, Top, Bound'}
 
 abbrev pub cap : ℕ → ℕ
 cap n = min n most
@@ -20,7 +20,8 @@ capped b = record { kind = b.kind; weight = cap b.weight; number = cap b.number;
 abbrev pub seen : code.Bounds → Bounds
 seen b = record { kind = b.kind; weight = b.weight; number = b.number; steps = b.steps }
 
-abbrev pub names : Scope → Names
+-- the names of a chain with the bounds of their values
+abbrev pub names : Scope code.Bounds → Names
 names Top = []
 names (Bound' name b p outer) = (name.now, seen b) ∷ names outer
 

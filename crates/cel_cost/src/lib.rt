@@ -5,7 +5,6 @@
 mod bounds;
 mod laws;
 mod parts;
-mod scope;
 mod trees;
 
 pub use laws::bounds_have_the_type;

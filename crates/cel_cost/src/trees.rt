@@ -12,9 +12,8 @@ use crate::bounds::{
 use crate::parts::{
     Parts, bind_bounds, call_bounds, comprehension_bounds, list_bounds, map_bounds, method_bounds,
 };
-use crate::scope::Scope;
 use cel_tree::{
-    Called, Checked, Entry, KeyType, Kind, Literal, Span, Tree, called_of, is_bind,
+    Called, Checked, Entry, KeyType, Kind, Literal, Scope, Span, Tree, called_of, is_bind,
     nodes_have_their_lists,
 };
 
@@ -62,7 +61,7 @@ fn key_type(key: &Tree) -> KeyType
 /// The bounds of a tree under the names in scope.
 #[cycle(bounds)]
 #[tactic(auto, using(crate::proofs::Scopes::scopes))]
-pub fn bounds_of<'x>(tree: &'x Tree, scope: &'x Scope<'x>) -> Bounds
+pub fn bounds_of<'x>(tree: &'x Tree, scope: &'x Scope<'x, Bounds>) -> Bounds
     ensures { (env : Names) → names scope.now ≡ capped_names env
         → seen result ≡ capped (bounds_of env (tree_view tree.now)) }
 {
@@ -104,7 +103,7 @@ pub fn bounds_of<'x>(tree: &'x Tree, scope: &'x Scope<'x>) -> Bounds
 
 /// `object.name`
 #[cycle(bounds)]
-fn member<'x>(span: Span, object: &'x Tree, name: &'x str, scope: &'x Scope<'x>) -> Bounds
+fn member<'x>(span: Span, object: &'x Tree, name: &'x str, scope: &'x Scope<'x, Bounds>) -> Bounds
     ensures { (env : Names) → names scope.now ≡ capped_names env
         → seen result ≡ capped (form_bounds env span (Member (tree_view object.now) name.now)) }
 {
@@ -117,7 +116,12 @@ fn member<'x>(span: Span, object: &'x Tree, name: &'x str, scope: &'x Scope<'x>)
 
 /// `function(arguments)`
 #[cycle(bounds)]
-fn call<'x>(span: Span, function: &'x str, arguments: &'x Vec<Tree>, scope: &'x Scope<'x>) -> Bounds
+fn call<'x>(
+    span: Span,
+    function: &'x str,
+    arguments: &'x Vec<Tree>,
+    scope: &'x Scope<'x, Bounds>,
+) -> Bounds
     ensures { (env : Names) → names scope.now ≡ capped_names env
         → seen result ≡ capped (form_bounds env span
         (Call function.now (asts_of (map tree_view arguments.now.items)))) }
@@ -134,7 +138,7 @@ fn method<'x>(
     function: &'x str,
     object: Bounds,
     arguments: &'x Vec<Tree>,
-    scope: &'x Scope<'x>,
+    scope: &'x Scope<'x, Bounds>,
 ) -> Bounds
     ensures { (env : Names) → (x : Estimated) → names scope.now ≡ capped_names env → seen object ≡ capped x
         → seen result ≡ capped
@@ -153,7 +157,7 @@ fn method<'x>(
 
 /// `cel.bind(x, value, body)`
 #[cycle(bounds)]
-fn bind_of<'x>(arguments: &'x Vec<Tree>, scope: &'x Scope<'x>) -> Bounds
+fn bind_of<'x>(arguments: &'x Vec<Tree>, scope: &'x Scope<'x, Bounds>) -> Bounds
     ensures { (env : Names) → names scope.now ≡ capped_names env
         → let ts = asts_of (map tree_view arguments.now.items) in
         seen result ≡ capped (bind_of env (variable_in ts) ts) }
@@ -168,7 +172,7 @@ fn bind_of<'x>(arguments: &'x Vec<Tree>, scope: &'x Scope<'x>) -> Bounds
 
 /// The parts of the trees after the first few.
 #[cycle(bounds)]
-fn parts_of<'x>(trees: &'x Vec<Tree>, first: usize, scope: &'x Scope<'x>) -> Parts
+fn parts_of<'x>(trees: &'x Vec<Tree>, first: usize, scope: &'x Scope<'x, Bounds>) -> Parts
     ensures { (env : Names) → names scope.now ≡ capped_names env
         → result ≡ parts_of (listed env (drop first trees.now.items)) }
 {
@@ -183,7 +187,7 @@ fn parts_of<'x>(trees: &'x Vec<Tree>, first: usize, scope: &'x Scope<'x>) -> Par
 
 /// The parts of the keys of a map literal.
 #[cycle(bounds)]
-fn keys_of<'x>(entries: &'x Vec<Entry>, scope: &'x Scope<'x>) -> Parts
+fn keys_of<'x>(entries: &'x Vec<Entry>, scope: &'x Scope<'x, Bounds>) -> Parts
     ensures { (env : Names) → names scope.now ≡ capped_names env
         → result ≡ parts_of (keys env entries.now.items) }
 {
@@ -198,7 +202,7 @@ fn keys_of<'x>(entries: &'x Vec<Entry>, scope: &'x Scope<'x>) -> Parts
 
 /// The parts of the values of a map literal.
 #[cycle(bounds)]
-fn values_of<'x>(entries: &'x Vec<Entry>, scope: &'x Scope<'x>) -> Parts
+fn values_of<'x>(entries: &'x Vec<Entry>, scope: &'x Scope<'x, Bounds>) -> Parts
     ensures { (env : Names) → names scope.now ≡ capped_names env
         → result ≡ parts_of (values env entries.now.items) }
 {

@@ -1,6 +1,7 @@
 ghost use Rattle.std.specs.Prelude.{◌≡◌, option_map, option_copied};
 ghost use Rattle.cel_tree.specs.Ast.{tree_view};
-ghost use Rattle.cel_meaning.specs.Meaning.{look_up, is_device, named};
+ghost use Rattle.cel_tree.specs.Scopes.{look_up, is_device};
+ghost use Rattle.cel_meaning.specs.Meaning.{named};
 ghost use Rattle.cel_value.specs.Values.{Gives};
 ghost use Rattle.cel_eval.specs.Answers.{bindings};
 

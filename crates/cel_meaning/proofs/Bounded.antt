@@ -20,7 +20,6 @@ use Rattle.cel_tree.specs.Ast.{Constant, Null, Truth, Whole, Bytes, Ast, Node, I
 use Rattle.cel_tree.specs.Types.{bool, int, accepts, unary_type, binary_type, element_type}
 use Rattle.cel_tree.specs.Calls.{call_type, method_type}
 use Rattle.cel_tree.specs.Typing as typing
-use Rattle.cel_tree.specs.Estimate as estimate
 use Rattle.cel_tree.specs.Calls.{called_of}
 use Rattle.cel_tree.specs.Faults.{comprehension_type, called_type}
 use Rattle.cel_tree.specs.HasType.{HasType, HaveTypes, HaveItems, HaveValues, literal, name, unary, binary, conditional, of_device, member, index, has, call, method, comprehension, bind, list, map, no_argument, argument, no_item, item, no_value, value}
@@ -36,7 +35,8 @@ use Rattle.cel_value.specs.Values.{◌>>=◌, constant_of, single_in, single_of,
 use Rattle.cel_value.specs.Operators.{add_of}
 use Rattle.cel_value.specs.Lookups.{key_cmp, part_of, device_member_of, member_of, index_of, elements_of}
 use Rattle.cel_meaning.specs.Folds.{tested, as_single, Body, connective_of, comprehended}
-use Rattle.cel_meaning.specs.Meaning.{Bindings, is_device, bound_to, operation, means, items_of, entries_of, bodies_of}
+use Rattle.cel_tree.specs.Scopes.{is_device}
+use Rattle.cel_meaning.specs.Meaning.{Bindings, bound_to, operation, means, items_of, entries_of, bodies_of}
 use Rattle.cel_meaning.specs.HasKind.{Every, no_more, first, IsOf, HasKind, of_scalar}
 use Rattle.cel_meaning.proofs.Every.{on, after, either, ok_if, some_inj}
 use Rattle.cel_meaning.proofs.OfKind.{when_is, part_type, index_part, member_part, elements_kind}
@@ -209,7 +209,7 @@ entry_kept : (before : List (Key × Single)) (y : Key) (x : Single) (w n a b m q
     (sum_by entry_weight (insert_entry key_cmp before y x) + m ≤ w) × (length (insert_entry key_cmp before y x) + q ≤ n)
 entry_kept before y x w n a b m q p r h i = (omega (arith, p, r, h, insert_most before y x), omega (arith, i, insert_many before y x))
 
-pub at_device : (d : Device) (env : Names) (ts : typing.Names) → ts ≡ kinds env → {bs : Bindings} → Fit d env bs → (t : Ast) (b : Bool) → typing.is_device ts t ≡ b → estimate.is_device env t ≡ b
+pub at_device : (d : Device) (env : Names) (ts : typing.Names) → ts ≡ kinds env → {bs : Bindings} → Fit d env bs → (t : Ast) (b : Bool) → is_device ts t ≡ b → is_device env t ≡ b
 at_device d env ts e {bs = bs} fit t b h = same_device fit t ∙ sym (agreed_device (agreement env ts e fit) t) ∙ h
 
 fixed_bool : is_fixed bool ≡ true
@@ -245,13 +245,13 @@ mutual
       (bounded d g env ts e v' bs fit (kind_is g env ts e v') (kind_of d v' bs (agreement env ts e fit)))))
   bounded d g env ts e (of_device {span = span} {t = t} {f = f} {k = k} b p) bs fit j h =
       let T = Node span (Member t f) in
-      let here : estimate.is_device env t ≡ true = at_device d env ts e fit t true b in
+      let here : is_device env t ≡ true = at_device d env ts e fit t true b in
       let there : is_device bs t ≡ true = sym (same_device fit t) ∙ here in
       let B = device_bounds span f in
       by_tree d g.limited (bounds_of env T) (means d bs T) k B.kind 64 0 B.steps (device_member_of d f) (rw here refl) (rw there refl) j h (device_most d g.limited span f k p)
   bounded d g env ts e (member {span = span} {t = t} {f = f} {k = k} {l = l} b i p) bs fit j h =
       let T = Node span (Member t f) in
-      let here : estimate.is_device env t ≡ false = at_device d env ts e fit t false b in
+      let here : is_device env t ≡ false = at_device d env ts e fit t false b in
       let there : is_device bs t ≡ false = sym (same_device fit t) ∙ here in
       let x = bounds_of env t in
       let B = member_bounds span x in

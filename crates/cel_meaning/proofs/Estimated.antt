@@ -10,8 +10,8 @@ use Rattle.cel_tree.specs.Ast.{Constant, Ast, Node, Literal', Asts, More, Entrie
 use Rattle.cel_tree.specs.Types.{element_type}
 use Rattle.cel_tree.specs.Typing as typing
 use Rattle.cel_tree.specs.HasType.{HasType, HaveTypes, HaveItems, HaveValues, literal, name, unary, binary, conditional, of_device, member, index, has, call, method, comprehension, bind, list, map, no_argument, argument, no_item, item, no_value, value}
-use Rattle.cel_tree.specs.Estimate.{Bounds, bounds, Names, kinds, look_up, bounds_of, each, keys_of, values_of, weights_of, steps_of, element_of, constant_bounds, name_bounds, unary_bounds, binary_bounds, conditional_bounds, member_bounds, index_bounds, device_bounds, plain_bounds, has_bounds, element_bounds, comprehension_bounds, bind_bounds, list_bounds, map_bounds}
-use Rattle.cel_tree.specs.Estimate as estimate
+use Rattle.cel_tree.specs.Scopes.{look_up, is_device}
+use Rattle.cel_tree.specs.Estimate.{Bounds, bounds, Names, kinds, bounds_of, each, keys_of, values_of, weights_of, steps_of, element_of, constant_bounds, name_bounds, unary_bounds, binary_bounds, conditional_bounds, member_bounds, index_bounds, device_bounds, plain_bounds, has_bounds, element_bounds, comprehension_bounds, bind_bounds, list_bounds, map_bounds}
 use Rattle.cel_value.specs.declared.error.EvalError.{EvalError}
 use Rattle.cel_value.specs.declared.value.Single.{Single}
 use Rattle.cel_value.specs.declared.value.Value.{Value}
@@ -20,7 +20,7 @@ use Rattle.cel_value.specs.Values.{◌>>=◌, constant_of, key_in, weight_of}
 use Rattle.cel_value.specs.Lookups.{elements_of}
 use Rattle.cel_meaning.specs.Folds.{tested, as_single}
 use Rattle.cel_meaning.specs.Steps.{behind, weights, Turn, comprehended_steps}
-use Rattle.cel_meaning.specs.Meaning.{Bindings, is_device, bound_to, means}
+use Rattle.cel_meaning.specs.Meaning.{Bindings, bound_to, means}
 use Rattle.cel_meaning.specs.Meaning as meaning
 use Rattle.cel_meaning.specs.Cost.{cost, each_steps, items_steps, entries_steps, turns}
 use Rattle.cel_meaning.specs.HasKind.{Every}
@@ -91,18 +91,18 @@ mutual
             (steps_within d g env ts e j bs fit) (steps_within d g env ts e l bs fit),
       )
   steps_within d g env ts e (of_device {t = t} b p) bs fit =
-      let here : estimate.is_device env t ≡ true = at_device d env ts e fit t true b in
+      let here : is_device env t ≡ true = at_device d env ts e fit t true b in
       let there : is_device bs t ≡ true = sym (same_device fit t) ∙ here in
       rw (here, there) (omega arith)
   steps_within d g env ts e (member {t = t} b i p) bs fit =
-      let here : estimate.is_device env t ≡ false = at_device d env ts e fit t false b in
+      let here : is_device env t ≡ false = at_device d env ts e fit t false b in
       let there : is_device bs t ≡ false = sym (same_device fit t) ∙ here in
       let inner = steps_within d g env ts e i bs fit in
       rw (here, there) (omega (arith, inner))
   steps_within d g env ts e (index {t = t} {u = u} i j p) bs fit =
       omega (arith, steps_within d g env ts e i bs fit, steps_within d g env ts e j bs fit, behind_all (means d bs t) (λ x. cost d bs u) (cost d bs u) (λ x. omega arith))
   steps_within d g env ts e (has {place = place} {t = t} {f = f} w b i p) bs fit =
-      let here : estimate.is_device env t ≡ false = at_device d env ts e fit t false b in
+      let here : is_device env t ≡ false = at_device d env ts e fit t false b in
       let there : is_device bs t ≡ false = sym (same_device fit t) ∙ here in
       let inner = steps_within d g env ts e i bs fit in
       rw (w, here, there) (omega (arith, inner))

@@ -4,14 +4,13 @@ use Rattle.std.specs.Prelude.{◌&&◌}
 use Rattle.cel_tree.specs.declared.types.CelType.{CelType}
 use Rattle.cel_tree.specs.Ast.{Ast}
 use Rattle.cel_tree.specs.HasType.{HasType}
-use Rattle.cel_tree.specs.Typing.{is_none, is_ident}
+use Rattle.cel_tree.specs.Scopes.{look_up, is_none, is_ident, is_device}
 use Rattle.cel_tree.specs.Typing as typing
-use Rattle.cel_tree.specs.Estimate.{Bounds, Names, look_up, is_device, kinds, bounds_of, name_bounds}
+use Rattle.cel_tree.specs.Estimate.{Bounds, Names, kinds, bounds_of, name_bounds}
 use Rattle.cel_value.specs.declared.error.EvalError.{EvalError}
 use Rattle.cel_value.specs.declared.value.Value.{Value}
 use Rattle.cel_value.specs.Device.{Device}
 use Rattle.cel_meaning.specs.Meaning.{Bindings, named}
-use Rattle.cel_meaning.specs.Meaning as meaning
 use Rattle.cel_meaning.specs.HasKind.{HasKind, Agree, unbound, bound}
 use Rattle.cel_meaning.proofs.Limited.{Limited}
 use Rattle.cel_meaning.proofs.AtMost.{AtMost}
@@ -38,23 +37,23 @@ step : (d : Device) (t : Bool) (b : Bounds) (v : Value) (o : Option Bounds) (p :
 step d true b v o p h i = both h
 step d false b v o p h i = i
 
-found_both : {d : Device} (x : List ℕ) {names : Names} {bindings : Bindings} → Fit d names bindings → Both d (look_up x names) (meaning.look_up x bindings)
+found_both : {d : Device} (x : List ℕ) {names : Names} {bindings : Bindings} → Fit d names bindings → Both d (look_up x names) (look_up x bindings)
 found_both x no_name = neither
-found_both {d = d} x (fitting {x = y} {b = b} {v = v} {names = names} {bindings = bs} h fit) = step d (bytes_eq y x) b v (look_up x names) (meaning.look_up x bs) h (found_both x fit)
+found_both {d = d} x (fitting {x = y} {b = b} {v = v} {names = names} {bindings = bs} h fit) = step d (bytes_eq y x) b v (look_up x names) (look_up x bs) h (found_both x fit)
 
 both_named : {d : Device} {o : Option Bounds} {p : Option Value} → Both d o p → IfOk (named p) (AtMost d (name_bounds o).weight (name_bounds o).number)
 unfolding name_bounds
 both_named neither = tt
 both_named (both h) = h.most
 
-pub name_most : {d : Device} (x : List ℕ) {names : Names} {bindings : Bindings} → Fit d names bindings → IfOk (named (meaning.look_up x bindings)) (AtMost d (name_bounds (look_up x names)).weight (name_bounds (look_up x names)).number)
+pub name_most : {d : Device} (x : List ℕ) {names : Names} {bindings : Bindings} → Fit d names bindings → IfOk (named (look_up x bindings)) (AtMost d (name_bounds (look_up x names)).weight (name_bounds (look_up x names)).number)
 name_most x fit = both_named (found_both x fit)
 
 both_none : {d : Device} {o : Option Bounds} {p : Option Value} → Both d o p → is_none o ≡ is_none p
 both_none neither = refl
 both_none (both h) = refl
 
-pub same_device : {d : Device} {names : Names} {bindings : Bindings} → Fit d names bindings → (t : Ast) → is_device names t ≡ meaning.is_device bindings t
+pub same_device : {d : Device} {names : Names} {bindings : Bindings} → Fit d names bindings → (t : Ast) → is_device names t ≡ is_device bindings t
 same_device fit t = ap (λ (b : Bool). is_ident (codes "device") t && b) (both_none (found_both (codes "device") fit))
 
 -- the two facts that the induction needs

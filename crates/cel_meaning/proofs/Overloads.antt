@@ -18,6 +18,7 @@ use Rattle.cel_tree.specs.Ast.{Constant, Null, Truth, Whole, Bytes, Ast, Node, F
 use Rattle.cel_tree.specs.Types.{accepts, branch_type, conditional_type, element_type}
 use Rattle.cel_tree.specs.Typing.{Names, key_type, type_of}
 use Rattle.cel_tree.specs.Typing as typing
+use Rattle.cel_tree.specs.Scopes.{is_device}
 use Rattle.cel_tree.specs.HasType.{HasType, HaveTypes, HaveItems, HaveValues, literal, name, unary, binary, conditional, of_device, member, index, has, call, method, comprehension, bind, list, map, no_argument, argument, no_item, item, no_value, value}
 use Rattle.cel_value.specs.declared.value.Single.{Single}
 use Rattle.cel_value.specs.declared.value.Key.{Key}
@@ -51,7 +52,7 @@ plain_type names (Node span form) k e w =
 parts : (names : Names) (span : Span) (form : Form) → is_without_dyn names (Node span form) ≡ true → parts_without names form ≡ true
 parts names span form w = (both_true (with_type (type_of names (Node span form)) is_plain) (parts_without names form) w).1
 
-object_part : (names : Names) (t : Ast) (f : List ℕ) → typing.is_device names t ≡ false → parts_without names (Member t f) ≡ true → is_without_dyn names t ≡ true
+object_part : (names : Names) (t : Ast) (f : List ℕ) → is_device names t ≡ false → parts_without names (Member t f) ≡ true → is_without_dyn names t ≡ true
 object_part names t f b u = subst (λ (x : Bool). (if x then true else is_without_dyn names t) ≡ true) b u
 
 has_part : (names : Names) (word f : List ℕ) (place : Span) (t : Ast) → called_of word ≡ Some called.Has → parts_without names (Call word (More (Node place (Member t f)) End)) ≡ true → is_without_dyn names t ≡ true

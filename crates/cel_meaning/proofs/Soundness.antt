@@ -31,7 +31,8 @@ use Rattle.cel_value.specs.Operators.{unary_of}
 use Rattle.cel_value.specs.Lookups.{key_cmp, member_of, has_of, index_of, elements_of}
 use Rattle.cel_value.specs.Functions.{call_of, method_of}
 use Rattle.cel_meaning.specs.Folds.{tested, as_single, comprehended}
-use Rattle.cel_meaning.specs.Meaning.{Bindings, is_device, bound_to, means, each, items_of, entries_of, bodies_of}
+use Rattle.cel_tree.specs.Scopes.{is_device}
+use Rattle.cel_meaning.specs.Meaning.{Bindings, bound_to, means, each, items_of, entries_of, bodies_of}
 use Rattle.cel_meaning.specs.HasKind.{Every, no_more, first, IsOf, a_bool, an_int, a_text, anything, IsEntry, HasKind, of_scalar, of_list, of_map, Agree, bound}
 use Rattle.cel_meaning.proofs.Every.{on, after, either, ok_if, some_inj, none_some, weaken}
 use Rattle.cel_meaning.proofs.OfKind.{constant_kind, unary_kind, same_is, index_kind, member_kind, elements_kind, then_kind, else_kind, device_kind, both_true}

@@ -13,7 +13,8 @@ use Rattle.cel_value.specs.Lookups.{elements_of}
 use Rattle.cel_meaning.specs.declared.connective.Connective.{Connective}
 use Rattle.cel_meaning.specs.Folds.{tested, as_single, as_key, connective_of}
 use Rattle.cel_meaning.specs.Steps.{behind, unless_decided, weights, weighed, Turn, comprehended_steps}
-use Rattle.cel_meaning.specs.Meaning.{Bindings, is_alone, is_device, bound_to, by_comprehension, means, each}
+use Rattle.cel_tree.specs.Scopes.{is_device}
+use Rattle.cel_meaning.specs.Meaning.{Bindings, is_alone, bound_to, by_comprehension, means, each}
 
 -- the steps of both operands, the second as far as it is evaluated, and the weights of their values
 abbrev pub by_connective : Option Connective → (Connective → ℕ) → ℕ → ℕ

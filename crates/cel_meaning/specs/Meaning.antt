@@ -2,8 +2,7 @@
 -- goes from left to right, operands before their operation. The first error is the tree's, but for those of
 -- the sides of `&&` and `||` and of the bodies of `all` and `exists`, by their tables. What has no meaning by
 -- the tables of types is NoOverload.
-use Rattle.std.specs.Prelude.{ℕ, List, [], ◌∷◌, Bool, false, ◌&&◌, Option, Some, None, Result, Ok, Err, if◌then◌else◌, codes}
-use Rattle.std.specs.Str.{bytes_eq}
+use Rattle.std.specs.Prelude.{ℕ, List, [], ◌∷◌, Bool, false, Option, Some, None, Result, Ok, Err, if◌then◌else◌}
 use Rattle.std.specs.BTreeMap.{insert_entry}
 use Rattle.cel_tree.specs.declared.tree.BinaryOp.{BinaryOp}
 use Rattle.cel_tree.specs.declared.calls.Comprehension.{Comprehension}
@@ -11,7 +10,8 @@ use Rattle.cel_tree.specs.declared.calls.Called.{Called}
 use Rattle.cel_tree.specs.declared.calls.Called.TheVariants as called
 use Rattle.cel_tree.specs.Ast.{Ast, Node, Form, Literal', Ident, Unary, Binary, Conditional, Member, Index, Call, Method, ListOf, MapOf, Asts, End, More, Entries, NoEntry, Pair}
 use Rattle.cel_tree.specs.Calls.{called_of}
-use Rattle.cel_tree.specs.Typing.{is_none, is_ident, is_bind, is_has, is_end, variable_of, comprehension_in}
+use Rattle.cel_tree.specs.Scopes.{look_up, is_device}
+use Rattle.cel_tree.specs.Typing.{is_bind, is_has, is_end, variable_of, comprehension_in}
 use Rattle.cel_value.specs.declared.value.Single.{Single}
 use Rattle.cel_value.specs.declared.value.Key.{Key}
 use Rattle.cel_value.specs.declared.value.Value.{Value}
@@ -29,14 +29,6 @@ use Rattle.cel_meaning.specs.Folds.{tested, as_single, as_key, as_value, as_list
 -- the names that are bound with their values, the innermost first
 abbrev pub Bindings : Type 0
 Bindings = List (List ℕ × Value)
-
-abbrev pub look_up : List ℕ → Bindings → Option Value
-look_up name [] = None
-look_up name (b ∷ bs) = if bytes_eq b.0 name then Some b.1 else look_up name bs
-
--- `device`, where no inner name hides it
-abbrev pub is_device : Bindings → Ast → Bool
-is_device names t = is_ident (codes "device") t && is_none (look_up (codes "device") names)
 
 abbrev pub named : Option Value → Result Value EvalError
 named (Some v) = Ok v

@@ -8,7 +8,8 @@ use Rattle.cel_tree.specs.declared.fault.Fault.{Fault}
 use Rattle.cel_tree.specs.Ast.{Ast, Node, Form, Literal', Ident, Unary, Binary, Conditional, Member, Index, Call, Method, ListOf, MapOf, Asts, End, More, Entries, NoEntry, Pair}
 use Rattle.cel_tree.specs.Types.{is_dyn, element_type}
 use Rattle.cel_tree.specs.Calls.{called_of}
-use Rattle.cel_tree.specs.Typing.{Names, type_of, is_device, is_bind, is_has, variable_of, comprehension_in}
+use Rattle.cel_tree.specs.Scopes.{is_device}
+use Rattle.cel_tree.specs.Typing.{Names, type_of, is_bind, is_has, variable_of, comprehension_in}
 
 -- a type without dyn
 abbrev pub is_plain : CelType → Bool

@@ -17,7 +17,8 @@ use Rattle.cel_tree.specs.Ast.{Constant, Ast, Node, Form, Literal', Ident, Unary
 use Rattle.cel_tree.specs.Types.{bool, unary_type, binary_type, conditional_type, index_type, member_type, element_type}
 use Rattle.cel_tree.specs.Calls.{called_of, call_type, method_type}
 use Rattle.cel_tree.specs.Faults.{◌>>=◌, row, item_type, comprehension_type, called_type, method_called_type, joined}
-use Rattle.cel_tree.specs.Typing.{Names, look_up, name_type, is_device, is_bind, device_type, variable_of, is_has, comprehension_in, with_first, has_type, body_type, key_type, beside, literal_of, key_of, keys_type, list_type, map_type, with_variable, elements, by_comprehension, is_end, type_of, form_type, has_of, has_in, has_form, comprehension_of, bind_of, bound_of, types_of, items_of, values_of}
+use Rattle.cel_tree.specs.Scopes.{is_device}
+use Rattle.cel_tree.specs.Typing.{Names, name_type, is_bind, device_type, variable_of, is_has, comprehension_in, with_first, has_type, body_type, key_type, beside, literal_of, key_of, keys_type, list_type, map_type, with_variable, elements, by_comprehension, type_of, form_type, has_of, has_in, has_form, comprehension_of, bind_of, bound_of, types_of, items_of, values_of}
 use Rattle.cel_tree.specs.HasType.{HasType, HaveTypes, HaveItems, HaveValues, literal, name, unary, binary, conditional, of_device, member, index, has, call, method, comprehension, bind, list, map, no_argument, argument, no_item, item, no_value, value}
 
 -- ---- from the rules to what is found

@@ -1,10 +1,8 @@
 -- The functions of the selector language, their names and the tables of their types.
-use Rattle.std.specs.Prelude.{ℕ, List, Bool, true, false, ◌&&◌, ◌||◌, if◌then◌else◌, Option, Some, None, codes, is_some}
+use Rattle.std.specs.Prelude.{ℕ, List, Bool, ◌&&◌, ◌||◌, if◌then◌else◌, Option, Some, None, codes, is_some}
 use Rattle.std.specs.Str.{bytes_eq}
-use Rattle.cel_tree.specs.declared.types.Scalar.{Scalar}
 use Rattle.cel_tree.specs.declared.types.Scalar.TheVariants as scalar
 use Rattle.cel_tree.specs.declared.types.CelType.{CelType}
-use Rattle.cel_tree.specs.declared.types.CelType.TheVariants as kind
 use Rattle.cel_tree.specs.declared.calls.Function.{Function}
 use Rattle.cel_tree.specs.declared.calls.Function.TheVariants.{Size, StartsWith, EndsWith, Contains, Quantity, IsQuantity, Semver, IsSemver, CompareTo, IsLessThan, IsGreaterThan, Add, Sub, Sign, IsInteger, AsInteger, Major, Minor, Patch}
 use Rattle.cel_tree.specs.declared.calls.Comprehension.{Comprehension}
@@ -13,7 +11,7 @@ use Rattle.cel_tree.specs.declared.calls.Called.{Called}
 use Rattle.cel_tree.specs.declared.calls.Called.TheVariants as called
 use Rattle.cel_tree.specs.declared.calls.Arguments.{Arguments}
 use Rattle.cel_tree.specs.declared.calls.Arguments.TheVariants as arguments
-use Rattle.cel_tree.specs.Types.{int, bool, string, quantity, semver, accepts, both_accept, when, element_type}
+use Rattle.cel_tree.specs.Types.{int, bool, quantity, semver, accepts, both_accept, when, element_type}
 
 -- the functions of texts and of all that has a size
 abbrev pub text_function : List ℕ → Option Function

@@ -1,7 +1,6 @@
 -- What the evaluation of an expression may take at most, before there is a device: the weight and the
 -- number of elements of its value, and its steps. The tables are this project's own.
-use Rattle.std.specs.Prelude.{ℕ, ◌+◌, ◌-◌, ◌*◌, ◌^◌, min, max, length, sum_by, List, [], ◌∷◌, Bool, ◌&&◌, Option, Some, None, Result, Ok, Err, if◌then◌else◌, codes, unwrap_or}
-use Rattle.std.specs.Str.{bytes_eq}
+use Rattle.std.specs.Prelude.{ℕ, ◌+◌, ◌-◌, ◌*◌, ◌^◌, min, max, length, sum_by, List, [], ◌∷◌, Option, Some, None, Result, Ok, Err, if◌then◌else◌, unwrap_or}
 use Rattle.cel_tree.specs.declared.tree.Span.{Span}
 use Rattle.cel_tree.specs.declared.tree.UnaryOp.{UnaryOp}
 use Rattle.cel_tree.specs.declared.tree.BinaryOp.{BinaryOp}
@@ -19,10 +18,11 @@ use Rattle.cel_tree.specs.declared.calls.Arguments.{Arguments}
 use Rattle.cel_tree.specs.declared.calls.Arguments.TheVariants as arguments
 use Rattle.cel_tree.specs.declared.fault.Fault.{Fault}
 use Rattle.cel_tree.specs.Ast.{Constant, Null, Truth, Whole, Bytes, Ast, Node, Form, Literal', Ident, Unary, Binary, Conditional, Member, Index, Call, Method, ListOf, MapOf, Asts, End, More, Entries, NoEntry, Pair}
+use Rattle.cel_tree.specs.Scopes.{look_up, is_device}
 use Rattle.cel_tree.specs.Types.{bool, any, unary_type, binary_type, conditional_type, member_type, index_type, element_type}
 use Rattle.cel_tree.specs.Calls.{called_of}
 use Rattle.cel_tree.specs.Faults.{row, joined, comprehension_type, called_type, method_called_type}
-use Rattle.cel_tree.specs.Typing.{is_none, is_ident, is_bind, is_has, constant_type, device_type, variable_of, comprehension_in, with_first, keys_type, list_type, map_type}
+use Rattle.cel_tree.specs.Typing.{is_bind, is_has, constant_type, device_type, variable_of, comprehension_in, with_first, keys_type, list_type, map_type}
 use Rattle.cel_tree.specs.Typing as typing
 
 -- The bounds of an expression: its type, the greatest weight and the greatest number of elements of
@@ -37,18 +37,10 @@ pub record Bounds : Type 0 where
 abbrev pub Names : Type 0
 Names = List (List ℕ × Bounds)
 
-abbrev pub look_up : List ℕ → Names → Option Bounds
-look_up name [] = None
-look_up name (b ∷ bs) = if bytes_eq b.0 name then Some b.1 else look_up name bs
-
 -- the names in scope with the types of their values
 abbrev pub kinds : Names → typing.Names
 kinds [] = []
 kinds (b ∷ bs) = (b.0, b.1.kind) ∷ kinds bs
-
--- `device`, where no inner name hides it
-abbrev pub is_device : Names → Ast → Bool
-is_device names t = is_ident (codes "device") t && is_none (look_up (codes "device") names)
 
 -- what has no type counts as dyn
 abbrev pub typed : Result CelType Fault → CelType

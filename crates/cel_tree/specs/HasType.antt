@@ -1,5 +1,5 @@
 -- Which type a tree has, by rules: one for each form of the language.
-use Rattle.std.specs.Prelude.{◌≡◌, ℕ, List, [], ◌∷◌, ◌++◌, Bool, true, false, Option, Some, None, Result, Ok, Err, is_some}
+use Rattle.std.specs.Prelude.{◌≡◌, ℕ, List, [], ◌∷◌, ◌++◌, true, false, Option, Some, None, Ok, is_some}
 use Rattle.std.specs.List.{list_all}
 use Rattle.cel_tree.specs.declared.tree.Span.{Span}
 use Rattle.cel_tree.specs.declared.tree.UnaryOp.{UnaryOp}
@@ -16,7 +16,8 @@ use Rattle.cel_tree.specs.Ast.{Constant, Ast, Node, Literal', Ident, Unary, Bina
 use Rattle.cel_tree.specs.Types.{bool, unary_type, binary_type, conditional_type, index_type, member_type, element_type}
 use Rattle.cel_tree.specs.Calls.{called_of, call_type, method_type}
 use Rattle.cel_tree.specs.Faults.{comprehension_type, joined}
-use Rattle.cel_tree.specs.Typing.{Names, look_up, constant_type, is_device, is_bind, device_type, with_first, key_type, beside, keys_type, list_type, map_type}
+use Rattle.cel_tree.specs.Scopes.{look_up, is_device}
+use Rattle.cel_tree.specs.Typing.{Names, constant_type, is_bind, device_type, with_first, key_type, beside, keys_type, list_type, map_type}
 
 mutual
   pub data HasType : Names → Ast → CelType → Type 0 where

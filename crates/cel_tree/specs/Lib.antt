@@ -4,6 +4,7 @@ pub mod Code
 pub mod Estimate
 pub mod Faults
 pub mod HasType
+pub mod Scopes
 pub mod Typed
 pub mod Types
 pub mod Typing

@@ -1,5 +1,5 @@
 -- The type of a tree, or its first fault from the left, operands before their operation.
-use Rattle.std.specs.Prelude.{ℕ, ◌+◌, List, [], ◌∷◌, ◌++◌, Bool, true, false, not, ◌&&◌, ◌||◌, if◌then◌else◌, Option, Some, None, Result, Ok, Err, codes, is_some, unwrap_or, option_and_then}
+use Rattle.std.specs.Prelude.{ℕ, List, [], ◌∷◌, ◌++◌, Bool, true, false, not, ◌&&◌, if◌then◌else◌, Option, Some, None, Result, Ok, Err, codes, is_some, unwrap_or, option_and_then}
 use Rattle.std.specs.Ordering.{int_eq}
 use Rattle.std.specs.List.{list_all}
 use Rattle.std.proofs.Math.Bool.{beq}
@@ -18,8 +18,9 @@ use Rattle.cel_tree.specs.declared.calls.Called.TheVariants as called
 use Rattle.cel_tree.specs.declared.calls.Arguments.{Arguments}
 use Rattle.cel_tree.specs.declared.calls.Arguments.TheVariants as arguments
 use Rattle.cel_tree.specs.declared.fault.Fault.{Fault}
-use Rattle.cel_tree.specs.declared.fault.Fault.TheVariants.{NotSupported, NoSuchName, NoOverload}
+use Rattle.cel_tree.specs.declared.fault.Fault.TheVariants.{NoSuchName, NoOverload}
 use Rattle.cel_tree.specs.Ast.{Constant, Null, Truth, Whole, Bytes, Ast, Node, Form, Literal', Ident, Unary, Binary, Conditional, Member, Index, Call, Method, ListOf, MapOf, Asts, End, More, Entries, NoEntry, Pair, span_of}
+use Rattle.cel_tree.specs.Scopes.{look_up, is_ident, is_device}
 use Rattle.cel_tree.specs.Types.{int, bool, string, null, unary_type, binary_type, conditional_type, index_type, member_type, element_type}
 use Rattle.cel_tree.specs.Calls.{called_of}
 use Rattle.cel_tree.specs.Faults.{◌>>=◌, row, item_type, joined, comprehension_type, called_type, method_called_type}
@@ -27,14 +28,6 @@ use Rattle.cel_tree.specs.Faults.{◌>>=◌, row, item_type, joined, comprehensi
 -- the names in scope with their types, the innermost first
 abbrev pub Names : Type 0
 Names = List (List ℕ × CelType)
-
-abbrev pub look_up : List ℕ → Names → Option CelType
-look_up name [] = None
-look_up name (b ∷ bs) = if bytes_eq b.0 name then Some b.1 else look_up name bs
-
-abbrev pub is_none : {A : Type 0} → Option A → Bool
-is_none (Some x) = false
-is_none None = true
 
 abbrev pub constant_type : Constant → CelType
 constant_type Null = null
@@ -46,14 +39,6 @@ constant_type (Bytes s) = string
 abbrev pub name_type : Span → List ℕ → Option CelType → Result CelType Fault
 name_type span name (Some k) = Ok k
 name_type span name None = Err (if bytes_eq name (codes "device") then NoOverload span else NoSuchName span)
-
-abbrev pub is_ident : List ℕ → Ast → Bool
-is_ident name (Node s (Ident n)) = bytes_eq n name
-is_ident name (Node s f) = false
-
--- `device`, where no inner name hides it
-abbrev pub is_device : Names → Ast → Bool
-is_device names t = is_ident (codes "device") t && is_none (look_up (codes "device") names)
 
 -- `cel.bind`
 abbrev pub is_bind : Ast → List ℕ → Bool

@@ -8,6 +8,7 @@ mod fault;
 mod laws;
 mod make;
 mod names;
+mod scope;
 mod tables;
 mod tree;
 mod types;
@@ -19,6 +20,7 @@ pub use fault::{
 };
 pub use laws::{has_one_type, nodes_have_their_lists, types_are_found};
 pub use names::{is_bind, is_ident, variable_of};
+pub use scope::Scope;
 pub use tables::{
     binary_type, conditional_type, element_type, index_type, member_type, unary_type,
 };

@@ -1,5 +1,6 @@
 ghost use Rattle.std.specs.Prelude.{◌≡◌, option_map};
-ghost use Rattle.cel_tree.specs.Typing.{is_bind, is_ident, variable_of};
+ghost use Rattle.cel_tree.specs.Scopes.{is_ident};
+ghost use Rattle.cel_tree.specs.Typing.{is_bind, variable_of};
 ghost use Rattle.cel_tree.specs.Ast.{tree_view};
 
 use crate::tree::{Kind, Tree};

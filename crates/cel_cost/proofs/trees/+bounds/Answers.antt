@@ -1,8 +1,9 @@
 use Rattle.std.proofs.Common.{◌≡◌, Some, true, false, ◌∷◌, drop, map, ap, sym, ◌∙◌, arith}
 use Rattle.cel_tree.specs.Ast.{tree_view, asts_of}
-use Rattle.cel_tree.specs.Estimate.{Names, variable_in, bounds_of, is_device, element_bounds}
+use Rattle.cel_tree.specs.Scopes.{is_device}
+use Rattle.cel_tree.specs.Estimate.{Names, variable_in, bounds_of, element_bounds}
 use Rattle.cel_cost.specs.Capped.{capped, capped_names, seen, names, parts_of, listed}
-use Rattle.cel_cost.proofs.Scopes.{device-in, short-bind, rest-is, comprehension-arm}
+use Rattle.cel_cost.proofs.Scopes.{device-seen, device-in, short-bind, rest-is, comprehension-arm}
 use Rattle.cel_tree.specs.declared.calls.Called.TheVariants as called
 use Rattle.cel_tree.specs.Calls.{called_of}
 use Rattle.cel_cost.proofs.trees.+bounds.Goals as goal
@@ -18,13 +19,13 @@ parts_of-returns t c = λ env h.
 pub member-returns-then-is_device : goal.member-returns-then-is_device
 member-returns-then-is_device t c = λ env h.
     let o = tree_view c.args.object.now in
-    let d : is_device env o ≡ true = sym (device-in o (names c.args.scope.now) env h) ∙ sym c.is_device.ensures ∙ c.if-is_device.true in
+    let d : is_device env o ≡ true = sym (device-in o (names c.args.scope.now) env h) ∙ sym (device-seen o c.args.scope.now) ∙ sym c.is_device.ensures ∙ c.if-is_device.true in
     rw d c.device_bounds.ensures
 
 pub member-returns-else-is_device : goal.member-returns-else-is_device
 member-returns-else-is_device t c = λ env h.
     let o = tree_view c.args.object.now in
-    let d : is_device env o ≡ false = sym (device-in o (names c.args.scope.now) env h) ∙ sym c.is_device.ensures ∙ c.if-is_device.false in
+    let d : is_device env o ≡ false = sym (device-in o (names c.args.scope.now) env h) ∙ sym (device-seen o c.args.scope.now) ∙ sym c.is_device.ensures ∙ c.if-is_device.false in
     rw d (c.member_bounds.ensures (bounds_of env o) (c.bounds_of.ensures env h))
 
 pub method-returns-in-Some-Comprehension : goal.method-returns-in-Some-Comprehension
