@@ -26,7 +26,7 @@ use crate::standing::{all_apart, covers, draw, fills, give_back, is_free, last_o
 use counter_sets::Totals;
 use deep_search::Begun;
 use request_rows::{Rows, Shape, Slot};
-use request_rules::{prefixes_are_good, joining_is_by_device};
+use request_rules::{joining_is_by_device, prefixes_are_good};
 use std::alloc::{AllocError, Global};
 
 /// A choice, the positions of the devices that are placed in its first slots, and what they leave.

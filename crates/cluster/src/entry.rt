@@ -86,7 +86,10 @@ pub enum Command {
     /// which isn't that memory ran out. It names nothing.
     Invalid(FieldError),
     /// To create or update an object, by the mode.
-    Apply { object: Object, mode: Mode },
+    Apply {
+        object: Object,
+        mode: Mode,
+    },
     /// To take an object away.
     Delete(Target),
     /// To find devices for a pod, and to bind it to their node.

@@ -7,6 +7,6 @@
 mod laws;
 
 pub use laws::{
-    allocations_hold_once, faults_are_first, prefixes_are_good, grants_have_all_results,
-    joining_is_by_device, walk_is_meant,
+    allocations_hold_once, faults_are_first, grants_have_all_results, joining_is_by_device,
+    prefixes_are_good, walk_is_meant,
 };
