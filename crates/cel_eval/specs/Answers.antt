@@ -1,12 +1,14 @@
 -- What clauses state of an evaluation that may run out of memory, and of names in a borrowed chain.
 use Rattle.std.specs.Prelude.{◌≡◌, ◌≤◌, ℕ, ◌+◌, [], ◌∷◌, Result, Ok, Err}
+use Rattle.std.specs.Borrow.{Bor}
 use Rattle.cel_value.specs.declared.error.EvalError.{EvalError}
 use Rattle.cel_value.specs.declared.error.EvalError.TheVariants.{NoKey, NoOverload, Overflow, DivByZero, OutOfRange, BadConversion, Memory}
-use Rattle.cel_eval.specs.declared.scope.Scope.{Scope, Top, Bound'}
+use Rattle.cel_tree.specs.declared.scope.Scope.{Scope, Top, Bound'}
+use Rattle.cel_value.specs.declared.value.Value.{Value}
 use Rattle.cel_meaning.specs.Meaning.{Bindings}
 
 -- the names of a chain with their values, the innermost first
-abbrev pub bindings : Scope → Bindings
+abbrev pub bindings : Scope (Bor Value) → Bindings
 bindings Top = []
 bindings (Bound' name v p outer) = (name.now, v.now) ∷ bindings outer
 

@@ -10,7 +10,7 @@ ghost use Rattle.cel_eval.specs.Answers.{bindings, Counts};
 
 use crate::making::Making;
 use crate::parts::{called_on, is_one, list_value, map_value, method_on, truth_value};
-use crate::scope::Scope;
+use crate::scope::{Scope, is_device, named_value};
 use crate::steps::{Steps, weighed, weights};
 use cel_meaning::{Connective, connective_of};
 use cel_tree::{
@@ -42,7 +42,7 @@ pub fn value_of<'x>(
     steps.count += 1;
     match &tree.kind {
         Kind::Literal(literal) => constant(alloc, literal),
-        Kind::Ident(name) => scope.value_of(alloc, name.as_str()),
+        Kind::Ident(name) => named_value(alloc, scope, name.as_str()),
         Kind::Unary(op, operand) => unary_of(alloc, device, *op, operand, scope, steps),
         Kind::Binary(op, left, right) => match connective_of(*op) {
             Some(connective) => {
@@ -165,7 +165,7 @@ fn member_of<'x>(
     ensures counts { Counts result steps.old.count steps.new.count
         (within device.now (bindings scope.now) (Member (tree_view object.now) name.now)) }
 {
-    if scope.is_device(object) {
+    if is_device(scope, object) {
         steps.count += 1;
         return device_member(alloc, device, name);
     }
@@ -301,7 +301,7 @@ fn has_member<'x>(
     }
     match &arguments[0].kind {
         Kind::Member(object, name) => {
-            if scope.is_device(object) {
+            if is_device(scope, object) {
                 return Err(EvalError::NoOverload);
             }
             let object = value_of(alloc, device, object, scope, steps)?;
