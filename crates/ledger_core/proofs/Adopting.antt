@@ -53,4 +53,4 @@ adoption_of law h claim status may =
 
 pub adoption_at : StatusLaw → (prefix back : List Entry) (job : ℕ) (claim : Key) (status : ClaimStatus) → Legal (prefix ++ record { job = job; event = Adopted claim status } ∷ back) → IsAdoptionOf prefix claim status
 adoption_at law prefix back job claim status legal =
-    adoption_of law prefix claim status (step_at prefix (record { job = job; event = Adopted claim status }) back legal).stands
+    adoption_of law prefix claim status (step_at prefix (record { job = job; event = Adopted claim status }) back legal).follows

@@ -256,7 +256,7 @@ few_after before e step few j =
     let index = length before + 1 in
     let pods = (after index e.job e.event (state_of before)).pods in
     let same : eqb e.job j ≡ true → pods_taken j pods ≤ most (job_state_after (job_state_of before j) index e.event) =
-    λ t. subst (λ (i : ℕ). pods_taken i pods ≤ most (job_state_after (job_state_of before i) index e.event)) (eqb-true e.job j t) (own before index e.job e.event step.allowed step.stands (few e.job)) in
+    λ t. subst (λ (i : ℕ). pods_taken i pods ≤ most (job_state_after (job_state_of before i) index e.event)) (eqb-true e.job j t) (own before index e.job e.event step.allowed step.follows (few e.job)) in
     let differs : eqb e.job j ≡ false → pods_taken j pods ≤ most (job_state_of before j) =
     λ t. let less = other index e.job j e.event (state_of before) t in let h = few j in omega (arith, less, h) in
     subst (λ (s : State). pods_taken j s.pods ≤ most (job_state_of (before ++ e ∷ []) j)) (sym (state_of-more before e))
@@ -340,12 +340,12 @@ pub busy_schedule : (prefix back : List Entry) (job holder : ℕ) (pod : Key) �
     → (has_pod (job_state_of prefix holder) ≡ true) × (holder ≢ job)
 busy_schedule prefix back job holder pod legal =
     let step = step_at prefix (record { job = job; event = Denied (Schedule pod) (refusal.Busy holder) }) back legal in
-    let due = alone (schedule_refusal (at_key (state_of prefix).pods pod)) (refusal.Busy holder) step.stands.due in
+    let due = alone (schedule_refusal (at_key (state_of prefix).pods pod)) (refusal.Busy holder) step.follows.due in
     holder_of prefix job holder (prefix_legal prefix _ legal) step.allowed (busy_pod holder (state_of prefix).pods pod (at_key (state_of prefix).pods pod) refl due)
 
 pub busy_release : (prefix back : List Entry) (job holder : ℕ) (pod : Key) → Legal (prefix ++ record { job = job; event = Denied (Release pod) (refusal.Busy holder) } ∷ back)
     → (has_pod (job_state_of prefix holder) ≡ true) × (holder ≢ job)
 busy_release prefix back job holder pod legal =
     let step = step_at prefix (record { job = job; event = Denied (Release pod) (refusal.Busy holder) }) back legal in
-    let due = alone (release_refusal (at_key (state_of prefix).pods pod)) (refusal.Busy holder) step.stands.due in
+    let due = alone (release_refusal (at_key (state_of prefix).pods pod)) (refusal.Busy holder) step.follows.due in
     holder_of prefix job holder (prefix_legal prefix _ legal) step.allowed (unbound_pod holder (state_of prefix).pods pod (at_key (state_of prefix).pods pod) refl due)

@@ -321,7 +321,7 @@ fit_first : Fit empty_state
 fit_first = (tt, λ key p is. absurd (cc))
 
 pub fit_now : SameClaims → (h : List Entry) → Legal h → Fit (state_of h)
-fit_now law h legal = always_state Fit fit_first (λ g e l s p. fit_after law g (length g + 1) e.job e.event s.stands p) h legal
+fit_now law h legal = always_state Fit fit_first (λ g e l s p. fit_after law g (length g + 1) e.job e.event s.follows p) h legal
 
 uses_of : (s : State) → Fit s → PodsUseClaims s
 uses_of s h = record {

@@ -96,7 +96,7 @@ grant_of before pod plan may =
 
 -- each reservation of a legal history grants an allocation
 pub grant_at : (prefix back : List Entry) (job : ℕ) (pod : Key) (plan : Plan) → Legal (prefix ++ record { job = job; event = Reserved pod plan } ∷ back) → IsGrantOf prefix pod plan
-grant_at prefix back job pod plan legal = grant_of prefix pod plan (step_at prefix (record { job = job; event = Reserved pod plan }) back legal).stands
+grant_at prefix back job pod plan legal = grant_of prefix pod plan (step_at prefix (record { job = job; event = Reserved pod plan }) back legal).follows
 
 -- ---- the first of a list that passes a test
 
@@ -291,11 +291,11 @@ verdict_of over parts before pod verdict may =
 pub verdict_at : OverLaw → PartsLaw → (prefix back : List Entry) (job : ℕ) (pod : Key) (verdict : Verdict) → Legal (prefix ++ record { job = job; event = VerdictGiven pod verdict } ∷ back)
     → IsVerdictOf prefix pod verdict
 verdict_at over parts prefix back job pod verdict legal =
-    verdict_of over parts prefix pod verdict (step_at prefix (record { job = job; event = VerdictGiven pod verdict }) back legal).stands
+    verdict_of over parts prefix pod verdict (step_at prefix (record { job = job; event = VerdictGiven pod verdict }) back legal).follows
 
 -- each denial of a legal history may be made
 pub denial_at : (prefix back : List Entry) (job : ℕ) (command : Command) (refusal : Refusal) → Legal (prefix ++ record { job = job; event = Denied command refusal } ∷ back) → MayDeny (state_of prefix) command refusal
-denial_at prefix back job command refusal legal = (step_at prefix (record { job = job; event = Denied command refusal }) back legal).stands
+denial_at prefix back job command refusal legal = (step_at prefix (record { job = job; event = Denied command refusal }) back legal).follows
 
 -- and leaves the state as it was
 pub denial_kept : (prefix : List Entry) (job : ℕ) (command : Command) (refusal : Refusal) → state_of (prefix ++ record { job = job; event = Denied command refusal } ∷ []) ≡ state_of prefix

@@ -177,7 +177,7 @@ module _ (empty : HeldOnce empty_state)
   once_after before index job (Denied command refusal) may h = h
 
   pub once_now : (h : List Entry) → Legal h → HeldOnce (state_of h)
-  once_now h legal = always_state HeldOnce empty (λ g e l s p. once_after g (length g + 1) e.job e.event s.stands p) h legal
+  once_now h legal = always_state HeldOnce empty (λ g e l s p. once_after g (length g + 1) e.job e.event s.follows p) h legal
 
   pub once_at : (h : List Entry) (index : ℕ) → Legal h → HeldOnce (state_at h index)
   once_at h index legal = at_places HeldOnce once_now h index legal

@@ -174,7 +174,7 @@ kept_at_first : ObjectsKept empty_state
 kept_at_first = record { nodes = tt; slices = tt; classes = tt; claims = tt; pods = tt }
 
 pub kept_now : (h : List Entry) → Legal h → ObjectsKept (state_of h)
-kept_now h legal = always_state ObjectsKept kept_at_first (λ g e l s p. kept_after g (length g + 1) e.job e.event s.stands p) h legal
+kept_now h legal = always_state ObjectsKept kept_at_first (λ g e l s p. kept_after g (length g + 1) e.job e.event s.follows p) h legal
 
 pub kept_at : (h : List Entry) (index : ℕ) → Legal h → ObjectsKept (state_at h index)
 kept_at h index legal = at_places ObjectsKept kept_now h index legal

@@ -46,12 +46,12 @@ pick_same true w w' x x' e f = e refl
 pick_same false w w' x x' e f = f
 
 -- the jobs' states after a history, with one entry more
-pub stands_more : (es : List Entry) (stands stands' : List (ℕ × JobState)) (e : Entry) → ((j : ℕ) → job_state_in stands j ≡ job_state_of es j)
-    → ((j : ℕ) → job_state_in stands' j ≡ cond (eqb e.job j) (job_state_after (job_state_in stands e.job) (length es + 1) e.event) (job_state_in stands j))
-    → (j : ℕ) → job_state_in stands' j ≡ job_state_of (es ++ e ∷ []) j
-stands_more es stands stands' e are set j =
+pub job_states_more : (es : List Entry) (job_states job_states' : List (ℕ × JobState)) (e : Entry) → ((j : ℕ) → job_state_in job_states j ≡ job_state_of es j)
+    → ((j : ℕ) → job_state_in job_states' j ≡ cond (eqb e.job j) (job_state_after (job_state_in job_states e.job) (length es + 1) e.event) (job_state_in job_states j))
+    → (j : ℕ) → job_state_in job_states' j ≡ job_state_of (es ++ e ∷ []) j
+job_states_more es job_states job_states' e are set j =
     set j
-    ∙ pick_same (eqb e.job j) (job_state_after (job_state_in stands e.job) (length es + 1) e.event) (job_state_after (job_state_of es j) (length es + 1) e.event) (job_state_in stands j) (job_state_of es j)
+    ∙ pick_same (eqb e.job j) (job_state_after (job_state_in job_states e.job) (length es + 1) e.event) (job_state_after (job_state_of es j) (length es + 1) e.event) (job_state_in job_states j) (job_state_of es j)
     (λ t. ap (λ (s : JobState). job_state_after s (length es + 1) e.event) (are e.job) ∙ ap (λ (i : ℕ). job_state_after (job_state_of es i) (length es + 1) e.event) (eqb-true e.job j t))
     (are j)
     ∙ sym (job_state_of-more es e j)

@@ -171,9 +171,9 @@ keeps_by true job pod h e is before step about has =
     let mine : e.job ≡ job = eqb-true e.job job is in
     let last : Contains (h ++ e ∷ []) e = Contains-append_right h (e ∷ []) e (0, omega arith, refl) in
     subst (λ (n : ℕ). TakenBy (after (length h + 1) e.job e.event (state_of h)).pods pod n) mine
-    (own h (length h + 1) e.job e.event (job_state_of h job) step.stands pod (λ other of. about e other last mine of) has)
+    (own h (length h + 1) e.job e.event (job_state_of h job) step.follows pod (λ other of. about e other last mine of) has)
 keeps_by false job pod h e is before step about has =
-    stays h (length h + 1) e.job e.event step.stands pod job is (before (λ d other among mine of. about d other (Contains-append_left h (e ∷ []) d among) mine of) has)
+    stays h (length h + 1) e.job e.event step.follows pod job is (before (λ d other among mine of. about d other (Contains-append_left h (e ∷ []) d among) mine of) has)
 
 keeps_more : (job : ℕ) (pod : Key) (h : List Entry) (e : Entry) → Keeps job pod h → Step h e → Keeps job pod (h ++ e ∷ [])
 keeps_more job pod h e before step = λ about has.

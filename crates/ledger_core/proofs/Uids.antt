@@ -87,7 +87,7 @@ follows law before index job (Denied command refusal) may fit = same_follows ind
 
 step_follows : SameClaims → (h : List Entry) (e : Entry) → Legal h → Step h e → Follows (length h + 1) (state_of h).pods (state_of (h ++ e ∷ [])).pods
 step_follows law h e legal step =
-    subst (λ (s : State). Follows (length h + 1) (state_of h).pods s.pods) (sym (state_of-more h e)) (follows law h (length h + 1) e.job e.event step.stands (fit_now law h legal))
+    subst (λ (s : State). Follows (length h + 1) (state_of h).pods s.pods) (sym (state_of-more h e)) (follows law h (length h + 1) e.job e.event step.follows (fit_now law h legal))
 
 -- ---- uids
 

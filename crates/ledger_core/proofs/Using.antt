@@ -323,7 +323,7 @@ fits_first = (tt, λ k c is. absurd (cc))
 
 fits_now : SameClaims → (h : List Entry) → Legal h → UsersFit (state_of h).pods (state_of h).claims
 fits_now law h legal =
-    always_state (λ s. UsersFit s.pods s.claims) fits_first (λ g e l s p. fits_after law g (length g + 1) e.job e.event s.stands (fit_now law g l) p) h legal
+    always_state (λ s. UsersFit s.pods s.claims) fits_first (λ g e l s p. fits_after law g (length g + 1) e.job e.event s.follows (fit_now law g l) p) h legal
 
 busy_of : (s : State) → UsersFit s.pods s.claims → UsersAreBusy s
 busy_of s h = record {

@@ -29,13 +29,13 @@ at table n = lookup (is_at (nat_cmp n)) table
 
 -- the row of a job in the table of the jobs' states; a job without one is Fresh
 abbrev pub job_state_in : List (ℕ × JobState) → ℕ → JobState
-job_state_in stands job = unwrap_or (at stands job) Fresh
+job_state_in job_states job = unwrap_or (at job_states job) Fresh
 
 -- the entries are a legal history, and the state, its holders and each job's state are those after them
-pub record IsKept (entries : List Entry) (state : State) (holders : Holders) (stands : List (ℕ × JobState)) (limit : ℕ) : Type 0 where
+pub record IsKept (entries : List Entry) (state : State) (holders : Holders) (job_states : List (ℕ × JobState)) (limit : ℕ) : Type 0 where
   pub legal : Legal entries
   pub state_is : state ≡ state_of entries
   pub holders_are : AreHeld holders (held state)
-  pub stands_are : (job : ℕ) → job_state_in stands job ≡ job_state_of entries job
+  pub job_states_are : (job : ℕ) → job_state_in job_states job ≡ job_state_of entries job
   pub within : length entries ≤ limit
   pub small : limit < 2 ^ 48

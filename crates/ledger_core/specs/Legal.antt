@@ -37,7 +37,7 @@ MayFollow before job (Denied command refusal) = MayDeny (state_of before) comman
 -- the entry may follow these
 pub record Step (before : List Entry) (e : Entry) : Type 0 where
   pub allowed : allows (job_state_of before e.job) e.event ≡ true
-  pub stands : MayFollow before e.job e.event
+  pub follows : MayFollow before e.job e.event
 
 -- each of es may follow those before it
 unfoldable pub LegalAfter : List Entry → List Entry → Type 0

@@ -73,7 +73,7 @@ pub struct Ledger {
     entries: Vec<Entry>,
     state: State,
     holders: Shared<Held>,
-    stands: JobStates,
+    job_states: JobStates,
     limit: u64,
 }
 
@@ -84,7 +84,7 @@ impl Model for Ledger {
 
     ghost view = { λ l. record { entries = l.entries.items; limit = l.limit } };
 
-    ghost invariant = { λ l. IsKept l.entries.items l.state l.holders l.stands l.limit };
+    ghost invariant = { λ l. IsKept l.entries.items l.state l.holders l.job_states l.limit };
 }
 
 impl Ledger {
@@ -99,7 +99,7 @@ impl Ledger {
             entries: Vec::new(alloc),
             state,
             holders,
-            stands: Table::new(alloc),
+            job_states: Table::new(alloc),
             limit,
         })
     }
@@ -155,7 +155,7 @@ impl Ledger {
     pub fn job_state(&self, job: u64) -> JobState
         ensures { result ≡ job_state_of self.now.entries job }
     {
-        job_state_in(&self.stands, job)
+        job_state_in(&self.job_states, job)
     }
 
     /// Applies an object whose selectors are compiled, by the mode: it is created, with the entry's index
@@ -325,10 +325,10 @@ impl Ledger {
         ensures err { OnErr result (self.new ≡ self.old) }
     {
         one_holder();
-        let index = make_room(&mut self.entries, &mut self.stands, self.limit, job)?;
+        let index = make_room(&mut self.entries, &mut self.job_states, self.limit, job)?;
         let pod = free(alloc, &mut self.state, &mut self.holders, index, pod)?;
         let event = Event::Unreserved(pod);
-        append(&mut self.entries, &mut self.stands, job, event);
+        append(&mut self.entries, &mut self.job_states, job, event);
         Ok(Done {
             index,
             outcome: Outcome::Made,
@@ -346,10 +346,10 @@ impl Ledger {
         ensures full { (n : ℕ) → IsErrOf result (LedgerError.Full n) → (length self.old.entries ≡ n) × (self.old.limit ≤ n) }
         ensures err { OnErr result (self.new ≡ self.old) }
     {
-        let index = make_room(&mut self.entries, &mut self.stands, self.limit, job)?;
+        let index = make_room(&mut self.entries, &mut self.job_states, self.limit, job)?;
         let (pod, node) = bind(alloc, &mut self.state, pod)?;
         let event = Event::Bound { pod, node };
-        append(&mut self.entries, &mut self.stands, job, event);
+        append(&mut self.entries, &mut self.job_states, job, event);
         Ok(Done {
             index,
             outcome: Outcome::Made,
@@ -374,10 +374,10 @@ impl Ledger {
         ensures err { OnErr result (self.new ≡ self.old) }
     {
         let verdict = Shared::new(alloc, verdict)?;
-        let index = make_room(&mut self.entries, &mut self.stands, self.limit, job)?;
+        let index = make_room(&mut self.entries, &mut self.job_states, self.limit, job)?;
         let pod = pod.copy(alloc)?;
         let event = Event::VerdictGiven { pod, verdict };
-        append(&mut self.entries, &mut self.stands, job, event);
+        append(&mut self.entries, &mut self.job_states, job, event);
         Ok(Done {
             index,
             outcome: Outcome::Made,
@@ -400,10 +400,10 @@ impl Ledger {
         ensures err { OnErr result (self.new ≡ self.old) }
     {
         let attempts = failures(self.job_state(job));
-        let index = make_room(&mut self.entries, &mut self.stands, self.limit, job)?;
+        let index = make_room(&mut self.entries, &mut self.job_states, self.limit, job)?;
         let pod = pod.copy(alloc)?;
         let event = Event::Contended { pod, attempts };
-        append(&mut self.entries, &mut self.stands, job, event);
+        append(&mut self.entries, &mut self.job_states, job, event);
         Ok(Done {
             index,
             outcome: Outcome::Made,
@@ -485,14 +485,14 @@ impl Ledger {
         let index = put_object(
             alloc,
             &mut self.entries,
-            &mut self.stands,
+            &mut self.job_states,
             &mut self.state,
             self.limit,
             job,
             kept,
         )?;
         let event = Event::Applied { object, mode };
-        append(&mut self.entries, &mut self.stands, job, event);
+        append(&mut self.entries, &mut self.job_states, job, event);
         Ok(Done {
             index,
             outcome: Outcome::Made,
@@ -511,10 +511,10 @@ impl Ledger {
         ensures err { OnErr result (self.new ≡ self.old) }
     {
         one_holder();
-        let index = make_room(&mut self.entries, &mut self.stands, self.limit, job)?;
+        let index = make_room(&mut self.entries, &mut self.job_states, self.limit, job)?;
         let target = remove(alloc, &mut self.state, &mut self.holders, target)?;
         let event = Event::Deleted(target);
-        append(&mut self.entries, &mut self.stands, job, event);
+        append(&mut self.entries, &mut self.job_states, job, event);
         Ok(Done {
             index,
             outcome: Outcome::Made,
@@ -532,9 +532,9 @@ impl Ledger {
         ensures full { (n : ℕ) → IsErrOf result (LedgerError.Full n) → (length self.old.entries ≡ n) × (self.old.limit ≤ n) }
         ensures err { OnErr result (self.new ≡ self.old) }
     {
-        let index = make_room(&mut self.entries, &mut self.stands, self.limit, job)?;
+        let index = make_room(&mut self.entries, &mut self.job_states, self.limit, job)?;
         let event = Event::Denied { command, refusal };
-        append(&mut self.entries, &mut self.stands, job, event);
+        append(&mut self.entries, &mut self.job_states, job, event);
         Ok(Done {
             index,
             outcome: Outcome::Denied,
@@ -587,10 +587,10 @@ impl Ledger {
         ensures err { OnErr result (self.new ≡ self.old) }
     {
         let why = Shared::new(alloc, why)?;
-        let index = make_room(&mut self.entries, &mut self.stands, self.limit, job)?;
+        let index = make_room(&mut self.entries, &mut self.job_states, self.limit, job)?;
         let (pod, plan) = copies(alloc, pod, plan)?;
         let event = Event::Refused { pod, plan, why };
-        append(&mut self.entries, &mut self.stands, job, event);
+        append(&mut self.entries, &mut self.job_states, job, event);
         Ok(Done {
             index,
             outcome: Outcome::Refused,
@@ -609,10 +609,10 @@ impl Ledger {
         ensures err { OnErr result (self.new ≡ self.old) }
     {
         one_holder();
-        let index = make_room(&mut self.entries, &mut self.stands, self.limit, job)?;
+        let index = make_room(&mut self.entries, &mut self.job_states, self.limit, job)?;
         let (pod, plan) = reserve(alloc, &mut self.state, &mut self.holders, job, pod, plan)?;
         let event = Event::Reserved { pod, plan };
-        append(&mut self.entries, &mut self.stands, job, event);
+        append(&mut self.entries, &mut self.job_states, job, event);
         Ok(Done {
             index,
             outcome: Outcome::Made,
@@ -636,7 +636,7 @@ impl Ledger {
         ensures full { (n : ℕ) → IsErrOf result (LedgerError.Full n) → (length self.old.entries ≡ n) × (self.old.limit ≤ n) }
         ensures err { OnErr result (self.new ≡ self.old) }
     {
-        let index = make_room(&mut self.entries, &mut self.stands, self.limit, job)?;
+        let index = make_room(&mut self.entries, &mut self.job_states, self.limit, job)?;
         let kept_pod = pod.copy(alloc)?;
         let kept_claim = claim.copy(alloc)?;
         let seen = version(&self.state, claim);
@@ -646,7 +646,7 @@ impl Ledger {
             claim: kept_claim,
             seen,
         };
-        append(&mut self.entries, &mut self.stands, job, event);
+        append(&mut self.entries, &mut self.job_states, job, event);
         Ok(Done {
             index,
             outcome: Outcome::Made,
@@ -672,7 +672,7 @@ impl Ledger {
         ensures full { (n : ℕ) → IsErrOf result (LedgerError.Full n) → (length self.old.entries ≡ n) × (self.old.limit ≤ n) }
         ensures err { OnErr result (self.new ≡ self.old) }
     {
-        let index = make_room(&mut self.entries, &mut self.stands, self.limit, job)?;
+        let index = make_room(&mut self.entries, &mut self.job_states, self.limit, job)?;
         let pod = pod.copy(alloc)?;
         let claim = claim.copy(alloc)?;
         let event = Event::Conflict {
@@ -681,7 +681,7 @@ impl Ledger {
             had,
             now,
         };
-        append(&mut self.entries, &mut self.stands, job, event);
+        append(&mut self.entries, &mut self.job_states, job, event);
         Ok(Done {
             index,
             outcome: Outcome::Conflicted,
@@ -700,10 +700,10 @@ impl Ledger {
         ensures err { OnErr result (self.new ≡ self.old) }
     {
         one_holder();
-        let index = make_room(&mut self.entries, &mut self.stands, self.limit, job)?;
+        let index = make_room(&mut self.entries, &mut self.job_states, self.limit, job)?;
         let pod = free(alloc, &mut self.state, &mut self.holders, index, pod)?;
         let event = Event::Released(pod);
-        append(&mut self.entries, &mut self.stands, job, event);
+        append(&mut self.entries, &mut self.job_states, job, event);
         Ok(Done {
             index,
             outcome: Outcome::Made,
@@ -755,7 +755,7 @@ impl Ledger {
         ensures err { OnErr result (self.new ≡ self.old) }
     {
         one_holder();
-        let index = make_room(&mut self.entries, &mut self.stands, self.limit, job)?;
+        let index = make_room(&mut self.entries, &mut self.job_states, self.limit, job)?;
         let claim = adopt(
             alloc,
             &mut self.state,
@@ -765,7 +765,7 @@ impl Ledger {
             status.value(),
         )?;
         let event = Event::Adopted { claim, status };
-        append(&mut self.entries, &mut self.stands, job, event);
+        append(&mut self.entries, &mut self.job_states, job, event);
         Ok(Done {
             index,
             outcome: Outcome::Made,
@@ -784,7 +784,7 @@ fn no_holders(alloc: Global) -> Result<Shared<Held>, AllocError>
 fn put_object(
     alloc: Global,
     entries: &mut Vec<Entry>,
-    stands: &mut JobStates,
+    job_states: &mut JobStates,
     state: &mut State,
     limit: u64,
     job: u64,
@@ -793,8 +793,8 @@ fn put_object(
     requires limit { limit < 2 ^ 48 }
     requires free { has_room state.old (object_of kept) ≡ true }
     ensures entries { entries.new.items ≡ entries.old.items }
-    ensures stands { (j : ℕ) → job_state_in stands.new j ≡ job_state_in stands.old j }
-    ensures row { OnOk result (is_some (at stands.new job) ≡ true) }
+    ensures job_states { (j : ℕ) → job_state_in job_states.new j ≡ job_state_in job_states.old j }
+    ensures row { OnOk result (is_some (at job_states.new job) ≡ true) }
     ensures room { OnOk result (vec_len entries.new < vec_capacity entries.new) }
     ensures within { OnOk result (length entries.old.items < limit) }
     ensures index { IfOk result (λ index. index ≡ length entries.old.items + 1) }
@@ -802,7 +802,7 @@ fn put_object(
     ensures full { (n : ℕ) → IsErrOf result (LedgerError.Full n) → (length entries.old.items ≡ n) × (limit ≤ n) }
     ensures err { OnErr result (state.new ≡ state.old) }
 {
-    let index = make_room(entries, stands, limit, job)?;
+    let index = make_room(entries, job_states, limit, job)?;
     state.put(alloc, index, kept)?;
     Ok(index)
 }

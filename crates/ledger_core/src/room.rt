@@ -15,14 +15,14 @@ pub type JobStates = Table<u64, JobState>;
 /// Makes room for an entry of a job and for its state, and returns the entry's index.
 pub fn make_room(
     entries: &mut Vec<Entry>,
-    stands: &mut JobStates,
+    job_states: &mut JobStates,
     limit: u64,
     job: u64,
 ) -> Result<u64, LedgerError>
     requires { limit < 2 ^ 48 }
     ensures entries { entries.new.items ≡ entries.old.items }
-    ensures stands { (j : ℕ) → job_state_in stands.new j ≡ job_state_in stands.old j }
-    ensures row { OnOk result (is_some (at stands.new job) ≡ true) }
+    ensures job_states { (j : ℕ) → job_state_in job_states.new j ≡ job_state_in job_states.old j }
+    ensures row { OnOk result (is_some (at job_states.new job) ≡ true) }
     ensures room { OnOk result (vec_len entries.new < vec_capacity entries.new) }
     ensures within { OnOk result (length entries.old.items < limit) }
     ensures index { IfOk result (λ index. index ≡ length entries.old.items + 1) }
@@ -32,54 +32,54 @@ pub fn make_room(
     if len >= limit {
         return Err(LedgerError::Full(len));
     }
-    make_row(stands, job)?;
+    make_row(job_states, job)?;
     entries.reserve(1)?;
     Ok(len + 1)
 }
 
 /// Appends an entry that there is room for, and sets its job to the state that it leaves.
-pub fn append(entries: &mut Vec<Entry>, stands: &mut JobStates, job: u64, event: Event)
+pub fn append(entries: &mut Vec<Entry>, job_states: &mut JobStates, job: u64, event: Event)
     requires room { vec_len entries.old < vec_capacity entries.old }
-    requires row { is_some (at stands.old job) ≡ true }
+    requires row { is_some (at job_states.old job) ≡ true }
     requires few { length entries.old.items < 2 ^ 48 }
-    requires tries { failures (job_state_in stands.old job) < 2 ^ 48 }
+    requires tries { failures (job_state_in job_states.old job) < 2 ^ 48 }
     ensures entries { entries.new.items ≡ entries.old.items ++ record { job = job; event = event } ∷ [] }
-    ensures stands { (j : ℕ) → job_state_in stands.new j ≡ (if job == j then job_state_after (job_state_in stands.old job) (length entries.old.items + 1) event else job_state_in stands.old j) }
+    ensures job_states { (j : ℕ) → job_state_in job_states.new j ≡ (if job == j then job_state_after (job_state_in job_states.old job) (length entries.old.items + 1) event else job_state_in job_states.old j) }
 {
     let index = entries.len() as u64 + 1;
-    let job_state = job_state_after(job_state_in(stands, job), index, &event);
-    set_job_state(stands, job, job_state);
+    let job_state = job_state_after(job_state_in(job_states, job), index, &event);
+    set_job_state(job_states, job, job_state);
     entries.push_reserved(Entry { job, event });
 }
 
 /// The state of a job.
-pub fn job_state_in(stands: &JobStates, job: u64) -> JobState
-    ensures { result ≡ job_state_in stands.now job }
+pub fn job_state_in(job_states: &JobStates, job: u64) -> JobState
+    ensures { result ≡ job_state_in job_states.now job }
 {
-    match stands.get(&job) {
+    match job_states.get(&job) {
         None => JobState::Fresh,
         Some(job_state) => *job_state,
     }
 }
 
 /// Makes a row for a job, where it has none.
-fn make_row(stands: &mut JobStates, job: u64) -> Result<(), AllocError>
-    ensures same { (j : ℕ) → job_state_in stands.new j ≡ job_state_in stands.old j }
-    ensures row { OnOk result (is_some (at stands.new job) ≡ true) }
+fn make_row(job_states: &mut JobStates, job: u64) -> Result<(), AllocError>
+    ensures same { (j : ℕ) → job_state_in job_states.new j ≡ job_state_in job_states.old j }
+    ensures row { OnOk result (is_some (at job_states.new job) ≡ true) }
 {
-    if stands.contains_key(&job) {
+    if job_states.contains_key(&job) {
         Ok(())
     } else {
-        stands.insert(job, JobState::Fresh)
+        job_states.insert(job, JobState::Fresh)
     }
 }
 
 /// Sets a job that has a row to this state.
-fn set_job_state(stands: &mut JobStates, job: u64, job_state: JobState)
-    requires { is_some (at stands.old job) ≡ true }
-    ensures { (j : ℕ) → job_state_in stands.new j ≡ (if job == j then job_state else job_state_in stands.old j) }
+fn set_job_state(job_states: &mut JobStates, job: u64, job_state: JobState)
+    requires { is_some (at job_states.old job) ≡ true }
+    ensures { (j : ℕ) → job_state_in job_states.new j ≡ (if job == j then job_state else job_state_in job_states.old j) }
 {
-    if let Some(row) = stands.get_mut(&job) {
+    if let Some(row) = job_states.get_mut(&job) {
         *row = job_state;
     }
 }

@@ -388,7 +388,7 @@ one_step laws c pod attempts s p before e command idle begun a far = pick (nat_l
     pick : (b : Bool) → nat_le c.from (length before) ≡ b → Far c pod s p (before ++ e ∷ []) (job_state_of (before ++ e ∷ []) c.job)
     pick true t =
         let mine : e.job ≡ c.job = a.alone (leb-true c.from (length before) t) in
-        let stands : MayFollow before c.job e.event = subst (λ (n : ℕ). MayFollow before n e.event) mine a.step.stands in
+        let stands : MayFollow before c.job e.event = subst (λ (n : ℕ). MayFollow before n e.event) mine a.step.follows in
         own_step laws c pod attempts s p before e (record { command = command; idle = idle; begun = begun; stands = stands; kept = a.kept mine; fine = a.fine mine }) mine a.step far
     pick false t =
         let small : length before < c.from = grind (arith, nat_tests) in

@@ -327,7 +327,7 @@ some_less laws budget c H H' w w' ev legal r open_yet one some =
     let grown : state_of H'.entries ≡ after (length h + 1) w.job ev (state_of h) = ap state_of now ∙ laws.state h e in
     let st : job_state_of H'.entries w.job ≡ job_state_after (job_state_of h w.job) (length h + 1) ev = ap (λ (xs : List Entry). job_state_of xs w.job) now ∙ job_state_own laws.grows h e w.job refl in
     let limits : ObjectsKept (after (length h + 1) w.job ev (state_of h)) = subst ObjectsKept grown (laws.limits H'.entries legal) in
-    let less = entry_less c h (length h + 1) w.job w.stage ev c.command refl r.some (ap is_ended (sym mine) ∙ open_yet) (subst (λ (x : JobState). allows x ev ≡ true) mine step.allowed) step.stands k r.staged (λ pod. few (after (length h + 1) w.job ev (state_of h)) pod limits) in
+    let less = entry_less c h (length h + 1) w.job w.stage ev c.command refl r.some (ap is_ended (sym mine) ∙ open_yet) (subst (λ (x : JobState). allows x ev ≡ true) mine step.allowed) step.follows k r.staged (λ pod. few (after (length h + 1) w.job ev (state_of h)) pod limits) in
     let with_command : left_by (after (length h + 1) w.job ev (state_of h)) Ready (job_state_after (job_state_of h w.job) (length h + 1) ev) w.command < left_by (state_of h) w.stage (job_state_of h w.job) w.command =
     subst (λ (x : Command). left_by (after (length h + 1) w.job ev (state_of h)) Ready (job_state_after (job_state_of h w.job) (length h + 1) ev) x < left_by (state_of h) w.stage (job_state_of h w.job) x) (sym r.command)
     (subst (λ (x : JobState). left_by (after (length h + 1) w.job ev (state_of h)) Ready (job_state_after x (length h + 1) ev) c.command < left_by (state_of h) w.stage x c.command) (sym mine) less) in

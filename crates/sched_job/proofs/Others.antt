@@ -328,10 +328,10 @@ unwritten_others laws c h e pod attempts is legal kept kept' other reserved =
     let grown : state_of g ≡ after (length h + 1) e.job e.event (state_of h) = laws.state h e in
     let differ : e.job ≡ c.job → ⊥ = λ same. let x = eq-eqb e.job c.job same in absurd cc in
     let now : at_key (after (length h + 1) e.job e.event (state_of h)).pods pod ≡ Some t'.0 = ap (λ (s : State). at_key s.pods pod) (sym grown) ∙ t'.1.1.there in
-    let uid = keeps_uid h (length h + 1) c.job e.job pod t.0 t'.0 e.event held step.stands now in
+    let uid = keeps_uid h (length h + 1) c.job e.job pod t.0 t'.0 e.event held step.follows now in
     let at_h : state_at g (length h) ≡ state_of h = state_stays h (e ∷ []) (length h) (omega arith) ∙ all_of h in
     let claims : claims_of t.0 ≡ claims_of t'.0 = laws.uids g (length h) (length g) pod t.0 t'.0 legal (ap (λ (s : State). at_key s.pods pod) at_h ∙ t.1.1.there) (ap (λ (s : State). at_key s.pods pod) (all_of g) ∙ t'.1.1.there) uid in
-    let stay = stays_written h (length h + 1) c.job e.job pod t.0 e.event held differ step.stands in
+    let stay = stays_written h (length h + 1) c.job e.job pod t.0 e.event held differ step.follows in
     let le = unwritten_fewer (state_of h) (after (length h + 1) e.job e.event (state_of h)) pod (claims_of t.0) (λ k w. stay.each k w) in
     let old : unwritten (state_of h) pod ≡ unwritten_among (state_of h) pod (claims_of t.0) = ap (unwritten_by (state_of h) pod) t.1.1.there in
     let new : unwritten (state_of g) pod ≡ unwritten_among (after (length h + 1) e.job e.event (state_of h)) pod (claims_of t.0) =

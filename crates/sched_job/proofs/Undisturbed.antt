@@ -140,7 +140,7 @@ own_step : Laws → (c : Run) (pod : Key) (attempts : ℕ) (h : List Entry) (e :
 own_step laws c pod attempts h e cmd q a mine =
     let k = a.kept mine in
     let may : allows (job_state_of h c.job) e.event ≡ true = subst (λ (n : ℕ). allows (job_state_of h n) e.event ≡ true) mine a.step.allowed in
-    let r = own_after laws c pod attempts h (job_state_of h c.job) (length h + 1) e.job e.event cmd a.legal q k.after refl may a.step.stands k in
+    let r = own_after laws c pod attempts h (job_state_of h c.job) (length h + 1) e.job e.event cmd a.legal q k.after refl may a.step.follows k in
     let st : job_state_of (h ++ e ∷ []) c.job ≡ job_state_after (job_state_of h c.job) (length h + 1) e.event = laws.grows h e c.job ∙ ap (λ (b : Bool). cond b (job_state_after (job_state_of h c.job) (length h + 1) e.event) (job_state_of h c.job)) (eq-eqb e.job c.job mine) in
     let ls : last_place (h ++ e ∷ []) c.job ≡ length h + 1 = last_more h e c.job ∙ ap (λ (b : Bool). cond b (length h + 1) (last_place h c.job)) (eq-eqb e.job c.job mine) in
     let len : length (h ++ e ∷ []) ≡ length h + 1 = omega (arith, length-append h (e ∷ [])) in

@@ -72,7 +72,7 @@ replayed options left before after grants verdicts budgets steps adoptions denia
     budgets = λ prefix back job pod verdict e.
         verdict_names (state_at prefix verdict.at) pod options.budget verdict
         (budgets options.budget (commands_of d.done) prefix back job pod verdict (subst (λ (h : List Entry). RunOf options.budget (commands_of d.done) h) e d.run.run));
-    refusals = λ prefix back job pod plan why e. (steps prefix (record { job = job; event = Refused pod plan why }) back (subst (λ (h : List Entry). Legal h) e d.run.legal)).stands;
+    refusals = λ prefix back job pod plan why e. (steps prefix (record { job = job; event = Refused pod plan why }) back (subst (λ (h : List Entry). Legal h) e d.run.legal)).follows;
     adoptions = λ prefix back job claim status e. adoptions prefix back job claim status (subst (λ (h : List Entry). Legal h) e d.run.legal);
     denials = λ prefix back job command refusal e. denials prefix back job command refusal (subst (λ (h : List Entry). Legal h) e d.run.legal);
     holders = λ place. holders d.history place d.run.legal;

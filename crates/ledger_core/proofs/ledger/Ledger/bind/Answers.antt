@@ -23,17 +23,17 @@ invariant_of-self-2 c =
     let e : Entry = record { job = c.args.job; event = Bound pod n } in
     let step =
     subst (λ (h : History). Step h.entries (record { job = c.args.job; event = Bound pod (taken_node (state_of h.entries) pod) })) (sym c.self.view_is)
-    (record { allowed = c.requires.job_state; stands = c.requires.step }) in
+    (record { allowed = c.requires.job_state; follows = c.requires.step }) in
     let bound = c.in_ok-pod.ensures in
     let node : taken_node c.self.inside.state pod ≡ n = ap (λ (s : State). taken_node s pod) kept.state_is in
     let made : c.bind.new.state ≡ after (length c.self.inside.entries.items + 1) c.args.job (Bound pod n) c.self.inside.state =
     bound.ok ∙ ap (λ (x : List ℕ). with_bound pod x c.self.inside.state) node in
     let holders = subst (λ (s : State). AreHeld c.self.inside.holders (held s)) (sym made) (bound_held c.self.inside.state pod n c.self.inside.holders kept.holders_are) in
     rw (c.append.ensures.entries, room.entries, bound.kept.0, bound.kept.1, node)
-    (kept_more _ e _ _ _ _ _ _ _ _ kept step room.within made holders room.stands (rw room.entries at c.append.ensures.stands))
+    (kept_more _ e _ _ _ _ _ _ _ _ kept step room.within made holders room.job_states (rw room.entries at c.append.ensures.job_states))
 
 pub returns-clause-legal : goal.returns-clause-legal
 returns-clause-legal c = (invariant_of-self-2 c).legal
 
 pub append-requires-clause-tries : goal.append-requires-clause-tries
-append-requires-clause-tries c = few_tries _ _ _ _ _ _ c.args.job c.self.invariant c.in_ok-index.ensures.stands
+append-requires-clause-tries c = few_tries _ _ _ _ _ _ c.args.job c.self.invariant c.in_ok-index.ensures.job_states

@@ -18,16 +18,16 @@ invariant_of-self-2 c =
     let kept = c.self.invariant in
     let parts = c.into_parts-object.ensures in
     let e : Entry = record { job = c.args.job; event = Applied c.args.ready c.args.mode } in
-    let step = subst (λ (h : History). Step h.entries e) (sym c.self.view_is) (record { allowed = c.requires.job_state; stands = c.requires.applied }) in
+    let step = subst (λ (h : History). Step h.entries e) (sym c.self.view_is) (record { allowed = c.requires.job_state; follows = c.requires.applied }) in
     let placed = c.in_ok-index.ensures in
     let made : c.put_object.new.state ≡ after (length c.self.inside.entries.items + 1) c.args.job (Applied c.args.ready c.args.mode) c.self.inside.state =
     placed.ok ∙ ap (λ (x : Object). with_object (length c.self.inside.entries.items + 1) x c.self.inside.state) parts.kept.same in
     let holders = subst (λ (s : State). AreHeld c.self.inside.holders (held s)) (sym made) (applied_held c.self.inside.state (length c.self.inside.entries.items + 1) c.args.ready c.self.inside.holders kept.holders_are) in
     rw (c.append.ensures.entries, c.put_object.ensures.entries, parts.object)
-    (kept_more _ e _ _ _ _ _ _ _ _ kept step placed.within made holders c.put_object.ensures.stands (rw c.put_object.ensures.entries at c.append.ensures.stands))
+    (kept_more _ e _ _ _ _ _ _ _ _ kept step placed.within made holders c.put_object.ensures.job_states (rw c.put_object.ensures.entries at c.append.ensures.job_states))
 
 pub returns-clause-legal : goal.returns-clause-legal
 returns-clause-legal c = (invariant_of-self-2 c).legal
 
 pub append-requires-clause-tries : goal.append-requires-clause-tries
-append-requires-clause-tries c = few_tries _ _ _ _ _ _ c.args.job c.self.invariant c.put_object.ensures.stands
+append-requires-clause-tries c = few_tries _ _ _ _ _ _ c.args.job c.self.invariant c.put_object.ensures.job_states

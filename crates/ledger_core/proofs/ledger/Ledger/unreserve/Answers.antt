@@ -17,16 +17,16 @@ invariant_of-self-2 c =
     let kept = c.self.invariant in
     let room = c.in_ok-index.ensures in
     let e : Entry = record { job = c.args.job; event = Unreserved c.args.pod.now } in
-    let step = subst (λ (h : History). Step h.entries e) (sym c.self.view_is) (record { allowed = c.requires.job_state; stands = c.requires.step }) in
+    let step = subst (λ (h : History). Step h.entries e) (sym c.self.view_is) (record { allowed = c.requires.job_state; follows = c.requires.step }) in
     let freed = c.in_ok-pod.ensures in
     let made : c.free.new.state ≡ after (length c.self.inside.entries.items + 1) c.args.job (Unreserved c.args.pod.now) c.self.inside.state =
     freed.ok ∙ ap (λ (n : ℕ). without_uses n c.args.pod.now c.self.inside.state) room.index in
     let holds = freed_held c.self.inside.state (length c.self.inside.entries.items + 1) c.args.pod.now _ _ (once_now c.one_holder.ensures.now _ _ _ _ _ kept) kept.holders_are freed.left in
     let holders = subst (λ (s : State). AreHeld c.free.new.holders (held s)) (sym made) holds in
-    rw (c.append.ensures.entries, room.entries, freed.kept) (kept_more _ e _ _ _ _ _ _ _ _ kept step room.within made holders room.stands c.append.ensures.stands)
+    rw (c.append.ensures.entries, room.entries, freed.kept) (kept_more _ e _ _ _ _ _ _ _ _ kept step room.within made holders room.job_states c.append.ensures.job_states)
 
 pub returns-clause-legal : goal.returns-clause-legal
 returns-clause-legal c = (invariant_of-self-2 c).legal
 
 pub append-requires-clause-tries : goal.append-requires-clause-tries
-append-requires-clause-tries c = few_tries _ _ _ _ _ _ c.args.job c.self.invariant c.in_ok-index.ensures.stands
+append-requires-clause-tries c = few_tries _ _ _ _ _ _ c.args.job c.self.invariant c.in_ok-index.ensures.job_states

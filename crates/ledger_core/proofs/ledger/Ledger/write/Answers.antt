@@ -24,16 +24,16 @@ invariant_of-self-2 c =
     let e : Entry = record { job = c.args.job; event = Wrote pod claim n } in
     let step =
     subst (λ (h : History). Step h.entries (record { job = c.args.job; event = Wrote pod claim (version_of (state_of h.entries) claim) })) (sym c.self.view_is)
-    (record { allowed = c.requires.job_state; stands = c.requires.step }) in
+    (record { allowed = c.requires.job_state; follows = c.requires.step }) in
     let seen : c.version-seen.result ≡ n = c.version-seen.ensures ∙ ap (λ (s : State). version_of s claim) kept.state_is in
     let made : c.write.new.self ≡ after (length c.self.inside.entries.items + 1) c.args.job (Wrote pod claim n) c.self.inside.state =
     c.in_ok-write.ensures.ok ∙ ap (λ (k : ℕ). with_written k pod claim c.self.inside.state) room.index in
     let holders = subst (λ (s : State). AreHeld c.self.inside.holders (held s)) (sym made) (written_held c.self.inside.state (length c.self.inside.entries.items + 1) pod claim c.self.inside.holders kept.holders_are) in
     rw (c.append.ensures.entries, room.entries, c.in_ok-kept_pod.ensures, c.in_ok-kept_claim.ensures, seen)
-    (kept_more _ e _ _ _ _ _ _ _ _ kept step room.within made holders room.stands c.append.ensures.stands)
+    (kept_more _ e _ _ _ _ _ _ _ _ kept step room.within made holders room.job_states c.append.ensures.job_states)
 
 pub returns-clause-legal : goal.returns-clause-legal
 returns-clause-legal c = (invariant_of-self-2 c).legal
 
 pub append-requires-clause-tries : goal.append-requires-clause-tries
-append-requires-clause-tries c = few_tries _ _ _ _ _ _ c.args.job c.self.invariant c.in_ok-index.ensures.stands
+append-requires-clause-tries c = few_tries _ _ _ _ _ _ c.args.job c.self.invariant c.in_ok-index.ensures.job_states
