@@ -373,9 +373,8 @@ impl Ledger {
         ensures full { (n : ℕ) → IsErrOf result (LedgerError.Full n) → (length self.old.entries ≡ n) × (self.old.limit ≤ n) }
         ensures err { OnErr result (self.new ≡ self.old) }
     {
-        let verdict = Shared::new(alloc, verdict)?;
         let index = make_room(&mut self.entries, &mut self.job_states, self.limit, job)?;
-        let pod = pod.copy(alloc)?;
+        let (pod, verdict) = kept(alloc, pod, verdict)?;
         let event = Event::VerdictGiven { pod, verdict };
         append(&mut self.entries, &mut self.job_states, job, event);
         Ok(Done {
@@ -452,11 +451,10 @@ impl Ledger {
         ensures full { (n : ℕ) → IsErrOf result (LedgerError.Full n) → (length self.old.entries ≡ n) × (self.old.limit ≤ n) }
         ensures err { OnErr result (self.new ≡ self.old) }
     {
-        let status = Shared::new(alloc, status)?;
-        match self.state.status_refusal(claim, status.value()) {
+        match self.state.status_refusal(claim, &status) {
             None => self.adopt_free(alloc, job, claim, status),
             Some(refusal) => {
-                let claim = claim.copy(alloc)?;
+                let (claim, status) = kept(alloc, claim, status)?;
                 self.refuse(job, Command::Adopt { claim, status }, refusal)
             }
         }
@@ -586,9 +584,9 @@ impl Ledger {
         ensures full { (n : ℕ) → IsErrOf result (LedgerError.Full n) → (length self.old.entries ≡ n) × (self.old.limit ≤ n) }
         ensures err { OnErr result (self.new ≡ self.old) }
     {
-        let why = Shared::new(alloc, why)?;
         let index = make_room(&mut self.entries, &mut self.job_states, self.limit, job)?;
         let (pod, plan) = copies(alloc, pod, plan)?;
+        let why = Shared::new(alloc, why)?;
         let event = Event::Refused { pod, plan, why };
         append(&mut self.entries, &mut self.job_states, job, event);
         Ok(Done {
@@ -716,7 +714,7 @@ impl Ledger {
         alloc: Global,
         job: u64,
         claim: &Key,
-        status: Shared<ClaimStatus>,
+        status: ClaimStatus,
     ) -> Result<Done, LedgerError>
         requires job_state { is_fresh (job_state_of self.old.entries job) ≡ true }
         requires unrefused { first_refusal (state_of self.old.entries) (Adopt claim.now status) ≡ None }
@@ -727,10 +725,13 @@ impl Ledger {
         ensures full { (n : ℕ) → IsErrOf result (LedgerError.Full n) → (length self.old.entries ≡ n) × (self.old.limit ≤ n) }
         ensures err { OnErr result (self.new ≡ self.old) }
     {
-        match check_status(alloc, &self.state, &self.holders, claim, status.value())? {
-            None => self.make_grant(alloc, job, claim, status),
+        match check_status(alloc, &self.state, &self.holders, claim, &status)? {
+            None => {
+                let status = Shared::new(alloc, status)?;
+                self.make_grant(alloc, job, claim, status)
+            }
             Some(failure) => {
-                let claim = claim.copy(alloc)?;
+                let (claim, status) = kept(alloc, claim, status)?;
                 let refusal = Refusal::Failure(Shared::new(alloc, failure)?);
                 self.refuse(job, Command::Adopt { claim, status }, refusal)
             }
@@ -815,6 +816,15 @@ fn version(state: &State, claim: &Key) -> u64
         None => 0,
         Some(claim) => claim.claim.version,
     }
+}
+
+/// An equal key, and the value for an entry.
+fn kept<T: Drop>(alloc: Global, key: &Key, value: T) -> Result<(Key, Shared<T>), AllocError>
+    ensures { IfOk result (λ kept. (kept.0 ≡ key.now) × (kept.1 ≡ value)) }
+{
+    let key = key.copy(alloc)?;
+    let value = Shared::new(alloc, value)?;
+    Ok((key, value))
 }
 
 /// Equal copies of a pod's key and a plan.

@@ -20,8 +20,8 @@ invariant_of-self-2 c =
     let step = subst (λ (h : History). Step h.entries e) (sym c.self.view_is) (record { allowed = c.requires.job_state; follows = c.requires.adopted }) in
     let grant = c.in_ok-claim.ensures in
     let made : c.adopt.new.state ≡ after (length c.self.inside.entries.items + 1) c.args.job (Adopted c.args.claim.now c.args.status) c.self.inside.state =
-    grant.ok ∙ ap (λ (n : ℕ). with_adopted n c.args.claim.now c.args.status c.self.inside.state) room.index in
-    let holds = (adopting c.one_holder.ensures.now _ _ _ _ _ kept c.args.job c.args.claim.now c.args.status step).given _ _ kept.holders_are grant.given in
+    (rw c.value.ensures at grant.ok) ∙ ap (λ (n : ℕ). with_adopted n c.args.claim.now c.args.status c.self.inside.state) room.index in
+    let holds = (adopting c.one_holder.ensures.now _ _ _ _ _ kept c.args.job c.args.claim.now c.args.status step).given _ _ kept.holders_are (rw c.value.ensures at grant.given) in
     let holders = subst (λ (s : State). AreHeld c.adopt.new.holders (held s)) (sym made) holds in
     rw (c.append.ensures.entries, room.entries, grant.kept) (kept_more _ e _ _ _ _ _ _ _ _ kept step room.within made holders room.job_states (rw room.entries at c.append.ensures.job_states))
 
@@ -35,4 +35,4 @@ pub adopt-requires : goal.adopt-requires
 adopt-requires c =
     let e : Entry = record { job = c.args.job; event = Adopted c.args.claim.now c.args.status } in
     let step = subst (λ (h : History). Step h.entries e) (sym c.self.view_is) (record { allowed = c.requires.job_state; follows = c.requires.adopted }) in
-    (adopting c.one_holder.ensures.now _ _ _ _ _ c.self.invariant c.args.job c.args.claim.now c.args.status step).free _ c.self.invariant.holders_are
+    rw c.value.ensures ((adopting c.one_holder.ensures.now _ _ _ _ _ c.self.invariant c.args.job c.args.claim.now c.args.status step).free _ c.self.invariant.holders_are)
