@@ -9,25 +9,32 @@ use dra_values::Shared;
 use object_fields::{FieldError, FieldErrorKind, Key};
 use plan_check::{check, check_status};
 use serde_json::Value;
-use std::alloc::Global;
+use std::alloc::{AllocError, Global};
 
-/// What the line of an event has behind a text.
-fn behind(alloc: Global, event: Event, mark: &str) -> Result<String, CaseError> {
-    let line = line_text(alloc, 0, &Entry { job: 0, event })?;
+/// What the line of an entry has behind a text.
+fn behind(alloc: Global, entry: &Entry, mark: &str) -> Result<String, CaseError> {
+    let line = line_text(alloc, 0, entry)?;
     match line.as_str().split_once(mark) {
         Some((_, rest)) => Ok(String::from_str(alloc, rest)?),
         None => Err(CaseError::BadCase),
     }
 }
 
+/// An entry of the first job.
+fn entry_of(alloc: Global, event: Event) -> Result<Shared<Entry>, AllocError> {
+    Shared::new(alloc, Entry { job: 0, event })
+}
+
 /// A failure of a plan, as the line of its refusal has it.
 fn plan_failure(alloc: Global, planned: Planned, why: Failure) -> Result<String, CaseError> {
+    let why = Shared::new(alloc, why)?;
     let event = Event::Refused {
         pod: planned.pod,
-        plan: Shared::new(alloc, planned.plan)?,
-        why: Shared::new(alloc, why)?,
+        plan: planned.plan,
+        why,
     };
-    behind(alloc, event, " why=")
+    let entry = entry_of(alloc, event)?;
+    behind(alloc, entry.value(), " why=")
 }
 
 /// The first failure of a plan.
@@ -35,7 +42,7 @@ pub fn of_plan(alloc: Global, setup: &Setup, text: &str) -> Result<String, CaseE
     let planned = read_plan(alloc, text)?;
     let state = setup.ledger.state();
     let holders = setup.ledger.holders();
-    match check(alloc, state, holders, &planned.pod, &planned.plan)? {
+    match check(alloc, state, holders, &planned.pod, planned.plan.value())? {
         None => Ok(String::from_str(alloc, "ok")?),
         Some(why) => plan_failure(alloc, planned, why),
     }
@@ -77,12 +84,14 @@ fn status_failure(
     status: ClaimStatus,
     why: Failure,
 ) -> Result<String, CaseError> {
+    let why = Shared::new(alloc, why)?;
     let status = Shared::new(alloc, status)?;
     let event = Event::Denied {
         command: Command::Adopt { claim, status },
-        refusal: Refusal::Failure(Shared::new(alloc, why)?),
+        refusal: Refusal::Failure(why),
     };
-    behind(alloc, event, " Failure ")
+    let entry = entry_of(alloc, event)?;
+    behind(alloc, entry.value(), " Failure ")
 }
 
 /// The first failure of a status write to a claim that exists.

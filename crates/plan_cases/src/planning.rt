@@ -1,7 +1,7 @@
 use crate::input::{CaseError, cut_word};
 use crate::spelling::{grant, key, known_claim, known_pod};
 use cluster::{Known, PassedNodes, Plan};
-use dra_values::{Seq, Text};
+use dra_values::{Seq, Shared, Text};
 use object_fields::Key;
 use std::alloc::{AllocError, Global};
 
@@ -9,7 +9,7 @@ use std::alloc::{AllocError, Global};
 #[derive(Drop)]
 pub struct Planned {
     pub pod: Key,
-    pub plan: Plan,
+    pub plan: Shared<Plan>,
 }
 
 /// A plan for a pod of that uid and node, which has nothing else yet.
@@ -52,5 +52,6 @@ pub fn read_plan(alloc: Global, text: &str) -> Result<Planned, CaseError> {
             add_part(alloc, &mut plan, part)?;
         }
     }
+    let plan = Shared::new(alloc, plan)?;
     Ok(Planned { pod, plan })
 }
