@@ -7,7 +7,7 @@ use crate::fields::{before, before_if, none, only};
 use crate::listing::{Printed, flag, list};
 use crate::metadata::uid;
 use crate::selector::list_of_one;
-use cluster::{DeviceResult, Granted, PodState, Use};
+use cluster::{DeviceResult, Granted, PodState, Use, Users};
 use dra_values::{Seq, Shared, Table, Text};
 use object_fields::Key;
 use serde_json::Value;
@@ -126,13 +126,13 @@ fn push_user(
 fn written_users(
     alloc: Global,
     pods: &Table<Key, PodState>,
-    users: &Table<Key, Use>,
+    users: &Users,
 ) -> Result<Vec<Value>, AllocError>
     ensures { IfOk result (λ l. map view l.items ≡ written_users pods.now users.now) }
 {
     let mut list = Vec::new(alloc);
-    for (key, how) in users.as_map() {
-        push_user(&mut list, alloc, pods, key, how)?;
+    for user in users.as_slice() {
+        push_user(&mut list, alloc, pods, &user.0, &user.1)?;
     }
     Ok(list)
 }
@@ -151,7 +151,7 @@ fn status(
     alloc: Global,
     pods: &Table<Key, PodState>,
     grant: &Granted,
-    users: &Table<Key, Use>,
+    users: &Users,
 ) -> Result<Value, AllocError>
     ensures { IfOk result (λ v. view v ≡ status_json pods.now grant.now users.now) }
 {
@@ -168,7 +168,7 @@ pub fn some_status(
     alloc: Global,
     pods: &Table<Key, PodState>,
     grant: &Option<Shared<Granted>>,
-    users: &Table<Key, Use>,
+    users: &Users,
 ) -> Result<Option<Value>, AllocError>
     ensures { IfOk result (λ o. option_map view o ≡ status_if pods.now grant.now users.now) }
 {

@@ -2,7 +2,7 @@ use crate::{claim_value, class_value, node_value, pod_value, print, slice_value,
 use api_claim::ResourceClaim;
 use api_cluster::{DeviceClass, Node, Pod};
 use api_slice::ResourceSlice;
-use cluster::{ClaimState, DeviceResult, Granted, Phase, PodState, State, Target, Use};
+use cluster::{ClaimState, DeviceResult, Granted, Phase, PodState, State, Target, Use, Users};
 use dra_values::{Seq, Shared, Table, Text};
 use object_fields::{DeviceId, Key};
 use pool_view::{Inventory, Stored};
@@ -100,10 +100,11 @@ fn granted(alloc: Global, published: bool) -> Option<Shared<Granted>> {
 }
 
 /// `p0`, whose use is written, and `p1`, whose use is assumed.
-fn users(alloc: Global) -> Option<Shared<Table<Key, Use>>> {
-    let mut users = Table::new(alloc);
-    users.insert(key(alloc, "p0")?, Use::Written).ok()?;
-    users.insert(key(alloc, "p1")?, Use::Assumed(4)).ok()?;
+fn users(alloc: Global) -> Option<Shared<Users>> {
+    let users = Users::none(alloc)
+        .with(alloc, &key(alloc, "p1")?, Use::Assumed(4))
+        .ok()?;
+    let users = users.with(alloc, &key(alloc, "p0")?, Use::Written).ok()?;
     Shared::new(alloc, users).ok()
 }
 

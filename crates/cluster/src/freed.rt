@@ -1,9 +1,9 @@
 ghost use Rattle.std.specs.Prelude.{◌≡◌, ◌++◌, IfOk, Some, map, option_copied, option_map};
-ghost use Rattle.cluster.specs.Freed.{freed, freed_by, freed_version, grant_left, without_user};
+ghost use Rattle.cluster.specs.Freed.{freed, freed_by, freed_version, grant_left};
 ghost use Rattle.cluster.specs.Leaving.{leaving, leaving_by, leaving_each, left, left_at};
 ghost use Rattle.cluster.specs.Tables.{changed_at};
 
-use crate::{ClaimState, Granted, PodState, Use};
+use crate::{ClaimState, Granted, PodState, Use, Users};
 use api_cluster::{Pod, PodResourceClaim};
 use dra_values::{Duplicate, Shared, Table, Text};
 use object_fields::Key;
@@ -105,7 +105,7 @@ fn without_use(
     ensures { IfOk result (λ s. s ≡ freed_by index pod.now (Some how.now) state.now) }
 {
     let claim = freed_claim(alloc, index, how, &state.claim)?;
-    let users = without_user(alloc, pod, &state.users)?;
+    let users = Shared::new(alloc, state.users.without(alloc, pod)?)?;
     let grant = grant_left(alloc, &users, &state.grant)?;
     Ok(ClaimState {
         claim,
@@ -136,22 +136,10 @@ fn freed_version(index: u64, how: &Use, version: u64) -> u64
     }
 }
 
-fn without_user(
-    alloc: Global,
-    pod: &Key,
-    users: &Table<Key, Use>,
-) -> Result<Shared<Table<Key, Use>>, AllocError>
-    ensures { IfOk result (λ us. us ≡ without_user pod.now users.now) }
-{
-    let mut users = users.copy(alloc)?;
-    users.remove(pod);
-    Shared::new(alloc, users)
-}
-
 /// The grant of a claim with these users, of which there may be none.
 fn grant_left(
     alloc: Global,
-    users: &Table<Key, Use>,
+    users: &Users,
     grant: &Option<Shared<Granted>>,
 ) -> Result<Option<Shared<Granted>>, AllocError>
     ensures { IfOk result (λ g. g ≡ grant_left users.now grant.now) }

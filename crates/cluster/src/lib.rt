@@ -13,6 +13,7 @@ mod refusals;
 mod reserved;
 mod same;
 mod state;
+mod users;
 
 pub use entry::{Command, Entry, Event, JobState, Mode, Outcome, Refusal};
 pub use failure::{Failure, Shortfall};
@@ -25,3 +26,4 @@ pub use plan::{
 pub use ready::{Ready, ReadyParts};
 pub use same::same_is_equal;
 pub use state::{ClaimState, Granted, MOST_USERS, Phase, PodState, State, Use};
+pub use users::Users;

@@ -3,7 +3,7 @@ ghost use Rattle.pool_view.specs.Names.{at_key};
 ghost use Rattle.cluster.specs.Tables.{changed_at};
 ghost use Rattle.cluster.specs.Prepared.{given, given_by, joined_use, granted_use, placed, uses_of, users_with};
 
-use crate::{ClaimState, Grant, Granted, Plan, Use};
+use crate::{ClaimState, Grant, Granted, Plan, Use, Users};
 use dra_values::{Shared, Table, Text};
 use object_fields::Key;
 use std::alloc::{AllocError, Global};
@@ -15,7 +15,7 @@ pub struct Prepared {
     /// The grant, if the plan makes one.
     grant: Option<Shared<Granted>>,
     /// All users of the claim, the pod among them.
-    users: Shared<Table<Key, Use>>,
+    users: Shared<Users>,
 }
 
 /// What the claims of a plan get for the pod. `AllocError` is returned only if memory runs out.
@@ -113,16 +113,14 @@ fn users_with(
     claims: &Table<Key, ClaimState>,
     pod: &Key,
     claim: &Key,
-) -> Result<Table<Key, Use>, AllocError>
+) -> Result<Users, AllocError>
     ensures { IfOk result (λ users. users ≡ users_with pod.now (at_key claims.now claim.now)) }
 {
     match claims.get(claim) {
-        None => Ok(Table::new(alloc)),
+        None => Ok(Users::none(alloc)),
         Some(state) => {
-            let pod = pod.copy(alloc)?;
-            let mut users = state.users.copy(alloc)?;
-            users.insert(pod, Use::Assumed(state.claim.version))?;
-            Ok(users)
+            let how = Use::Assumed(state.claim.version);
+            state.users.with(alloc, pod, how)
         }
     }
 }
@@ -149,7 +147,7 @@ fn put(claims: &mut Table<Key, ClaimState>, prepared: Prepared)
     }
 }
 
-fn give(state: &mut ClaimState, grant: Option<Shared<Granted>>, users: Shared<Table<Key, Use>>)
+fn give(state: &mut ClaimState, grant: Option<Shared<Granted>>, users: Shared<Users>)
     ensures { state.new ≡ given_by grant users state.old }
 {
     state.users = users;

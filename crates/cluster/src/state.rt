@@ -6,7 +6,7 @@ ghost use Rattle.cluster.specs.Wrote.{as_published, written_by};
 
 use crate::freed::{leave, prepare_free};
 use crate::reserved::{place, prepare};
-use crate::{DeviceResult, Kept, Plan, Target};
+use crate::{DeviceResult, Kept, Plan, Target, Users};
 use api_claim::{ClaimStatus, StatusResult};
 use api_cluster::Pod;
 use dra_values::{Duplicate, Seq, Shared, Table, Text};
@@ -59,7 +59,7 @@ impl Duplicate for Use {
 pub struct ClaimState {
     pub claim: Stored<Shared<ReadyClaim>>,
     pub grant: Option<Shared<Granted>>,
-    pub users: Shared<Table<Key, Use>>,
+    pub users: Shared<Users>,
 }
 
 /// A duplicate shares the object, the grant and the users.
@@ -333,7 +333,7 @@ fn write_use(alloc: Global, state: &mut ClaimState, index: u64, pod: &Key) -> Re
 {
     let users = state.users.change(alloc)?;
     publish(alloc, &mut state.grant)?;
-    set_use(users, pod, Use::Written);
+    users.set(pod, Use::Written);
     state.claim.version = index;
     Ok(())
 }
@@ -347,15 +347,6 @@ fn publish(alloc: Global, grant: &mut Option<Shared<Granted>>) -> Result<(), All
         granted.change(alloc)?.published = true;
     }
     Ok(())
-}
-
-/// Changes how a pod uses a claim, if it does.
-fn set_use(users: &mut Table<Key, Use>, pod: &Key, how: Use)
-    ensures { users.new ≡ changed_at pod.now (λ _. how) users.old }
-{
-    if let Some(user) = users.get_mut(pod) {
-        *user = how;
-    }
 }
 
 /// What a status write grants.
@@ -425,7 +416,7 @@ fn put_claim(
         update_claim(claims, index, &key, claim);
         Ok(())
     } else {
-        let users = Shared::new(alloc, Table::new(alloc))?;
+        let users = Shared::new(alloc, Users::none(alloc))?;
         let claim = ClaimState {
             claim: Stored::created(index, claim),
             grant: None,

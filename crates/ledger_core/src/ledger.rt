@@ -39,7 +39,7 @@ use crate::snapshot::Snapshot;
 use api_claim::ClaimStatus;
 use cluster::{
     Command, Entry, Event, Failure, JobState, Kept, Mode, Outcome, Phase, Plan, Ready, ReadyParts,
-    Refusal, State, Target, Use, Verdict,
+    Refusal, State, Target, Use, Users, Verdict,
 };
 use counter_sets::Held;
 use dra_values::{Shared, Table, Text};
@@ -846,7 +846,7 @@ fn assumed(state: &State, pod: &Key, claim: &Key) -> u64
     }
 }
 
-fn assumed_in(users: &Table<Key, Use>, pod: &Key) -> u64
+fn assumed_in(users: &Users, pod: &Key) -> u64
     ensures { result ≡ assumed_by (at_key users.now pod.now) }
 {
     match users.get(pod) {
