@@ -6,7 +6,6 @@ pub mod Keeping
 pub mod OfDevices
 pub mod Valued
 pub mod Lifted
-pub mod Held
 pub mod Keys
 pub mod FullWalks
 pub mod FullInputs

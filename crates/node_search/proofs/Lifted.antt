@@ -23,9 +23,8 @@ use Rattle.allocator.specs.Answered.{answer_of}
 use Rattle.allocator.specs.Input.{AreApart, AreKept, with_counters}
 use Rattle.allocator.specs.Input as searches
 use Rattle.allocator.specs.declared.outcome.Outcome.{Outcome}
-use Rattle.node_search.specs.Apart.{AreListed, AreOne}
+use Rattle.node_search.specs.Apart.{AreListed, AreOne, NamesDiffer}
 use Rattle.node_search.specs.Counted.{AreCounted}
-use Rattle.node_search.specs.Counting.{NamesDiffer}
 use Rattle.node_search.proofs.Alike.{HasValues, answers_alike, with_values}
 use Rattle.node_search.proofs.OfDevices.{drawn_of_devices, kept_of_devices}
 use Rattle.node_search.proofs.Valued.{same_value}

@@ -10,7 +10,7 @@ use Rattle.api_slice.specs.declared.types.ResourceSlice.{ResourceSlice}
 use Rattle.pool_view.specs.declared.order.SlicePlace.{SlicePlace}
 use Rattle.pool_view.specs.Names.{text_cmp}
 use Rattle.pool_view.specs.Pools.{place_cmp, place_of}
-use Rattle.node_search.specs.Counting.{NamesDiffer}
+use Rattle.node_search.specs.Apart.{NamesDiffer}
 use Rattle.node_search.proofs.Places.{all_in, in_list, map_at}
 
 is_equal : (o : Ordering) → is_eq o ≡ true → o ≡ Equal

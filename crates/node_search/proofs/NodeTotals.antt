@@ -14,9 +14,8 @@ use Rattle.counter_sets.specs.Draws.{CounterId, Draw, counter_value, draws_of, d
 use Rattle.counter_sets.specs.Holding.{AreHeld, Holders, holder_in, offered_held}
 use Rattle.counter_sets.specs.Totals.{Tabled, drawn_in, keeps, sum_most}
 use Rattle.allocator.specs.Input.{AreApart, AreKept}
-use Rattle.node_search.specs.Apart.{AreListed}
+use Rattle.node_search.specs.Apart.{AreListed, NamesDiffer}
 use Rattle.node_search.specs.Counted.{has_counters, of_one, repeats}
-use Rattle.node_search.specs.Counting.{NamesDiffer}
 use Rattle.node_search.specs.NodeTotals.{AreCountedAs, CountsAs, HaveDrawn, IsCountedAs, drawn_by_both}
 use Rattle.node_search.proofs.Draws.{held_draws_most, none_drawn, other_value, text_itself}
 use Rattle.node_search.proofs.Keeping.{drawn_own, other_name}

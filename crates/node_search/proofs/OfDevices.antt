@@ -20,9 +20,8 @@ use Rattle.counter_sets.specs.Draws.{CounterId, Draw, counter_eq, counter_for, c
 use Rattle.counter_sets.specs.Holding.{AreHeld, Holders, holder_in, offered_held}
 use Rattle.counter_sets.specs.Totals.{Tabled, drawn_in, keeps, sum_most}
 use Rattle.allocator.specs.Input.{AreApart, AreKept}
-use Rattle.node_search.specs.Apart.{AreListed}
+use Rattle.node_search.specs.Apart.{AreListed, NamesDiffer}
 use Rattle.node_search.specs.Counted.{AreCounted, Counts, IsCounted, are_some, has_counters, of_one, repeats}
-use Rattle.node_search.specs.Counting.{NamesDiffer}
 use Rattle.node_search.proofs.Draws.{held_draw_most, held_draw_none, kept_none, none_drawn, no_flat_sum, no_map_sum, other_value, text_itself}
 use Rattle.node_search.proofs.Keeping.{drawn_own, first_fits, other_name}
 use Rattle.node_search.proofs.Places.{all_at, at_place, until_step}

@@ -1,10 +1,9 @@
 -- Elements by their indices.
-use Rattle.std.proofs.Common.{ℕ, zero, suc, ◌+◌, ◌<◌, ◌≤◌, ◌≡◌, ◌∙◌, ⊎_elim, List, [], ◌∷◌, ◌++◌, Some, length, map, take, get_or, refl, sym, ap, subst, arith}
+use Rattle.std.proofs.Common.{ℕ, zero, suc, ◌+◌, ◌<◌, ◌≡◌, ◌∙◌, ⊎_elim, List, [], ◌∷◌, ◌++◌, Some, length, map, refl, sym, ap, subst, arith}
 use Rattle.std.specs.List.{All, AllByRecursion, Contains, slice_get}
-use Rattle.std.proofs.lemmas.List.{length-map}
 use Rattle.std.proofs.lemmas.List.Elements.{All-from_recursion}
 use Rattle.std.proofs.lemmas.Bool.{cases_eq}
-use Rattle.std.proofs.lemmas.Option.{slice_get_within, get_or_from_slice_get, slice_get-get_or, slice_get_read}
+use Rattle.std.proofs.lemmas.Option.{slice_get_within, get_or_from_slice_get, slice_get_read}
 
 pub in_list : {X : Type 0} (xs : List X) (i : ℕ) (x : X) → slice_get xs i ≡ Some x → Contains xs x
 in_list xs i x e = (i, slice_get_within xs i x e, get_or_from_slice_get xs i x x e)
@@ -27,10 +26,6 @@ pub all_joined : {X : Type 0} (P : X → Type 0) (xs ys : List X) → AllByRecur
 all_joined P [] ys h k = k
 all_joined P (x ∷ xs) ys h k = (h.0, all_joined P xs ys h.1 k)
 
--- what a map has at an index, by the list that it is made of
-pub item_at : {V X : Type 0} (f : V → X) (vs : List V) (i : ℕ) (v : V) → i < length vs → v ≡ get_or vs i v → slice_get (map f vs) i ≡ Some (f v)
-item_at {V} f vs i v lt is = map_at f vs i v (slice_get-get_or vs i v lt ∙ ap (λ (w : V). Some w) (sym is))
-
 -- ---- up to an index
 
 pub until_step : {X : Type 0} (P : X → Type 0) (xs : List X) (i : ℕ) (y : X) → slice_get xs i ≡ Some y → P y → ((j : ℕ) (x : X) → j < i → slice_get xs j ≡ Some x → P x)
@@ -46,16 +41,3 @@ until_step {X} P xs i y at here before j x lt e =
 
     below_next : (a b : ℕ) → a < b + 1 → (a ≡ b → ⊥) → a < b
     below_next a b l n = omega (arith, l, n)
-
-pub until_end : {V X : Type 0} (P : X → Type 0) (f : V → X) (vs : List V) (i : ℕ) → length vs ≤ i → ((j : ℕ) (x : X) → j < i → slice_get (map f vs) j ≡ Some x → P x) → (j : ℕ) (x : X) → slice_get (map f vs) j ≡ Some x → P x
-until_end P f vs i end all j x e =
-    let lt = slice_get_within (map f vs) j x e in
-    let same = length-map vs f in
-    all j x (omega (arith, lt, same, end)) e
-
-pub take_next : {X : Type 0} (xs : List X) (i : ℕ) (x : X) → slice_get xs i ≡ Some x → take i xs ++ x ∷ [] ≡ take (i + 1) xs
-take_next [] i x e = absurd (cc)
-take_next {X} (y ∷ xs) zero x e = let same : x ≡ y = cc in ap (λ (z : X). z ∷ []) same
-take_next {X} (y ∷ xs) (suc i) x e =
-    let on : suc i + 1 ≡ suc (i + 1) = omega arith in
-    ap (λ (l : List X). y ∷ l) (take_next xs i x e) ∙ ap (λ n. take n (y ∷ xs)) (sym on)

@@ -1,5 +1,3 @@
-pub mod Holding
-pub mod Counting
 pub mod Searches
 pub mod Apart
 pub mod Counted

@@ -2,8 +2,7 @@
 
 ghost use Rattle.pool_view.specs.Usable.{node_devices, usable_slices};
 ghost use Rattle.allocator.specs.Input.{AreApart};
-ghost use Rattle.node_search.specs.Apart.{AreListed, AreNamed, AreOne};
-ghost use Rattle.node_search.specs.Counting.{NamesDiffer};
+ghost use Rattle.node_search.specs.Apart.{AreListed, AreNamed, AreOne, NamesDiffer};
 
 use dra_values::Text;
 use pool_view::{Inventory, devices_of_a_view_differ, usable_slices_differ};
