@@ -14,7 +14,7 @@ use Rattle.dra_ports.specs.declared.error.PortError.{PortError}
 use Rattle.dra_ports.specs.declared.error.PortError.TheVariants as port
 use Rattle.http_wire.specs.Filling.{HasMore}
 use Rattle.http_wire.specs.Reader.{Answers, IsUndone, message, read_error, remaining}
-use Rattle.http_wire.specs.Requests.{HasManyLines, IsBadHead, IsOpen, IsOpenBody, IsTooLong, Says, message_of}
+use Rattle.http_wire.specs.Requests.{HasManyLines, IsBadHead, IsOpen, IsOpenBody, IsSaid, IsTooLong, Message, Says, message_of}
 use Rattle.http_wire.specs.Steps.{Finds, Found, IsTaken, Kept, TakesBody, TakesHead}
 use Rattle.http_wire.proofs.Known.{begins_all, begins_prefix, consumes_prefix, consumes_more, lost_all}
 
@@ -102,23 +102,23 @@ piece_failed old mid ahead new body left left_mid left_now long h kept =
 
 -- a head and a body
 
-pub head_failed : (old new : List ℕ) (left left_now : Option (List ℕ)) (e : WireError) → TakesHead old new left left_now (Err e) → Answers old new left left_now (Err e)
-head_failed old new left left_now error.BadHead h = h
-head_failed old new left left_now error.NoLength h = h
-head_failed old new left left_now error.TooLong h = h
-head_failed old new left left_now error.EndedEarly h = h
-head_failed old new left left_now error.ReadFault h = h
-head_failed old new left left_now error.WriteFault h = h
-head_failed old new left left_now error.Memory h = h
+pub head_failed : (P : List ℕ → Message → Type 0) (old new : List ℕ) (left left_now : Option (List ℕ)) (e : WireError) → TakesHead old new left left_now (Err e) → Answers P old new left left_now (Err e)
+head_failed P old new left left_now error.BadHead h = h
+head_failed P old new left left_now error.NoLength h = h
+head_failed P old new left left_now error.TooLong h = h
+head_failed P old new left left_now error.EndedEarly h = h
+head_failed P old new left left_now error.ReadFault h = h
+head_failed P old new left left_now error.WriteFault h = h
+head_failed P old new left left_now error.Memory h = h
 
 open_body : (head : Head) (prefix body : List ℕ) → Says prefix (Ok head) → length body < head.length → IsOpenBody (prefix ++ body)
 open_body head prefix body says short = record { prefix = prefix; body = body; is = refl; head = head; says = says; short = short }
 
-pub body_failed : (old mid new : List ℕ) (left left_mid left_now : Option (List ℕ)) (head : Head) (e : WireError) → TakesHead old mid left left_mid (Ok (Some head)) → TakesBody mid new left_mid left_now head.length (Err e) → Answers old new left left_now (Err e)
-body_failed old mid new left left_mid left_now head error.BadHead h b = absurd b
-body_failed old mid new left left_mid left_now head error.NoLength h b = absurd b
-body_failed old mid new left left_mid left_now head error.TooLong h b = absurd b
-body_failed old mid new left left_mid left_now head error.EndedEarly h b = (
+pub body_failed : (P : List ℕ → Message → Type 0) (old mid new : List ℕ) (left left_mid left_now : Option (List ℕ)) (head : Head) (e : WireError) → TakesHead old mid left left_mid (Ok (Some head)) → TakesBody mid new left_mid left_now head.length (Err e) → Answers P old new left left_now (Err e)
+body_failed P old mid new left left_mid left_now head error.BadHead h b = absurd b
+body_failed P old mid new left left_mid left_now head error.NoLength h b = absurd b
+body_failed P old mid new left left_mid left_now head error.TooLong h b = absurd b
+body_failed P old mid new left left_mid left_now head error.EndedEarly h b = (
   record {
     prefix = h.prefix ++ b.0.part;
     consumed = consumes_more (remaining old left) (remaining mid left_mid) left_now h.prefix b.0.part h.consumed b.0.consumed;
@@ -126,16 +126,16 @@ body_failed old mid new left left_mid left_now head error.EndedEarly h b = (
   },
   b.1,
 )
-body_failed old mid new left left_mid left_now head error.ReadFault h b = record {
+body_failed P old mid new left left_mid left_now head error.ReadFault h b = record {
   prefix = h.prefix ++ b.part;
   consumed = consumes_more (remaining old left) (remaining mid left_mid) left_now h.prefix b.part h.consumed b.consumed;
   fact = inr (inr (open_body head h.prefix b.part h.fact b.short));
 }
-body_failed old mid new left left_mid left_now head error.WriteFault h b = absurd b
-body_failed old mid new left left_mid left_now head error.Memory h b = (h.prefix ++ b.0, consumes_more (remaining old left) (remaining mid left_mid) left_now h.prefix b.0 h.consumed b.1)
+body_failed P old mid new left left_mid left_now head error.WriteFault h b = absurd b
+body_failed P old mid new left left_mid left_now head error.Memory h b = (h.prefix ++ b.0, consumes_more (remaining old left) (remaining mid left_mid) left_now h.prefix b.0 h.consumed b.1)
 
 pub request_is : (old mid new : List ℕ) (left left_mid left_now : Option (List ℕ)) (head : Head) (r : Request) → TakesHead old mid left left_mid (Ok (Some head)) → IsTaken mid new left_mid left_now r.body.items head.length
-    → message r ≡ message_of head r.body.items → Answers old new left left_now (Ok (Some r))
+    → message r ≡ message_of head r.body.items → Answers IsSaid old new left left_now (Ok (Some r))
 request_is old mid new left left_mid left_now head r h b e = record {
   prefix = h.prefix ++ r.body.items;
   consumed = consumes_more (remaining old left) (remaining mid left_mid) (remaining new left_now) h.prefix r.body.items h.consumed b.consumed;

@@ -1,6 +1,7 @@
 -- Bytes have one list of requests and one ending.
-use Rattle.std.proofs.Common.{ℕ, ◌≤◌, ◌<◌, ◌≡◌, ◌∙◌, ◌⊎◌, inl, inr, Bool, true, false, List, [], ◌∷◌, ◌++◌, length, take, refl, sym, ap, subst, arith, append_assoc, append-nil}
-use Rattle.std.specs.Prelude.{Option, None, Some, Result, Ok, Err, MatchBool}
+use Rattle.std.proofs.lemmas.Bool.{leb-false}
+use Rattle.std.proofs.Common.{ℕ, ◌+◌, ◌||◌, ◌≤◌, ◌<◌, ◌≡◌, ◌∙◌, ◌⊎◌, inl, inr, Bool, true, false, List, [], ◌∷◌, ◌++◌, length, take, refl, sym, ap, subst, arith, append_assoc, append-nil}
+use Rattle.std.specs.Prelude.{Option, None, Some, Result, Ok, Err, MatchBool, nat_le}
 use Rattle.std.proofs.lemmas.List.{length-append, take_all, take-append-le}
 use Rattle.httparse.proofs.GrammarLemmas.{request_unique}
 use Rattle.http_wire.specs.declared.error.WireError.{WireError}
@@ -8,7 +9,7 @@ use Rattle.http_wire.specs.declared.error.WireError.TheVariants as error
 use Rattle.http_wire.specs.declared.head.Head.{Head}
 use Rattle.http_wire.specs.Fields.{meaning_of}
 use Rattle.http_wire.specs.Heads.{HasNoHead, IsBlank, IsHead, IsLongHead, IsOpenHead, behind_empty, line_count, through_empty}
-use Rattle.http_wire.specs.Requests.{AreRequests, BadHead, Closed, EndedEarly, Ending, Follow, HasMeaning, IsBadHead, IsFirst, IsNoHead, IsRequest, IsTooLong, Lie, Message, NoLength, Says, Stops, TooLong, message_of}
+use Rattle.http_wire.specs.Requests.{AreRequests, BadHead, Closed, EndedEarly, Ending, Follow, HasMeaning, IsBadHead, IsFirst, IsNoHead, IsRequest, IsSaid, IsTooLong, Lie, LieAfter, Message, NoLength, Says, Stops, TooLong, message_of, numbered}
 use Rattle.http_wire.proofs.Fronts.{Fronted, none_at_all, no_head_there, one_head, split_same}
 
 -- what a head at the start is found to be
@@ -209,11 +210,11 @@ same_begun bytes prefix rest prefix' rest' head head' h k =
     let s = same_head bytes prefix h.lines rest prefix' k.lines rest' (Meant (Ok head)) (Meant (Ok head')) h.headed k.headed in
     (s.rests, head_same head head' s.verdicts)
 
-request_begun : (bytes text rest : List ℕ) (m : Message) (r : IsRequest text m) → bytes ≡ text ++ rest → Begun bytes r.prefix (r.body ++ rest) r.head
+request_begun : (bytes text rest : List ℕ) (m : Message) (r : IsSaid text m) → bytes ≡ text ++ rest → Begun bytes r.prefix (r.body ++ rest) r.head
 request_begun bytes text rest m r is = begun_of bytes r.prefix (r.body ++ rest) r.head (is ∙ ap (λ (l : List ℕ). l ++ rest) r.is ∙ append_assoc r.prefix r.body rest) r.says
 
-request_same : (bytes text rest text' rest' : List ℕ) (m m' : Message) → bytes ≡ text ++ rest → IsRequest text m → bytes ≡ text' ++ rest' → IsRequest text' m' → (m ≡ m') × (rest ≡ rest')
-request_same bytes text rest text' rest' m m' is r is' r' =
+said_same : (bytes text rest text' rest' : List ℕ) (m m' : Message) → bytes ≡ text ++ rest → IsSaid text m → bytes ≡ text' ++ rest' → IsSaid text' m' → (m ≡ m') × (rest ≡ rest')
+said_same bytes text rest text' rest' m m' is r is' r' =
     let s = same_begun bytes r.prefix (r.body ++ rest) r'.prefix (r'.body ++ rest') r.head r'.head (request_begun bytes text rest m r is) (request_begun bytes text' rest' m' r' is') in
     let b = split_same r.body r'.body rest rest' (r.long ∙ ap (λ (h : Head). h.length) s.1 ∙ sym r'.long) s.0 in
     (r.message_is ∙ ap (λ (h : Head). message_of h r.body) s.1 ∙ ap (λ (l : List ℕ). message_of r'.head l) b.0 ∙ sym r'.message_is, b.1)
@@ -221,7 +222,7 @@ request_same bytes text rest text' rest' m m' is r is' r' =
 too_short : (body rest whole : List ℕ) (n k : ℕ) → body ++ rest ≡ whole → length body ≡ n → n ≡ k → length whole < k → ⊥
 too_short body rest whole n k e l s h = omega (arith, length-append body rest, ap length e, l, s, h)
 
-request_or_ending : (bytes text rest : List ℕ) (m : Message) (e : Ending) → bytes ≡ text ++ rest → IsRequest text m → Shape bytes e → ⊥
+request_or_ending : (bytes text rest : List ℕ) (m : Message) (e : Ending) → bytes ≡ text ++ rest → IsSaid text m → Shape bytes e → ⊥
 request_or_ending bytes text rest m e is r (inl u) =
     let b = request_begun bytes text rest m r is in not_both bytes r.prefix b.lines (r.body ++ rest) (Meant (Ok r.head)) e b.headed u
 request_or_ending bytes text rest m e is r (inr (inl k)) = refused_begun bytes r.prefix (r.body ++ rest) r.head e k (request_begun bytes text rest m r is)
@@ -229,44 +230,92 @@ request_or_ending bytes text rest m e is r (inr (inr k)) =
     let s = same_begun bytes r.prefix (r.body ++ rest) k.prefix k.rest r.head k.head (request_begun bytes text rest m r is) k.begun in
     too_short r.body rest k.rest r.head.length k.head.length s.0 r.long (ap (λ (h : Head). h.length) s.1) k.short
 
+-- the same behind so many others
+
+request_same : (before : ℕ) (bytes text rest text' rest' : List ℕ) (m m' : Message) → bytes ≡ text ++ rest → IsRequest before text m → bytes ≡ text' ++ rest' → IsRequest before text' m' → (m ≡ m') × (rest ≡ rest')
+request_same before bytes text rest text' rest' m m' is r is' r' =
+    let s = said_same bytes text rest text' rest' r.said r'.said is r.is is' r'.is in
+    (r.message_is ∙ ap (numbered before) s.0 ∙ sym r'.message_is, s.1)
+
+no_request : (before : ℕ) (bytes text rest : List ℕ) (m : Message) (e : Ending) → bytes ≡ text ++ rest → IsRequest before text m → Shape bytes e → ⊥
+no_request before bytes text rest m e is r k = request_or_ending bytes text rest r.said e is r.is k
+
 -- all of them
 
-go_on : (last : Bool) (rest : List ℕ) (ms ns : List Message) (e f : Ending) → MatchBool last ((ms ≡ []) × (e ≡ Closed)) (Lie rest ms e) → MatchBool last ((ns ≡ []) × (f ≡ Closed)) (Lie rest ns f)
-    → (Lie rest ms e → Lie rest ns f → (ms ≡ ns) × (e ≡ f)) → (ms ≡ ns) × (e ≡ f)
-go_on true rest ms ns e f h k more = (h.0 ∙ sym k.0, h.1 ∙ sym k.1)
-go_on false rest ms ns e f h k more = more h k
+go_on : (last : Bool) (before : ℕ) (rest : List ℕ) (ms ns : List Message) (e f : Ending) → MatchBool last ((ms ≡ []) × (e ≡ Closed)) (LieAfter before rest ms e) → MatchBool last ((ns ≡ []) × (f ≡ Closed)) (LieAfter before rest ns f)
+    → (LieAfter before rest ms e → LieAfter before rest ns f → (ms ≡ ns) × (e ≡ f)) → (ms ≡ ns) × (e ≡ f)
+go_on true before rest ms ns e f h k more = (h.0 ∙ sym k.0, h.1 ∙ sym k.1)
+go_on false before rest ms ns e f h k more = more h k
 
-pub lie_one : (bytes : List ℕ) (ms ns : List Message) (e f : Ending) → Lie bytes ms e → Lie bytes ns f → (ms ≡ ns) × (e ≡ f)
-lie_one bytes [] [] e f h k = (refl, shape_same bytes e f (shape_of bytes e h) (shape_of bytes f k))
-lie_one bytes [] (n ∷ ns) e f h k = absurd (request_or_ending bytes k.0 k.1 n e k.2 k.3 (shape_of bytes e h))
-lie_one bytes (m ∷ ms) [] e f h k = absurd (request_or_ending bytes h.0 h.1 m f h.2 h.3 (shape_of bytes f k))
-lie_one bytes (m ∷ ms) (n ∷ ns) e f h k =
-    let s = request_same bytes h.0 h.1 k.0 k.1 m n h.2 h.3 k.2 k.3 in
-    let there : Follow m h.1 ns f = subst (λ (l : List ℕ). Follow m l ns f) (sym s.1) (subst (λ (x : Message). Follow x k.1 ns f) (sym s.0) k.4) in
-    let r = go_on m.last h.1 ms ns e f h.4 there (λ p q. lie_one h.1 ms ns e f p q) in
+pub lie_one : (before : ℕ) (bytes : List ℕ) (ms ns : List Message) (e f : Ending) → LieAfter before bytes ms e → LieAfter before bytes ns f → (ms ≡ ns) × (e ≡ f)
+lie_one before bytes [] [] e f h k = (refl, shape_same bytes e f (shape_of bytes e h) (shape_of bytes f k))
+lie_one before bytes [] (n ∷ ns) e f h k = absurd (no_request before bytes k.0 k.1 n e k.2 k.3 (shape_of bytes e h))
+lie_one before bytes (m ∷ ms) [] e f h k = absurd (no_request before bytes h.0 h.1 m f h.2 h.3 (shape_of bytes f k))
+lie_one before bytes (m ∷ ms) (n ∷ ns) e f h k =
+    let s = request_same before bytes h.0 h.1 k.0 k.1 m n h.2 h.3 k.2 k.3 in
+    let there : Follow before m h.1 ns f = subst (λ (l : List ℕ). Follow before m l ns f) (sym s.1) (subst (λ (x : Message). Follow before x k.1 ns f) (sym s.0) k.4) in
+    let r = go_on m.last (before + 1) h.1 ms ns e f h.4 there (λ p q. lie_one (before + 1) h.1 ms ns e f p q) in
     (ap (λ (x : Message). x ∷ ms) s.0 ∙ ap (λ (l : List Message). n ∷ l) r.0, r.1)
 
 -- a request that the bytes begin with is the first of them
 
-pub lie_first : (text rest : List ℕ) (m : Message) (ms : List Message) (e : Ending) → IsRequest text m → Lie (text ++ rest) ms e → IsFirst m rest ms e
-lie_first text rest m [] e r h = absurd (request_or_ending (text ++ rest) text rest m e refl r (shape_of (text ++ rest) e h))
-lie_first text rest m (n ∷ ns) e r h =
-    let s = request_same (text ++ rest) text rest h.0 h.1 m n refl r h.2 h.3 in
-    record { others = ns; first = ap (λ (x : Message). x ∷ ns) (sym s.0); follow = subst (λ (l : List ℕ). Follow m l ns e) (sym s.1) (subst (λ (x : Message). Follow x h.1 ns e) (sym s.0) h.4) }
+pub lie_first : (before : ℕ) (text rest : List ℕ) (m : Message) (ms : List Message) (e : Ending) → IsRequest before text m → LieAfter before (text ++ rest) ms e → IsFirst before m rest ms e
+lie_first before text rest m [] e r h = absurd (no_request before (text ++ rest) text rest m e refl r (shape_of (text ++ rest) e h))
+lie_first before text rest m (n ∷ ns) e r h =
+    let s = request_same before (text ++ rest) text rest h.0 h.1 m n refl r h.2 h.3 in
+    record {
+      others = ns;
+      first = ap (λ (x : Message). x ∷ ns) (sym s.0);
+      follow = subst (λ (l : List ℕ). Follow before m l ns e) (sym s.1) (subst (λ (x : Message). Follow before x h.1 ns e) (sym s.0) h.4);
+    }
 
 -- one request more, and what follows
 
-pub one_more : (bytes text : List ℕ) (ms : List Message) (m : Message) → AreRequests bytes ms → IsRequest text m → m.last ≡ false → AreRequests (bytes ++ text) (ms ++ m ∷ [])
-one_more bytes text [] m h r goes = (text, [], ap (λ (l : List ℕ). l ++ text) h ∙ sym (append-nil text), r, goes, refl)
-one_more bytes text (n ∷ ms) m h r goes =
-    (h.0, h.1 ++ text, ap (λ (l : List ℕ). l ++ text) h.2 ∙ append_assoc h.0 h.1 text, h.3, h.4, one_more h.1 text ms m h.5 r goes)
+next_number : (before : ℕ) (m : Message) (ms : List Message) → before + length (m ∷ ms) ≡ (before + 1) + length ms
+next_number before m ms = omega arith
 
-pub lie_behind : (bytes rest : List ℕ) (ms ns : List Message) (e : Ending) → AreRequests bytes ms → Lie rest ns e → Lie (bytes ++ rest) (ms ++ ns) e
-lie_behind bytes rest [] ns e h k = subst (λ (l : List ℕ). Lie (l ++ rest) ns e) (sym h) k
-lie_behind bytes rest (m ∷ ms) ns e h k = (
+none_more : (before : ℕ) → before + 0 ≡ before
+none_more before = omega arith
+
+pub one_more : (before : ℕ) (bytes text : List ℕ) (ms : List Message) (m : Message) → AreRequests before bytes ms → IsRequest (before + length ms) text m → m.last ≡ false → AreRequests before (bytes ++ text) (ms ++ m ∷ [])
+one_more before bytes text [] m h r goes = (text, [], ap (λ (l : List ℕ). l ++ text) h ∙ sym (append-nil text), subst (λ (n : ℕ). IsRequest n text m) (none_more before) r, goes, refl)
+one_more before bytes text (n ∷ ms) m h r goes = (
+  h.0,
+  h.1 ++ text,
+  ap (λ (l : List ℕ). l ++ text) h.2 ∙ append_assoc h.0 h.1 text,
+  h.3,
+  h.4,
+  one_more (before + 1) h.1 text ms m h.5 (subst (λ (n : ℕ). IsRequest n text m) (next_number before n ms) r) goes,
+)
+
+pub lie_behind : (before : ℕ) (bytes rest : List ℕ) (ms ns : List Message) (e : Ending) → AreRequests before bytes ms → LieAfter (before + length ms) rest ns e → LieAfter before (bytes ++ rest) (ms ++ ns) e
+lie_behind before bytes rest [] ns e h k = subst (λ (l : List ℕ). LieAfter before (l ++ rest) ns e) (sym h) (subst (λ (n : ℕ). LieAfter n rest ns e) (none_more before) k)
+lie_behind before bytes rest (m ∷ ms) ns e h k = (
   h.0,
   h.1 ++ rest,
   ap (λ (l : List ℕ). l ++ rest) h.2 ∙ append_assoc h.0 h.1 rest,
   h.3,
-  subst (λ (b : Bool). MatchBool b ((ms ++ ns ≡ []) × (e ≡ Closed)) (Lie (h.1 ++ rest) (ms ++ ns) e)) (sym h.4) (lie_behind h.1 rest ms ns e h.5 k),
+  subst (λ (b : Bool). MatchBool b ((ms ++ ns ≡ []) × (e ≡ Closed)) (LieAfter (before + 1) (h.1 ++ rest) (ms ++ ns) e)) (sym h.4)
+      (lie_behind (before + 1) h.1 rest ms ns e h.5 (subst (λ (n : ℕ). LieAfter n rest ns e) (next_number before m ms) k)),
 )
+
+-- a connection has no more than so many
+
+goes_on : (said : Bool) (n : ℕ) → (said || nat_le 65535 n) ≡ false → n < 65535
+goes_on false n h = leb-false 65535 n h
+goes_on true n h = absurd (cc)
+
+followed_few : (last : Bool) (before : ℕ) (rest : List ℕ) (ms : List Message) (e : Ending) → (last ≡ false → before < 65535) → before ≤ 65535 → MatchBool last ((ms ≡ []) × (e ≡ Closed)) (LieAfter before rest ms e)
+    → (before < 65535 → LieAfter before rest ms e → before + length ms ≤ 65535) → before + length ms ≤ 65535
+followed_few true before rest ms e goes within h more = omega (arith, ap length h.0, within)
+followed_few false before rest ms e goes within h more = more (goes refl) h
+
+few_after : (before : ℕ) (bytes : List ℕ) (ms : List Message) (e : Ending) → before < 65535 → LieAfter before bytes ms e → before + length ms ≤ 65535
+few_after before bytes [] e within h = omega (arith, within)
+few_after before bytes (m ∷ ms) e within h =
+    let goes : m.last ≡ false → before + 1 < 65535 = λ l. goes_on h.3.said.last (before + 1) (sym (ap (λ (x : Message). x.last) h.3.message_is) ∙ l) in
+    let few = followed_few m.last (before + 1) h.1 ms e goes (omega (arith, within)) h.4 (λ p q. few_after (before + 1) h.1 ms e p q) in
+    omega (arith, few)
+
+pub lie_few : (bytes : List ℕ) (ms : List Message) (e : Ending) → Lie bytes ms e → length ms ≤ 65535
+lie_few bytes ms e h = omega (arith, few_after 0 bytes ms e (omega arith) h)

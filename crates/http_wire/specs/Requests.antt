@@ -1,5 +1,5 @@
 -- The requests in bytes, one after another.
-use Rattle.std.specs.Prelude.{ℕ, ◌≡◌, ◌≤◌, ◌<◌, ◌⊎◌, Bool, false, List, [], ◌∷◌, ◌++◌, Result, Ok, Err, MatchBool, length}
+use Rattle.std.specs.Prelude.{ℕ, ◌+◌, ◌≡◌, ◌≤◌, ◌<◌, ◌||◌, ◌⊎◌, Bool, false, List, [], ◌∷◌, ◌++◌, Result, Ok, Err, MatchBool, length, min, nat_le}
 use Rattle.httparse.specs.Grammar.{RequestHead, ReadsRequest}
 use Rattle.http_wire.specs.declared.error.WireError.{WireError}
 use Rattle.http_wire.specs.declared.error.WireError.TheVariants as error
@@ -38,8 +38,9 @@ pub record Message : Type 0 where
 abbrev pub message_of : Head → List ℕ → Message
 message_of head body = record { method = head.method; target = head.target; body = body; last = head.last }
 
--- the bytes are this request, with the empty lines before it: its head and as many bytes as that says
-pub record IsRequest (text : List ℕ) (message : Message) : Type 0 where
+-- the bytes are this request, with the empty lines before it: its head and as many bytes as that says; it is the last if its
+-- head says so
+pub record IsSaid (text : List ℕ) (message : Message) : Type 0 where
   pub prefix : List ℕ
   pub body : List ℕ
   pub is : text ≡ prefix ++ body
@@ -47,6 +48,24 @@ pub record IsRequest (text : List ℕ) (message : Message) : Type 0 where
   pub says : Says prefix (Ok head)
   pub long : length body ≡ head.length
   pub message_is : message ≡ message_of head body
+
+-- the most requests of a connection
+abbrev pub requests_most : ℕ
+requests_most = 65535
+
+-- the count of requests with one more, as far as they are counted
+abbrev pub next_count : ℕ → ℕ
+next_count before = min (before + 1) requests_most
+
+-- a request behind so many others: it is the last if its head says so, or if a connection has no more
+abbrev pub numbered : ℕ → Message → Message
+numbered before m = record { method = m.method; target = m.target; body = m.body; last = m.last || nat_le requests_most (before + 1) }
+
+-- the bytes are this request, behind so many others
+pub record IsRequest (before : ℕ) (text : List ℕ) (message : Message) : Type 0 where
+  pub said : Message
+  pub is : IsSaid text said
+  pub message_is : message ≡ numbered before said
 
 -- a head that isn't one by `httparse`'s grammar, or whose lengths are no number or different
 pub record IsStray (prefix : List ℕ) : Type 0 where
@@ -97,23 +116,27 @@ Stops bytes NoLength = (prefix rest : List ℕ) × (bytes ≡ prefix ++ rest) ×
 Stops bytes TooLong = (prefix rest : List ℕ) × (bytes ≡ prefix ++ rest) × IsTooLong prefix
 Stops bytes EndedEarly = IsOpen bytes
 
--- the requests of bytes: these are the requests in them in order, one after another, and then this ending;
--- what follows a request that ends the connection isn't looked at
+-- the requests of bytes behind so many others: these are the requests in them in order, one after another, and then this
+-- ending; what follows a request that ends the connection isn't looked at
+abbrev pub LieAfter : ℕ → List ℕ → List Message → Ending → Type 0
+LieAfter before bytes [] ending = Stops bytes ending
+LieAfter before bytes (m ∷ ms) ending = (text rest : List ℕ) × (bytes ≡ text ++ rest) × IsRequest before text m × MatchBool m.last ((ms ≡ []) × (ending ≡ Closed)) (LieAfter (before + 1) rest ms ending)
+
+-- the requests of all bytes of a connection
 abbrev pub Lie : List ℕ → List Message → Ending → Type 0
-Lie bytes [] ending = Stops bytes ending
-Lie bytes (m ∷ ms) ending = (text rest : List ℕ) × (bytes ≡ text ++ rest) × IsRequest text m × MatchBool m.last ((ms ≡ []) × (ending ≡ Closed)) (Lie rest ms ending)
+Lie = LieAfter 0
 
--- a request is followed by these requests and this ending
-abbrev pub Follow : Message → List ℕ → List Message → Ending → Type 0
-Follow m rest ms ending = MatchBool m.last ((ms ≡ []) × (ending ≡ Closed)) (Lie rest ms ending)
+-- a request behind so many others is followed by these requests and this ending
+abbrev pub Follow : ℕ → Message → List ℕ → List Message → Ending → Type 0
+Follow before m rest ms ending = MatchBool m.last ((ms ≡ []) × (ending ≡ Closed)) (LieAfter (before + 1) rest ms ending)
 
--- a request, and after it these
-pub record IsFirst (m : Message) (rest : List ℕ) (ms : List Message) (ending : Ending) : Type 0 where
+-- a request behind so many others, and after it these
+pub record IsFirst (before : ℕ) (m : Message) (rest : List ℕ) (ms : List Message) (ending : Ending) : Type 0 where
   pub others : List Message
   pub first : ms ≡ m ∷ others
-  pub follow : Follow m rest others ending
+  pub follow : Follow before m rest others ending
 
--- the bytes are these requests in order, one after another, and none of them ends the connection
-abbrev pub AreRequests : List ℕ → List Message → Type 0
-AreRequests bytes [] = bytes ≡ []
-AreRequests bytes (m ∷ ms) = (text rest : List ℕ) × (bytes ≡ text ++ rest) × IsRequest text m × (m.last ≡ false) × AreRequests rest ms
+-- the bytes are these requests in order, one after another, behind so many others, and none of them ends the connection
+abbrev pub AreRequests : ℕ → List ℕ → List Message → Type 0
+AreRequests before bytes [] = bytes ≡ []
+AreRequests before bytes (m ∷ ms) = (text rest : List ℕ) × (bytes ≡ text ++ rest) × IsRequest before text m × (m.last ≡ false) × AreRequests (before + 1) rest ms

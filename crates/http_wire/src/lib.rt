@@ -2,6 +2,7 @@
 //! sink: what a server of one connection reads and writes, apart from what its replies say.
 #![tactic(auto)]
 
+mod buffer;
 mod error;
 mod fields;
 mod head;

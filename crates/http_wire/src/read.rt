@@ -2,42 +2,30 @@ ghost use Rattle.std.specs.Prelude.{◌≡◌, ◌<◌, ◌≤◌, ◌+◌, ◌-
 ghost use Rattle.http_wire.specs.Heads.{line_count};
 ghost use Rattle.http_wire.specs.Meanings.{SaysOf};
 ghost use Rattle.http_wire.specs.Reader.{Answers, HasReadCause};
+ghost use Rattle.http_wire.specs.Requests.{IsSaid};
 ghost use Rattle.http_wire.specs.Steps.{EndsAt, Finds, Found, TakesBody, TakesHead};
 
+use crate::buffer::Buffer;
 use crate::head::{Head, read_head};
 use crate::scan::{HEAD, Place, Scan, is_before, is_done};
-use crate::{Request, RequestReader, WireError};
+use crate::{Request, WireError};
 use dra_ports::Source;
 use std::alloc::{AllocError, Global};
 
 /// The most lines of a head: its first, 64, and the empty one.
 const LINES: usize = 66;
 
-impl RequestReader {
-    /// The next request, or `None` if no byte is left and no request is begun.
-    ///
-    /// Lines end with LF, and a CR before the LF belongs to the end. Empty lines before a request are
-    /// skipped. A head has at most 16,384 bytes, with the empty lines before it, and at most 64 lines
-    /// between its first line and the empty one that ends it. A body has as many bytes as
-    /// `Content-Length` says, at most 2,097,152, or none.
-    ///
-    /// If the source exposes its contents, a request is returned only if it is the first of what remains,
-    /// `None` only if at most 16,384 bytes of empty lines remain, and `BadHead`, `NoLength`,
-    /// `TooLong` and `EndedEarly` only if what remains begins with a request that is refused, or
-    /// ends early, for the reason that the variant names. They are looked at in the order `TooLong`
-    /// of the head, `BadHead`, `NoLength`, `TooLong` of the body.
-    ///
-    /// `ReadFault` is returned only if the source's error count rose in this call, or is at its last
-    /// value, and only if what was read contains no whole request; with every other result the count
-    /// does not change. `Memory` is returned only if memory runs out. Nothing is promised about a call
-    /// after an error.
-    pub fn read_request<S: Source>(
+impl Buffer {
+    /// Takes the next request, or returns `None` if no byte is left and no request is begun. Whether it
+    /// is the last is what its head says.
+    pub fn take_request<S: Source>(
         &mut self,
         alloc: Global,
         from: &mut S,
     ) -> Result<Option<Request>, WireError>
-        ensures answers { Answers self.old self.new (S.left from.old) (S.left from.new) result }
+        ensures answers { Answers IsSaid self.old self.new (S.left from.old) (S.left from.new) result }
         ensures cause { HasReadCause (S.faults from.old) (S.faults from.new) result }
+        ensures sent { S.sent from.new ≡ S.sent from.old }
     {
         let Some(head) = self.take_head(alloc, from)? else {
             return Ok(None);
@@ -59,6 +47,7 @@ impl RequestReader {
     ) -> Result<Option<Head>, WireError>
         ensures takes { TakesHead self.old self.new (S.left from.old) (S.left from.new) result }
         ensures cause { HasReadCause (S.faults from.old) (S.faults from.new) result }
+        ensures sent { S.sent from.new ≡ S.sent from.old }
     {
         let Some(scan) = self.find_head(alloc, from)? else {
             let count = self.ahead().len();
@@ -78,6 +67,7 @@ impl RequestReader {
     ) -> Result<Option<Scan>, WireError>
         ensures finds { Finds self.old self.new (S.left from.old) (S.left from.new) result }
         ensures cause { HasReadCause (S.faults from.old) (S.faults from.new) result }
+        ensures sent { S.sent from.new ≡ S.sent from.old }
     {
         let mut scan = Scan::new();
         'pieces: loop {
@@ -103,6 +93,7 @@ impl RequestReader {
     ) -> Result<Vec<u8>, WireError>
         ensures takes { TakesBody self.old self.new (S.left from.old) (S.left from.new) length result }
         ensures cause { HasReadCause (S.faults from.old) (S.faults from.new) result }
+        ensures sent { S.sent from.new ≡ S.sent from.old }
     {
         let mut body = Vec::new(alloc);
         'pieces: while body.len() < length {

@@ -1,105 +1,88 @@
-ghost use Rattle.std.specs.Prelude.{◌≡◌, ◌≤◌, [], OnOk, OnErr, drop, length};
-ghost use Rattle.dra_ports.specs.Causes.{HasCause};
-ghost use Rattle.http_wire.specs.Filling.{Fills, HasMore, ReadsPiece};
+ghost use Rattle.std.specs.Prelude.{◌≡◌, ◌+◌, ◌||◌, [], IfOk, nat_le};
+ghost use Rattle.http_wire.specs.Reader.{Answers, HasReadCause, Reading, count_after};
+ghost use Rattle.http_wire.specs.Requests.{IsRequest, next_count, requests_most};
 
-use dra_ports::{PortError, Source};
-use std::alloc::{AllocError, Global};
+use crate::buffer::Buffer;
+use crate::{Request, WireError};
+use dra_ports::Source;
+use std::alloc::Global;
 use std::marker::Model;
 
-/// How many bytes are read at once.
-const PIECE: usize = 4096;
+/// The most requests of a connection.
+const MOST: u16 = 65_535;
 
-/// Reads requests from a source, one after another. What contracts see of it are the bytes that it
-/// has taken from the source and that belong to no request so far.
+/// Reads the requests of a connection, one after another. What contracts see of it are the bytes that
+/// it has taken from the source and that belong to no request so far, and how many requests it has
+/// returned, counted up to 65,535.
 #[derive(Drop)]
 pub struct RequestReader {
-    bytes: Vec<u8>,
-    next: usize,
+    buffer: Buffer,
+    taken: u16,
 }
 
 impl Model for RequestReader {
-    ghost use Rattle.std.specs.Prelude.{ℕ, ◌≤◌, List, drop, vec_len};
+    ghost Value = { Reading };
 
-    ghost Value = { List ℕ };
-
-    ghost view = { λ s. drop s.next s.bytes.items };
-
-    ghost invariant = { λ s. s.next ≤ vec_len s.bytes };
+    ghost view = { λ r. record { ahead = r.buffer; taken = r.taken } };
 }
 
 impl RequestReader {
     /// A reader that has taken nothing. Allocates nothing: the allocator is kept for its buffer.
     pub fn new(alloc: Global) -> RequestReader
-        ensures { result ≡ [] }
+        ensures { result ≡ record { ahead = []; taken = 0 } }
     {
         RequestReader {
-            bytes: Vec::new(alloc),
-            next: 0,
+            buffer: Buffer::new(alloc),
+            taken: 0,
         }
     }
 
-    /// The bytes that it has taken and that belong to no request so far.
-    pub(crate) fn ahead(&self) -> &[u8]
-        ensures { result.now ≡ self.now }
-    {
-        &self.bytes[self.next..]
-    }
-
-    /// Skips the first `count` of the bytes ahead.
-    pub(crate) fn advance(&mut self, count: usize)
-        requires { count ≤ length self.old }
-        ensures { self.new ≡ drop count self.old }
-    {
-        self.next += count;
-    }
-
-    /// Takes a piece of the source after the bytes ahead. Returns whether it has one.
-    pub(crate) fn fill<S: Source>(&mut self, alloc: Global, from: &mut S) -> Result<bool, PortError>
-        ensures fills { Fills self.old self.new (S.left from.old) (S.left from.new) result }
-        ensures cause { HasCause (S.faults from.old) (S.faults from.new) result }
-    {
-        self.move_to_prefix(alloc)?;
-        let count = self.read_piece(from)?;
-        Ok(count > 0)
-    }
-
-    /// Takes a piece of the source if nothing is ahead. Returns whether something is ahead then.
-    pub(crate) fn has_more<S: Source>(
+    /// The next request, or `None` if no byte is left and no request is begun.
+    ///
+    /// Lines end with LF, and a CR before the LF belongs to the end. Empty lines before a request are
+    /// skipped. A head has at most 16,384 bytes, with the empty lines before it, and at most 64 lines
+    /// between its first line and the empty one that ends it. A body has as many bytes as
+    /// `Content-Length` says, at most 2,097,152, or none. A connection has at most 65,535 requests, so
+    /// the 65,535th is the last, whatever its head says.
+    ///
+    /// If the source exposes its contents, a request is returned only if it is the first of what remains,
+    /// `None` only if at most 16,384 bytes of empty lines remain, and `BadHead`, `NoLength`,
+    /// `TooLong` and `EndedEarly` only if what remains begins with a request that is refused, or
+    /// ends early, for the reason that the variant names. They are looked at in the order `TooLong`
+    /// of the head, `BadHead`, `NoLength`, `TooLong` of the body.
+    ///
+    /// `ReadFault` is returned only if the source's error count rose in this call, or is at its last
+    /// value, and only if what was read contains no whole request; with every other result the count
+    /// does not change. `Memory` is returned only if memory runs out. What was written to the same
+    /// object is unchanged with any result. Nothing is promised about a call after an error.
+    pub fn read_request<S: Source>(
         &mut self,
         alloc: Global,
         from: &mut S,
-    ) -> Result<bool, PortError>
-        ensures more { HasMore self.old self.new (S.left from.old) (S.left from.new) result }
-        ensures cause { HasCause (S.faults from.old) (S.faults from.new) result }
+    ) -> Result<Option<Request>, WireError>
+        ensures answers { Answers (IsRequest self.old.taken) self.old.ahead self.new.ahead (S.left from.old) (S.left from.new) result }
+        ensures counts { IfOk result (λ found. self.new.taken ≡ count_after self.old.taken found) }
+        ensures cause { HasReadCause (S.faults from.old) (S.faults from.new) result }
+        ensures sent { S.sent from.new ≡ S.sent from.old }
     {
-        if !self.ahead().is_empty() {
-            return Ok(true);
-        }
-        self.fill(alloc, from)
+        let Some(request) = self.buffer.take_request(alloc, from)? else {
+            return Ok(None);
+        };
+        Ok(Some(self.count(request)))
     }
 
-    /// Drops the bytes before those ahead.
-    fn move_to_prefix(&mut self, alloc: Global) -> Result<(), AllocError>
-        ensures same { self.new ≡ self.old }
+    /// Counts a request, which is the last if there may be no more.
+    fn count(&mut self, request: Request) -> Request
+        ensures ahead { self.new.ahead ≡ self.old.ahead }
+        ensures counts { self.new.taken ≡ next_count self.old.taken }
+        ensures request { result ≡ record request { last = request.last || nat_le requests_most (self.old.taken + 1) } }
     {
-        if self.next == 0 {
-            return Ok(());
+        self.taken = self.taken.saturating_add(1);
+        Request {
+            method: request.method,
+            target: request.target,
+            body: request.body,
+            last: request.last || self.taken == MOST,
         }
-        let mut bytes = Vec::new(alloc);
-        bytes.extend_from_slice(self.ahead())?;
-        self.bytes = bytes;
-        self.next = 0;
-        Ok(())
-    }
-
-    /// Reads a piece of the source after the bytes ahead. Returns its length.
-    fn read_piece<S: Source>(&mut self, from: &mut S) -> Result<usize, PortError>
-        ensures reads { ReadsPiece self.old self.new (S.left from.old) (S.left from.new) result }
-        ensures cause { HasCause (S.faults from.old) (S.faults from.new) result }
-    {
-        let mut piece = [0u8; PIECE];
-        let count = from.read(&mut piece)?;
-        self.bytes.extend_from_slice(&piece[..count])?;
-        Ok(count)
     }
 }

@@ -1,6 +1,7 @@
-ghost use Rattle.std.specs.Prelude.{◌≡◌, ◌++◌, IfOk, IfErr, OnOk, OnErr, codes, decimal, unwrap_or, length};
+ghost use Rattle.std.specs.Prelude.{◌≡◌, ◌⊎◌, ◌++◌, IfOk, IfErr, OnOk, OnErr, codes, decimal, unwrap_or, length};
 ghost use Rattle.std.specs.Io.KnownBytes.{Appends};
 ghost use Rattle.dra_ports.specs.Prefixes.{AppendsPrefix};
+ghost use Rattle.http_wire.specs.declared.error.WireError.TheVariants.{Memory, WriteFault};
 ghost use Rattle.http_wire.specs.Replies.{HasWriteCause, content_type, digits_of, head_bytes, phrase_of, reply_bytes};
 
 use crate::WireError;
@@ -23,12 +24,15 @@ pub struct Reply {
 /// the length of the body, an empty line, and the body.
 ///
 /// `WriteFault` is returned only if the sink's error count rose in this call, or is at its last
-/// value, and `Memory` only if memory runs out. After either, some of the first bytes of the
-/// reply may be written.
+/// value, and `Memory` only if memory runs out. There is no other error. After either, some of the
+/// first bytes of the reply may be written. What is left to read from the same object is unchanged
+/// with any result.
 pub fn write_reply<K: Sink>(alloc: Global, to: &mut K, reply: &Reply) -> Result<(), WireError>
     ensures bytes { OnOk result (Appends (K.written to.old) (K.written to.new) (reply_bytes reply.now)) }
     ensures prefix { OnErr result (AppendsPrefix (K.written to.old) (K.written to.new) (reply_bytes reply.now)) }
+    ensures errors { IfErr result (λ e. (e ≡ WriteFault) ⊎ (e ≡ Memory)) }
     ensures cause { HasWriteCause (K.faults to.old) (K.faults to.new) result }
+    ensures waiting { K.waiting to.new ≡ K.waiting to.old }
 {
     let bytes = reply_text(alloc, reply)?;
     match write_all(to, &bytes) {

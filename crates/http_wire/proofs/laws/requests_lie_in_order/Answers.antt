@@ -1,4 +1,4 @@
-use Rattle.http_wire.proofs.Single.{lie_behind, lie_first, lie_one, one_more}
+use Rattle.http_wire.proofs.Single.{lie_behind, lie_few, lie_first, lie_one, one_more}
 use Rattle.http_wire.proofs.laws.requests_lie_in_order.Goals as goal
 
 pub returns-clause-one : goal.returns-clause-one
@@ -12,3 +12,6 @@ returns-clause-ends c = lie_behind
 
 pub returns-clause-first : goal.returns-clause-first
 returns-clause-first c = lie_first
+
+pub returns-clause-few : goal.returns-clause-few
+returns-clause-few c = lie_few

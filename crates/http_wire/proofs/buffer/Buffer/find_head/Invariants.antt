@@ -1,7 +1,7 @@
 use Rattle.std.proofs.Common.{◌≡◌, ◌≤◌, ◌-◌, length, take}
 use Rattle.http_wire.specs.Scan.{IsBehind}
 use Rattle.http_wire.specs.Steps.{Kept}
-use Rattle.http_wire.proofs.reader.RequestReader.find_head.Given as goal
+use Rattle.http_wire.proofs.buffer.Buffer.find_head.Given as goal
 
 abbrev pub invariant-pieces : goal.invariant-pieces
 invariant-pieces g l = record {
@@ -9,6 +9,7 @@ invariant-pieces g l = record {
   within : l.scan.count ≤ length l.self;
   few : l.scan.count ≤ 16384;
   behind : IsBehind (take l.scan.count l.self) l.scan;
+  sent : g.S.Source.sent l.from ≡ g.S.Source.sent l.fn.from;
   faultless : g.S.Source.faults l.from ≡ g.S.Source.faults l.fn.from;
 }
 

@@ -4,7 +4,7 @@ use Rattle.http_wire.specs.Meanings.{SaysOf}
 use Rattle.http_wire.specs.Steps.{TakesHead}
 use Rattle.http_wire.proofs.Joining.{head_refused, head_taken, not_found}
 use Rattle.http_wire.proofs.Known.{by_error}
-use Rattle.http_wire.proofs.reader.RequestReader.take_head.Goals as goal
+use Rattle.http_wire.proofs.buffer.Buffer.take_head.Goals as goal
 
 pub returns-in_err-scan-clause-takes : goal.returns-in_err-scan-clause-takes
 returns-in_err-scan-clause-takes g c =

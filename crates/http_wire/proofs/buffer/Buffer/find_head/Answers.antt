@@ -3,7 +3,7 @@ use Rattle.http_wire.proofs.Finding.{finds_done, finds_end, finds_failed, finds_
 use Rattle.http_wire.proofs.Known.{by_error}
 use Rattle.http_wire.specs.Reader.{read_error}
 use Rattle.http_wire.specs.Steps.{Finds}
-use Rattle.http_wire.proofs.reader.RequestReader.find_head.Goals as goal
+use Rattle.http_wire.proofs.buffer.Buffer.find_head.Goals as goal
 
 pub returns-then-is_done-clause-finds : goal.returns-then-is_done-clause-finds
 returns-then-is_done-clause-finds g c =

@@ -4,13 +4,14 @@ use Rattle.http_wire.specs.Reader.{read_error}
 use Rattle.http_wire.specs.Steps.{TakesBody}
 use Rattle.http_wire.proofs.Joining.{body_goes, body_short, more_failed, piece_failed}
 use Rattle.http_wire.proofs.Known.{by_error}
-use Rattle.http_wire.proofs.reader.RequestReader.take_body.Goals as goal
+use Rattle.http_wire.proofs.buffer.Buffer.take_body.Goals as goal
 
 pub pieces-preserved : goal.pieces-preserved
 pieces-preserved g c = record {
   consumed = body_goes c.args.self.now c.pieces.self c.has_more.new.self c.take_piece.new.self (g.S.Source.left c.args.from.now) (g.S.Source.left c.pieces.from) (g.S.Source.left c.has_more.new.from) c.pieces.body.items c.take_piece.new.body.items
       (c.args.length - length c.pieces.body.items) c.pieces.invariant.consumed c.in_ok-has_more.ensures.more.kept c.in_ok-take_piece.ensures.took c.in_ok-take_piece.ensures.left;
   short = body_short c.has_more.new.self c.pieces.body.items c.take_piece.new.body.items c.args.length c.pieces.invariant.short c.in_ok-take_piece.ensures.took;
+  sent = c.in_ok-has_more.ensures.sent ∙ c.pieces.invariant.sent;
   faultless = c.in_ok-has_more.ensures.cause.ok ∙ c.pieces.invariant.faultless;
 }
 
