@@ -1,5 +1,6 @@
-use crate::reading::{cuts, faults, read};
+use crate::reading::{cuts, faults, many, read};
 use crate::spelling::from_text;
+use crate::talking::talk;
 use crate::writing::reply;
 use std::alloc::{AllocError, Global};
 
@@ -18,6 +19,25 @@ fn of_reply(alloc: Global, text: &str) -> Result<String, AllocError> {
     }
 }
 
+/// A case such as `many 3 GET / HTTP/1.1\n\n`.
+fn of_many(alloc: Global, text: &str) -> Result<String, AllocError> {
+    let (count, bytes) = cut_word(text);
+    match count.parse::<usize>() {
+        Ok(count) => many(alloc, count, &from_text(alloc, bytes)?),
+        Err(_) => String::from_str(alloc, "no case"),
+    }
+}
+
+/// A case such as `talk 7 2 GET / HTTP/1.1\n\n`.
+fn of_talk(alloc: Global, text: &str) -> Result<String, AllocError> {
+    let (piece, rest) = cut_word(text);
+    let (failing, bytes) = cut_word(rest);
+    let (Ok(piece), Ok(failing)) = (piece.parse::<usize>(), failing.parse::<u64>()) else {
+        return String::from_str(alloc, "no case");
+    };
+    talk(alloc, &from_text(alloc, bytes)?, piece, failing)
+}
+
 /// The line of a case.
 pub fn answer(alloc: Global, line: &str) -> Result<String, AllocError> {
     if line.is_empty() || line.starts_with('#') {
@@ -28,6 +48,8 @@ pub fn answer(alloc: Global, line: &str) -> Result<String, AllocError> {
         "read" => read(alloc, &from_text(alloc, text)?),
         "cuts" => cuts(alloc, &from_text(alloc, text)?),
         "faults" => faults(alloc, &from_text(alloc, text)?),
+        "many" => of_many(alloc, text),
+        "talk" => of_talk(alloc, text),
         "reply" => of_reply(alloc, text),
         _ => String::from_str(alloc, "no case"),
     }

@@ -6,6 +6,7 @@
 mod case;
 mod reading;
 mod spelling;
+mod talking;
 mod writing;
 
 use std::io;

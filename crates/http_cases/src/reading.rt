@@ -29,7 +29,7 @@ fn push_request(alloc: Global, text: &mut String, request: &Request) -> Result<(
 }
 
 /// Prints what a call returned. Returns whether there may be more.
-fn push_answer(
+pub fn push_answer(
     alloc: Global,
     text: &mut String,
     answer: Result<Option<Request>, WireError>,
@@ -107,6 +107,33 @@ pub fn read(alloc: Global, bytes: &[u8]) -> Result<String, AllocError> {
     push_other(alloc, bytes, 2, &mut text)?;
     push_other(alloc, bytes, 7, &mut text)?;
     Ok(text)
+}
+
+/// How many requests come before the end, and how the last of them ends: `last` if it ends the connection.
+fn count_requests(alloc: Global, bytes: Vec<u8>) -> Result<String, AllocError> {
+    let most = bytes.len();
+    let mut source = MemSource::new(bytes, 65_536, Vec::new(alloc));
+    let mut reader = RequestReader::new(alloc);
+    let mut count: u64 = 0;
+    let mut text = String::new(alloc);
+    'requests: for _ in 0..=most {
+        text = String::new(alloc);
+        let answer = reader.read_request(alloc, &mut source);
+        if !push_answer(alloc, &mut text, answer)? {
+            break 'requests;
+        }
+        count = count.saturating_add(1);
+    }
+    format!(in alloc; "{count} and then {text}")
+}
+
+/// The requests of bytes that stand there so many times.
+pub fn many(alloc: Global, count: usize, bytes: &[u8]) -> Result<String, AllocError> {
+    let mut all = Vec::new(alloc);
+    for _ in 0..count {
+        all.extend_from_slice(bytes)?;
+    }
+    count_requests(alloc, all)
 }
 
 /// Prints a number and what was found with it.
