@@ -1,0 +1,3 @@
+pub mod Tolerating
+pub mod Reading
+pub mod Limits
