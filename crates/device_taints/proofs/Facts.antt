@@ -1,7 +1,6 @@
 -- The tests are true if and only if the facts hold.
 use Rattle.std.proofs.Common.{◌≡◌, ◌∙◌, ◌⊎◌, inl, inr, ℕ, ◌&&◌, ◌||◌, Bool, true, false, List, [], ◌∷◌, Option, Some, None, ap, refl, sym}
 use Rattle.std.specs.Cmp.Lexicographic.{same_text}
-use Rattle.std.specs.List.{AllByRecursion, list_all, list_any}
 use Rattle.std.specs.Option.{IfSome}
 use Rattle.std.proofs.lemmas.Bool.{and_parts, and_from}
 use Rattle.std.proofs.lemmas.Cmp.{nat_list_eq_equiv}
@@ -105,11 +104,11 @@ only k t h =
 one_fits : (ks : List Toleration) (t : Taint) → is_tolerated ks t ≡ true → IsTolerated ks t
 one_fits ks t h =
     let a = Any-from_list_any (λ k. tolerates k t) ks h in
-    record { toleration = a.1.0; is_listed = (a.0, (a.1.1.0, a.1.1.1.0)); fits = fits a.1.0 t a.1.1.1.1 }
+    record { toleration = a.1; is_listed = (a.0, a.2, a.3); fits = fits a.1 t a.4 }
 
 one_test : (ks : List Toleration) (t : Taint) → IsTolerated ks t → is_tolerated ks t ≡ true
 one_test ks t h =
-    list_any-from_Any (λ k. tolerates k t) ks (h.is_listed.0, (h.toleration, (h.is_listed.1.0, (h.is_listed.1.1, only h.toleration t h.fits))))
+    list_any-from_Any (λ k. tolerates k t) ks (h.is_listed.0, h.toleration, h.is_listed.1, h.is_listed.2, only h.toleration t h.fits)
 
 pub all_fit : (ks : List Toleration) (ts : List Taint) → are_tolerated ks ts ≡ true → AreTolerated ks ts
 all_fit ks [] h = tt

@@ -1,5 +1,5 @@
 -- What is read keeps the limits.
-use Rattle.std.proofs.Common.{◌≡◌, ℕ, ◌+◌, ◌≤◌, Bool, true, false, not, List, [], ◌∷◌, ◌++◌, length, Option, Some, None, unwrap_or, Result, Ok, Err, arith, codes, if◌then◌else◌, lit≤, nat_lt, refl, subst}
+use Rattle.std.proofs.Common.{◌≡◌, ℕ, ◌+◌, ◌≤◌, Bool, true, false, List, [], ◌∷◌, ◌++◌, length, Option, Some, None, unwrap_or, Result, Ok, Err, arith, codes, if◌then◌else◌, lit≤, nat_lt, refl, subst}
 use Rattle.std.proofs.lemmas.Bool.{ltb-false}
 use Rattle.std.specs.List.{AllByRecursion}
 use Rattle.serde_json.specs.Data.{Data, Items, no_items, item}
@@ -11,7 +11,6 @@ use Rattle.object_fields.specs.declared.path.Step.{Step}
 use Rattle.object_fields.specs.declared.path.Step.TheVariants.{Member, Place}
 use Rattle.device_taints.specs.Limits.{TaintKept, TaintsKept, TolerationKept, TolerationsKept}
 use Rattle.device_taints.specs.Reading.{effect_at, is_key, key_most, keyed, lacks_key, taint_at, taint_key_at, taint_value_at, taints_at, taints_most, toleration_at, toleration_in, tolerations_at, tolerations_most, value_most}
-use Rattle.device_taints.specs.Tolerating.{is_empty}
 use Rattle.device_taints.specs.declared.types.Taint.{Taint}
 use Rattle.device_taints.specs.declared.types.Toleration.{Toleration}
 use Rattle.device_taints.specs.declared.types.TolerationOperator.{TolerationOperator}
@@ -107,7 +106,7 @@ taint_kept path d taint h =
     let e : made ≡ taint = cc in
     let key = text_kept key_most is_key path (codes "key") s.0 t.0 t.1.0 in
     let kept : TaintKept made = record { some_key = some_text t.0 key.right; short_key = key.short; short_value = value_kept path s.0 u.0 u.1.0 } in
-    subst TaintKept e kept
+    subst TaintKept {x = made} e kept
 
 pub taints_kept : ListLaw Taint → (path : List Step) (d : Data) (taints : List Taint) → taints_at path d ≡ Ok taints → TaintsKept taints
 taints_kept law path d taints h = record {

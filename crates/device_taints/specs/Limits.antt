@@ -1,6 +1,6 @@
 -- The limits that the taints and tolerations keep which are read (API reference of
 -- resource.k8s.io/v1).
-use Rattle.std.specs.Prelude.{◌≡◌, ℕ, ◌≤◌, List, [], length}
+use Rattle.std.specs.Prelude.{◌≡◌, ◌≤◌, List, [], length}
 use Rattle.std.specs.List.{AllByRecursion}
 use Rattle.device_taints.specs.Reading.{key_most, taints_most, tolerations_most, value_most}
 use Rattle.device_taints.specs.declared.types.Taint.{Taint}

@@ -150,7 +150,7 @@ fn keyed(alloc: Global, path: &Path, toleration: Toleration) -> Result<Toleratio
 }
 
 fn lacks_key(toleration: &Toleration) -> bool
-    ensures { result ≡ fields.lacks_key toleration.operator.now toleration.key.now }
+    ensures { result ≡ fields.lacks_key toleration.now.operator toleration.now.key }
 {
     match &toleration.operator {
         TolerationOperator::Equal(_) => toleration.key.as_str().is_empty(),
@@ -225,11 +225,7 @@ fn read_optional_effect(
     }
 }
 
-fn effect_if_any(
-    alloc: Global,
-    path: &Path,
-    word: &str,
-) -> Result<Option<TaintEffect>, FieldError>
+fn effect_if_any(alloc: Global, path: &Path, word: &str) -> Result<Option<TaintEffect>, FieldError>
     ensures { Reads result (fields.effect_if_any path.now word.now) }
 {
     if word.is_empty() {

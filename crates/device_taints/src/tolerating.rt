@@ -18,7 +18,9 @@ pub fn are_tolerated(tolerations: &[Toleration], taints: &[Taint]) -> bool
 fn is_tolerated(tolerations: &[Toleration], taint: &Taint) -> bool
     ensures { result ≡ spec.is_tolerated tolerations.now taint.now }
 {
-    tolerations.iter().any(|toleration| tolerates(toleration, taint))
+    tolerations
+        .iter()
+        .any(|toleration| tolerates(toleration, taint))
 }
 
 /// Whether the toleration tolerates the taint (KEP 5055): its effect is missing or the taint's; its
@@ -43,7 +45,7 @@ fn fits_effect(own: Option<TaintEffect>, effect: TaintEffect) -> bool
 
 /// Whether the key is the taint's, or there is none with Exists.
 fn fits_key(toleration: &Toleration, key: &Text) -> bool
-    ensures { result ≡ spec.fits_key toleration.operator.now toleration.key.now key.now }
+    ensures { result ≡ spec.fits_key toleration.now.operator toleration.now.key key.now }
 {
     match &toleration.operator {
         TolerationOperator::Equal(_) => toleration.key == *key,
