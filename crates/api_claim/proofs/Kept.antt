@@ -9,7 +9,7 @@ use Rattle.std.specs.List.{zip}
 use Rattle.std.specs.Str.{bytes_eq}
 use Rattle.serde_json.specs.Data.{Data, null, boolean, number, string, array, object, Items, no_items, item}
 use Rattle.serde_json.specs.Find.{as_array}
-use Rattle.object_fields.specs.Fields.{dns_label_at, error_at, field_at, field_error, if_there, items_length, list_at, member_of, name_in, natural_at, natural_between, object_at, object_value, optional_at, short_list_at, some_or, text_at, unless, whole_at, ◌>>=◌}
+use Rattle.object_fields.specs.Fields.{dns_label_at, error_at, field_at, field_error, if_there, items_length, list_at, member_of, name_in, natural_at, natural_between, object_at, object_value, optional_at, short_list_at, some_or, text_at, unless, unset_at, whole_at, ◌>>=◌}
 use Rattle.object_fields.specs.Lists.{each, each_at, each_beside, each_from, each_in}
 use Rattle.object_fields.specs.Names.{is_dns_label, label_most}
 use Rattle.object_fields.specs.NewNames.{AreDifferent, is_among}
@@ -18,12 +18,16 @@ use Rattle.object_fields.specs.declared.error.FieldError.{FieldError}
 use Rattle.object_fields.specs.declared.kind.FieldErrorKind.TheVariants.{Doubled, Missing, NotOne, OutOfRange, TooMany, WrongType}
 use Rattle.object_fields.specs.declared.path.Step.{Step}
 use Rattle.object_fields.specs.declared.path.Step.TheVariants.{Member, Place}
-use Rattle.api_claim.specs.Asks.{admin_at, all_at, ask_at, asked_at, count_at, count_most, exactly_at, exactly_in, first_available_at, left_out_at, mode_at, mode_with, subrequest_in}
+use Rattle.device_taints.specs.Limits.{TolerationsKept}
+use Rattle.device_taints.specs.Reading.{tolerations_at}
+use Rattle.device_taints.specs.declared.types.Toleration.{Toleration}
+use Rattle.api_claim.specs.Asks.{admin_at, all_at, ask_with, asked_at, count_at, count_most, exactly_at, exactly_in, first_available_at, mode_at, mode_with, selection_at, subrequest_in}
 use Rattle.api_claim.specs.Limits.{AreNames, AskKept, CountKept, EachOf, KindKept, RequestsKept, SubrequestsKept}
 use Rattle.api_claim.specs.Lists.{has_items, has_some, is_no_empty_list, new_name_at, passes, some_items, some_items_at}
 use Rattle.api_claim.specs.Requests.{has_one_kind, kind_of, kind_with, kinds_in, request_name_at, request_of, requests_in, requests_most, subrequest_name_at, subrequest_names_at, subrequest_of, subrequests_most}
 use Rattle.api_claim.specs.declared.asks.Asked.{Asked}
 use Rattle.api_claim.specs.declared.asks.Asked.TheVariants as asked
+use Rattle.api_claim.specs.declared.asks.Selection.{Selection}
 use Rattle.api_claim.specs.declared.types.AllocationMode.{AllocationMode}
 use Rattle.api_claim.specs.declared.types.DeviceAsk.{DeviceAsk}
 use Rattle.api_claim.specs.declared.types.DeviceRequest.{DeviceRequest}
@@ -181,35 +185,50 @@ mode_kept path d mode h =
     let e : mode_with s.0 t.0 ≡ mode = cc in
     subst CountKept e (count_kept s.0 t.0 o)
 
-ask_kept : (path : List Step) (d : Data) (ask : DeviceAsk) → ask_at path d ≡ Ok ask → AskKept ask
-ask_kept path d ask h =
-    let s = then_ok (text_at path (codes "deviceClassName") d) (λ class. selectors_at path d >>= λ selectors. mode_at path d >>= λ mode. Ok (record { class = class; selectors = selectors; mode = mode })) ask h in
-    let t = then_ok (selectors_at path d) (λ selectors. mode_at path d >>= λ mode. Ok (record { class = s.0; selectors = selectors; mode = mode })) ask s.1.1 in
-    let u = then_ok (mode_at path d) (λ mode. Ok (record { class = s.0; selectors = t.0; mode = mode })) ask t.1.1 in
-    let made : DeviceAsk = record { class = s.0; selectors = t.0; mode = u.0 } in
-    let k : given made ≡ Ok ask = u.1.1 in
+-- tolerations keep their limits
+abbrev pub TolerationLaw : Type 0
+TolerationLaw = (path : List Step) (d : Data) (tolerations : List Toleration) → tolerations_at path d ≡ Ok tolerations → TolerationsKept tolerations
+
+record SelectionKept (selection : Selection) : Type 0 where
+  pub selectors : length selection.selectors ≤ selectors_most
+  pub count : CountKept selection.mode
+
+selection_kept : (path : List Step) (d : Data) (selection : Selection) → selection_at path d ≡ Ok selection → SelectionKept selection
+selection_kept path d selection h =
+    let s = then_ok (text_at path (codes "deviceClassName") d) (λ class. selectors_at path d >>= λ selectors. mode_at path d >>= λ mode. Ok (record { class = class; selectors = selectors; mode = mode })) selection h in
+    let t = then_ok (selectors_at path d) (λ selectors. mode_at path d >>= λ mode. Ok (record { class = s.0; selectors = selectors; mode = mode })) selection s.1.1 in
+    let u = then_ok (mode_at path d) (λ mode. Ok (record { class = s.0; selectors = t.0; mode = mode })) selection t.1.1 in
+    let made : Selection = record { class = s.0; selectors = t.0; mode = u.0 } in
+    let k : given made ≡ Ok selection = u.1.1 in
+    let e : made ≡ selection = cc in
+    let kept : SelectionKept made = record { selectors = each_at_few selectors_most selector_at path (codes "selectors") d t.0 t.1.0; count = mode_kept path d u.0 u.1.0 } in
+    subst SelectionKept e kept
+
+ask_kept : TolerationLaw → (selection : Selection) (path : List Step) (d : Data) (ask : DeviceAsk) → SelectionKept selection → ask_with selection path d ≡ Ok ask → AskKept ask
+ask_kept law selection path d ask kept h =
+    let s = then_ok (tolerations_at path d) (λ tolerations. unset_at path (codes "capacity") d >>= λ u. Ok (record { class = selection.class; selectors = selection.selectors; mode = selection.mode; tolerations = tolerations })) ask h in
+    let t = then_ok (unset_at path (codes "capacity") d) (λ u. Ok (record { class = selection.class; selectors = selection.selectors; mode = selection.mode; tolerations = s.0 })) ask s.1.1 in
+    let made : DeviceAsk = record { class = selection.class; selectors = selection.selectors; mode = selection.mode; tolerations = s.0 } in
+    let k : given made ≡ Ok ask = t.1.1 in
     let e : made ≡ ask = cc in
-    let kept : AskKept made = record { selectors = each_at_few selectors_most selector_at path (codes "selectors") d t.0 t.1.0; count = mode_kept path d u.0 u.1.0 } in
-    subst AskKept e kept
+    let all_kept : AskKept made = record { selectors = kept.selectors; count = kept.count; tolerations = law path d s.0 s.1.0 } in
+    subst AskKept e all_kept
 
-subrequest_kept : (path : List Step) (d : Data) (ask : DeviceAsk) → subrequest_in path d ≡ Ok ask → AskKept ask
-subrequest_kept path d ask h =
-    let s = then_ok (object_value path d) (λ r. ask_at path r >>= λ a. left_out_at path r >>= λ u. Ok a) ask h in
-    let t = then_ok (ask_at path s.0) (λ a. left_out_at path s.0 >>= λ u. Ok a) ask s.1.1 in
-    let u = then_ok (left_out_at path s.0) (λ u. Ok t.0) ask t.1.1 in
-    let k : given t.0 ≡ Ok ask = u.1.1 in
-    let e : t.0 ≡ ask = cc in
-    subst AskKept e (ask_kept path s.0 t.0 t.1.0)
+subrequest_kept : TolerationLaw → (path : List Step) (d : Data) (ask : DeviceAsk) → subrequest_in path d ≡ Ok ask → AskKept ask
+subrequest_kept law path d ask h =
+    let s = then_ok (object_value path d) (λ r. selection_at path r >>= λ selection. ask_with selection path r) ask h in
+    let t = then_ok (selection_at path s.0) (λ selection. ask_with selection path s.0) ask s.1.1 in
+    ask_kept law t.0 path s.0 ask (selection_kept path s.0 t.0 t.1.0) t.1.1
 
-exact_kept : (path : List Step) (d : Data) (x : ExactDeviceRequest) → exactly_in path d ≡ Ok x → AskKept x.ask
-exact_kept path d x h =
-    let s = then_ok (ask_at path d) (λ ask. admin_at path d >>= λ admin. left_out_at path d >>= λ u. Ok (record { ask = ask; admin = admin })) x h in
-    let t = then_ok (admin_at path d) (λ admin. left_out_at path d >>= λ u. Ok (record { ask = s.0; admin = admin })) x s.1.1 in
-    let u = then_ok (left_out_at path d) (λ u. Ok (record { ask = s.0; admin = t.0 })) x t.1.1 in
-    let made : ExactDeviceRequest = record { ask = s.0; admin = t.0 } in
+exact_kept : TolerationLaw → (path : List Step) (d : Data) (x : ExactDeviceRequest) → exactly_in path d ≡ Ok x → AskKept x.ask
+exact_kept law path d x h =
+    let s = then_ok (selection_at path d) (λ selection. admin_at path d >>= λ admin. ask_with selection path d >>= λ ask. Ok (record { ask = ask; admin = admin })) x h in
+    let t = then_ok (admin_at path d) (λ admin. ask_with s.0 path d >>= λ ask. Ok (record { ask = ask; admin = admin })) x s.1.1 in
+    let u = then_ok (ask_with s.0 path d) (λ ask. Ok (record { ask = ask; admin = t.0 })) x t.1.1 in
+    let made : ExactDeviceRequest = record { ask = u.0; admin = t.0 } in
     let k : given made ≡ Ok x = u.1.1 in
     let e : made ≡ x = cc in
-    subst (λ (y : ExactDeviceRequest). AskKept y.ask) e (ask_kept path d s.0 s.1.0)
+    subst (λ (y : ExactDeviceRequest). AskKept y.ask) e (ask_kept law s.0 path d u.0 (selection_kept path d s.0 s.1.0) u.1.0)
 
 -- ---- the subrequests
 
@@ -251,13 +270,13 @@ subrequests_kept ds names asks one few n l m each_ask =
       asks = each_map (λ s. AskKept s.ask) subrequest_of (zip names asks) (each_second AskKept names asks each_ask);
     }
 
-exactly_kept : (path : List Step) (d : Data) (x : ExactDeviceRequest) → exactly_at path d ≡ Ok x → AskKept x.ask
-exactly_kept path d x h =
+exactly_kept : TolerationLaw → (path : List Step) (d : Data) (x : ExactDeviceRequest) → exactly_at path d ≡ Ok x → AskKept x.ask
+exactly_kept law path d x h =
     let s = then_ok (object_at path (codes "exactly") d) (exactly_in (path ++ Member (codes "exactly") ∷ [])) x h in
-    exact_kept (path ++ Member (codes "exactly") ∷ []) s.0 x s.1.1
+    exact_kept law (path ++ Member (codes "exactly") ∷ []) s.0 x s.1.1
 
-first_kept : (path : List Step) (d : Data) (asks : List DeviceAsk) (names : List (List ℕ)) → has_some (codes "firstAvailable") d ≡ true → first_available_at path d ≡ Ok asks → short_list_at subrequests_most path (codes "firstAvailable") d >>= each_beside subrequest_name_at (path ++ Member (codes "firstAvailable") ∷ []) ≡ Ok names → SubrequestsKept (map subrequest_of (zip names asks))
-first_kept path d asks names there h k =
+first_kept : TolerationLaw → (path : List Step) (d : Data) (asks : List DeviceAsk) (names : List (List ℕ)) → has_some (codes "firstAvailable") d ≡ true → first_available_at path d ≡ Ok asks → short_list_at subrequests_most path (codes "firstAvailable") d >>= each_beside subrequest_name_at (path ++ Member (codes "firstAvailable") ∷ []) ≡ Ok names → SubrequestsKept (map subrequest_of (zip names asks))
+first_kept law path d asks names there h k =
     let inner : List Step = path ++ Member (codes "firstAvailable") ∷ [] in
     let s = then_ok (list_at path (codes "firstAvailable") d) (each subrequest_in inner) asks h in
     let t = then_ok (short_list_at subrequests_most path (codes "firstAvailable") d) (each_beside subrequest_name_at inner) names k in
@@ -270,27 +289,27 @@ first_kept path d asks names there h k =
     let one : 1 ≤ items_length t.0 = list_has_one path (codes "firstAvailable") d t.0 f.0 there in
     let long : length names ≡ items_length t.0 = omega (arith, n.1) in
     let asked_long : length asks ≡ items_length t.0 = l ∙ ap items_length same in
-    subrequests_kept t.0 names asks one f.1 n.0 long asked_long (rows_each AskKept subrequest_in subrequest_kept inner 0 s.0 asks r)
+    subrequests_kept t.0 names asks one f.1 n.0 long asked_long (rows_each AskKept subrequest_in (subrequest_kept law) inner 0 s.0 asks r)
 
-kind_by : (b : Bool) (path : List Step) (d : Data) (a : Asked) (names : List (List ℕ)) → has_some (codes "firstAvailable") d ≡ b → (if b then (first_available_at path d >>= λ asks. Ok (asked.FirstAvailable asks)) else (exactly_at path d >>= λ exactly. Ok (asked.Exactly exactly))) ≡ Ok a → (if b then short_list_at subrequests_most path (codes "firstAvailable") d >>= each_beside subrequest_name_at (path ++ Member (codes "firstAvailable") ∷ []) else Ok []) ≡ Ok names → KindKept (kind_with a names)
-kind_by true path d a names there h k =
+kind_by : TolerationLaw → (b : Bool) (path : List Step) (d : Data) (a : Asked) (names : List (List ℕ)) → has_some (codes "firstAvailable") d ≡ b → (if b then (first_available_at path d >>= λ asks. Ok (asked.FirstAvailable asks)) else (exactly_at path d >>= λ exactly. Ok (asked.Exactly exactly))) ≡ Ok a → (if b then short_list_at subrequests_most path (codes "firstAvailable") d >>= each_beside subrequest_name_at (path ++ Member (codes "firstAvailable") ∷ []) else Ok []) ≡ Ok names → KindKept (kind_with a names)
+kind_by law true path d a names there h k =
     let s = then_ok (first_available_at path d) (λ asks. Ok (asked.FirstAvailable asks)) a h in
     let e : given (asked.FirstAvailable s.0) ≡ Ok a = s.1.1 in
     let is : asked.FirstAvailable s.0 ≡ a = cc in
-    subst (λ (x : Asked). KindKept (kind_with x names)) is (first_kept path d s.0 names there s.1.0 k)
-kind_by false path d a names there h k =
+    subst (λ (x : Asked). KindKept (kind_with x names)) is (first_kept law path d s.0 names there s.1.0 k)
+kind_by law false path d a names there h k =
     let s = then_ok (exactly_at path d) (λ exactly. Ok (asked.Exactly exactly)) a h in
     let e : given (asked.Exactly s.0) ≡ Ok a = s.1.1 in
     let is : asked.Exactly s.0 ≡ a = cc in
-    subst (λ (x : Asked). KindKept (kind_with x names)) is (exactly_kept path d s.0 s.1.0)
+    subst (λ (x : Asked). KindKept (kind_with x names)) is (exactly_kept law path d s.0 s.1.0)
 
-kind_kept : (path : List Step) (d : Data) (a : Asked) (names : List (List ℕ)) → asked_at path d ≡ Ok a → subrequest_names_at path d ≡ Ok names → KindKept (kind_with a names)
-kind_kept path d a names h k = kind_by (has_some (codes "firstAvailable") d) path d a names refl h k
+kind_kept : TolerationLaw → (path : List Step) (d : Data) (a : Asked) (names : List (List ℕ)) → asked_at path d ≡ Ok a → subrequest_names_at path d ≡ Ok names → KindKept (kind_with a names)
+kind_kept law path d a names h k = kind_by law (has_some (codes "firstAvailable") d) path d a names refl h k
 
 -- ---- the requests
 
-pub kinds_kept : (path : List Step) (ds : Items) (kinds : List RequestKind) → kinds_in path ds ≡ Ok kinds → EachOf KindKept kinds × (length kinds ≡ items_length ds)
-kinds_kept path ds kinds h =
+pub kinds_kept : TolerationLaw → (path : List Step) (ds : Items) (kinds : List RequestKind) → kinds_in path ds ≡ Ok kinds → EachOf KindKept kinds × (length kinds ≡ items_length ds)
+kinds_kept law path ds kinds h =
     let s = then_ok (each asked_at path ds) (λ asks. each subrequest_names_at path ds >>= λ names. Ok (map kind_of (zip asks names))) kinds h in
     let t = then_ok (each subrequest_names_at path ds) (λ names. Ok (map kind_of (zip s.0 names))) kinds s.1.1 in
     let e : given (map kind_of (zip s.0 t.0)) ≡ Ok kinds = t.1.1 in
@@ -300,18 +319,18 @@ kinds_kept path ds kinds h =
     let l = rows_length asked_at path 0 ds s.0 a in
     let m = rows_length subrequest_names_at path 0 ds t.0 b in
     let long : length (map kind_of (zip s.0 t.0)) ≡ items_length ds = length-map (zip s.0 t.0) kind_of ∙ length-zip s.0 t.0 ∙ omega (arith, l, m) in
-    let every = each_map KindKept kind_of (zip s.0 t.0) (rows_zip (λ p. KindKept (kind_of p)) asked_at subrequest_names_at kind_kept path 0 ds s.0 t.0 a b) in
+    let every = each_map KindKept kind_of (zip s.0 t.0) (rows_zip (λ p. KindKept (kind_of p)) asked_at subrequest_names_at (kind_kept law) path 0 ds s.0 t.0 a b) in
     (subst (EachOf KindKept) is every, sym (ap length is) ∙ long)
 
-pub requests_kept : (path : List Step) (ds : Items) (requests : List DeviceRequest) → 1 ≤ items_length ds → items_length ds ≤ requests_most → requests_in path ds ≡ Ok requests → RequestsKept requests
-requests_kept path ds requests one few h =
+pub requests_kept : TolerationLaw → (path : List Step) (ds : Items) (requests : List DeviceRequest) → 1 ≤ items_length ds → items_length ds ≤ requests_most → requests_in path ds ≡ Ok requests → RequestsKept requests
+requests_kept law path ds requests one few h =
     let s = then_ok (each_beside request_name_at path ds) (λ names. kinds_in path ds >>= λ kinds. Ok (map request_of (zip names kinds))) requests h in
     let t = then_ok (kinds_in path ds) (λ kinds. Ok (map request_of (zip s.0 kinds))) requests s.1.1 in
     let e : given (map request_of (zip s.0 t.0)) ≡ Ok requests = t.1.1 in
     let is : map request_of (zip s.0 t.0) ≡ requests = cc in
     let n = names_from request_name_at request_name path 0 [] s.0 ds no_names s.1.0 in
     let l : length s.0 ≡ items_length ds = omega (arith, n.1) in
-    let k = kinds_kept path ds t.0 t.1.0 in
+    let k = kinds_kept law path ds t.0 t.1.0 in
     let long : length (map request_of (zip s.0 t.0)) ≡ items_length ds = length-map (zip s.0 t.0) request_of ∙ length-zip s.0 t.0 ∙ omega (arith, l, k.1) in
     let firsts : map (λ r. r.name) (map request_of (zip s.0 t.0)) ≡ s.0 = map_map request_of (λ r. r.name) (zip s.0 t.0) ∙ firsts-zip s.0 t.0 (k.1 ∙ sym l) in
     let kept : RequestsKept (map request_of (zip s.0 t.0)) = record {

@@ -31,7 +31,7 @@ use Rattle.api_claim.specs.declared.types.DeviceRequest.{DeviceRequest}
 use Rattle.api_claim.specs.declared.types.ResourceClaim.{ResourceClaim}
 use Rattle.api_claim.specs.declared.types.StatusResult.{StatusResult}
 use Rattle.api_claim.proofs.Inverse.{given, rows, rows_length, then_ok, unless_ok}
-use Rattle.api_claim.proofs.Kept.{each_at_each, each_at_few, each_in_each, requests_kept, some_few}
+use Rattle.api_claim.proofs.Kept.{TolerationLaw, each_at_each, each_at_few, each_in_each, requests_kept, some_few}
 
 -- ---- constraints
 
@@ -100,28 +100,28 @@ MetaLaw = (scope : Scope) (d : Data) (meta : ObjectMeta) → meta_at scope d ≡
 
 -- ---- a claim
 
-requests_at_kept : (path : List Step) (d : Data) (requests : List DeviceRequest) → requests_at path d ≡ Ok requests → RequestsKept requests
-requests_at_kept path d requests h =
+requests_at_kept : TolerationLaw → (path : List Step) (d : Data) (requests : List DeviceRequest) → requests_at path d ≡ Ok requests → RequestsKept requests
+requests_at_kept law path d requests h =
     let s = then_ok (some_items_at requests_most path (codes "requests") d) (requests_in (path ++ Member (codes "requests") ∷ [])) requests h in
     let f = some_few requests_most path (codes "requests") d s.0 s.1.0 in
-    requests_kept (path ++ Member (codes "requests") ∷ []) s.0 requests f.0 f.1 s.1.1
+    requests_kept law (path ++ Member (codes "requests") ∷ []) s.0 requests f.0 f.1 s.1.1
 
 pub record DevicesKept (devices : Devices) : Type 0 where
   pub requests : RequestsKept devices.requests
   pub constraints : ConstraintsKept (all_names devices.requests) devices.constraints
 
-devices_kept : (path : List Step) (d : Data) (devices : Devices) → devices_in path d ≡ Ok devices → DevicesKept devices
-devices_kept path d devices h =
+devices_kept : TolerationLaw → (path : List Step) (d : Data) (devices : Devices) → devices_in path d ≡ Ok devices → DevicesKept devices
+devices_kept law path d devices h =
     let s = then_ok (requests_at path d) (λ requests. devices_with requests path d) devices h in
     let t = then_ok (constraints_over s.0 path d) (λ constraints. Ok (record { requests = s.0; constraints = constraints })) devices s.1.1 in
     let made : Devices = record { requests = s.0; constraints = t.0 } in
     let e : given made ≡ Ok devices = t.1.1 in
     let is : made ≡ devices = cc in
-    let kept : DevicesKept made = record { requests = requests_at_kept path d s.0 s.1.0; constraints = constraints_kept (all_names s.0) path d t.0 t.1.0 } in
+    let kept : DevicesKept made = record { requests = requests_at_kept law path d s.0 s.1.0; constraints = constraints_kept (all_names s.0) path d t.0 t.1.0 } in
     subst DevicesKept is kept
 
-pub claim_kept : MetaLaw → (d : Data) (claim : ResourceClaim) → claim_of d ≡ Ok claim → ClaimKept claim
-claim_kept law d claim h =
+pub claim_kept : MetaLaw → TolerationLaw → (d : Data) (claim : ResourceClaim) → claim_of d ≡ Ok claim → ClaimKept claim
+claim_kept law tolerated d claim h =
     let s = then_ok (meta_at Namespaced d) (λ meta. devices_at d >>= λ devices. Ok (record { key = meta.key; version = meta.version; requests = devices.requests; constraints = devices.constraints })) claim h in
     let t = then_ok (devices_at d) (λ devices. Ok (record { key = s.0.key; version = s.0.version; requests = devices.requests; constraints = devices.constraints })) claim s.1.1 in
     let made : ResourceClaim = record { key = s.0.key; version = s.0.version; requests = t.0.requests; constraints = t.0.constraints } in
@@ -129,7 +129,7 @@ claim_kept law d claim h =
     let is : made ≡ claim = cc in
     let u = then_ok (object_at [] (codes "spec") d) (λ spec. object_at (Member (codes "spec") ∷ []) (codes "devices") spec >>= λ devices. devices_in (Member (codes "spec") ∷ Member (codes "devices") ∷ []) devices) t.0 t.1.0 in
     let v = then_ok (object_at (Member (codes "spec") ∷ []) (codes "devices") u.0) (λ devices. devices_in (Member (codes "spec") ∷ Member (codes "devices") ∷ []) devices) t.0 u.1.1 in
-    let k = devices_kept (Member (codes "spec") ∷ Member (codes "devices") ∷ []) v.0 t.0 v.1.1 in
+    let k = devices_kept tolerated (Member (codes "spec") ∷ Member (codes "devices") ∷ []) v.0 t.0 v.1.1 in
     let m = law Namespaced d s.0 s.1.0 in
     let kept : ClaimKept made = record { key = m.key; version = m.version; requests = k.requests; constraints = k.constraints } in
     subst ClaimKept is kept

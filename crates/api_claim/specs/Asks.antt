@@ -1,6 +1,6 @@
 -- What `exactly` and each subrequest of a ResourceClaim ask for (API reference of
 -- resource.k8s.io/v1): one row of fields, read over all requests.
-use Rattle.std.specs.Prelude.{ℕ, zero, suc, ◌^◌, ◌-◌, Bool, true, false, List, [], ◌∷◌, ◌++◌, Option, Some, None, Result, Ok, Err, codes, unwrap_or, ⊤, if◌then◌else◌}
+use Rattle.std.specs.Prelude.{ℕ, zero, suc, ◌^◌, ◌-◌, Bool, true, false, List, [], ◌∷◌, ◌++◌, Option, Some, None, Result, Ok, Err, codes, unwrap_or, if◌then◌else◌}
 use Rattle.std.specs.Str.{bytes_eq}
 use Rattle.serde_json.specs.Data.{Data}
 use Rattle.object_fields.specs.Fields.{field_error, list_at, natural_at, object_at, object_value, optional_at, text_at, truth_at, unset_at, ◌>>=◌}
@@ -10,9 +10,11 @@ use Rattle.object_fields.specs.declared.error.FieldError.{FieldError}
 use Rattle.object_fields.specs.declared.kind.FieldErrorKind.TheVariants.{NotSupported}
 use Rattle.object_fields.specs.declared.path.Step.{Step}
 use Rattle.object_fields.specs.declared.path.Step.TheVariants.{Member}
+use Rattle.device_taints.specs.Reading.{tolerations_at}
 use Rattle.api_claim.specs.Lists.{has_some}
 use Rattle.api_claim.specs.declared.asks.Asked.{Asked}
 use Rattle.api_claim.specs.declared.asks.Asked.TheVariants as asked
+use Rattle.api_claim.specs.declared.asks.Selection.{Selection}
 use Rattle.api_claim.specs.declared.types.AllocationMode.{AllocationMode}
 use Rattle.api_claim.specs.declared.types.AllocationMode.TheVariants.{ExactCount, All}
 use Rattle.api_claim.specs.declared.types.DeviceAsk.{DeviceAsk}
@@ -60,36 +62,38 @@ mode_at path d =
 -- ---- the row
 
 -- deviceClassName, any text; selectors; allocationMode; count
-abbrev pub ask_at : List Step → Data → Result DeviceAsk FieldError
-ask_at path d =
+abbrev pub selection_at : List Step → Data → Result Selection FieldError
+selection_at path d =
     text_at path (codes "deviceClassName") d >>= λ class.
     selectors_at path d >>= λ selectors.
     mode_at path d >>= λ mode.
     Ok (record { class = class; selectors = selectors; mode = mode })
 
--- tolerations and capacity, which must not be set
-abbrev pub left_out_at : List Step → Data → Result ⊤ FieldError
-left_out_at path d = unset_at path (codes "tolerations") d >>= λ u. unset_at path (codes "capacity") d
+-- then tolerations, and capacity, which must not be set
+abbrev pub ask_with : Selection → List Step → Data → Result DeviceAsk FieldError
+ask_with selection path d =
+    tolerations_at path d >>= λ tolerations.
+    unset_at path (codes "capacity") d >>= λ u.
+    Ok (record { class = selection.class; selectors = selection.selectors; mode = selection.mode; tolerations = tolerations })
 
 -- false is the default
 abbrev pub admin_at : List Step → Data → Result Bool FieldError
 admin_at path d = optional_at truth_at path (codes "adminAccess") d >>= λ admin. Ok (unwrap_or admin false)
 
--- of `exactly`: the row with adminAccess
+-- of `exactly`: the row with adminAccess, before tolerations
 abbrev pub exactly_in : List Step → Data → Result ExactDeviceRequest FieldError
 exactly_in path d =
-    ask_at path d >>= λ ask.
+    selection_at path d >>= λ selection.
     admin_at path d >>= λ admin.
-    left_out_at path d >>= λ u.
+    ask_with selection path d >>= λ ask.
     Ok (record { ask = ask; admin = admin })
 
 -- of a subrequest: the row without adminAccess, which isn't looked at
 abbrev pub subrequest_in : List Step → Data → Result DeviceAsk FieldError
 subrequest_in path d =
     object_value path d >>= λ subrequest.
-    ask_at path subrequest >>= λ ask.
-    left_out_at path subrequest >>= λ u.
-    Ok ask
+    selection_at path subrequest >>= λ selection.
+    ask_with selection path subrequest
 
 abbrev pub exactly_at : List Step → Data → Result ExactDeviceRequest FieldError
 exactly_at path request =

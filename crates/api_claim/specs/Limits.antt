@@ -7,6 +7,7 @@ use Rattle.object_fields.specs.NewNames.{AreDifferent, is_among}
 use Rattle.object_fields.specs.Qualified.{IsFullName}
 use Rattle.object_fields.specs.Selectors.{selectors_most}
 use Rattle.object_fields.specs.declared.meta.Scope.TheVariants.{Namespaced}
+use Rattle.device_taints.specs.Limits.{TolerationsKept}
 use Rattle.api_claim.specs.Constraints.{constraints_most}
 use Rattle.api_claim.specs.Fields.{ClaimFields, StatusFields}
 use Rattle.api_claim.specs.Requests.{all_names, requests_most, subrequests_most}
@@ -36,6 +37,7 @@ CountKept All = Unit {0}
 pub record AskKept (ask : DeviceAsk) : Type 0 where
   pub selectors : length ask.selectors ≤ selectors_most
   pub count : CountKept ask.mode
+  pub tolerations : TolerationsKept ask.tolerations
 
 pub record SubrequestsKept (subrequests : List DeviceSubRequest) : Type 0 where
   pub some : 1 ≤ length subrequests

@@ -5,6 +5,7 @@ ghost use Rattle.api_claim.specs.Asks as fields;
 
 use crate::lists::has_some;
 use crate::types::{AllocationMode, DeviceAsk, ExactDeviceRequest};
+use device_taints::read_tolerations;
 use dra_values::{Seq, Text};
 use object_fields::{
     FieldError, FieldErrorKind, Path, ReadItem, list, object, optional_natural, optional_text,
@@ -21,6 +22,14 @@ const COUNT_MOST: u64 = 2_147_483_647;
 pub(crate) enum Asked {
     Exactly(ExactDeviceRequest),
     FirstAvailable(Seq<DeviceAsk>),
+}
+
+/// What `exactly` or a subrequest asks for, before its tolerations are read.
+#[derive(Drop)]
+struct Selection {
+    class: Text,
+    selectors: Seq<Text>,
+    mode: AllocationMode,
 }
 
 /// What one of the requests asks for.
@@ -66,18 +75,17 @@ impl ReadItem for DeviceAsk {
 
     fn read_item(alloc: Global, item: &Value, path: &Path) -> Result<DeviceAsk, FieldError> {
         let subrequest = value_object(alloc, item, path)?;
-        let ask = read_ask(alloc, subrequest, path)?;
-        left_out(alloc, subrequest, path)?;
-        Ok(ask)
+        let selection = read_selection(alloc, subrequest, path)?;
+        read_ask(alloc, subrequest, path, selection)
     }
 }
 
 fn read_exact(alloc: Global, exactly: &Value, path: &Path) -> Result<ExactDeviceRequest, FieldError>
     ensures { Reads result (fields.exactly_in path.now (view exactly.now)) }
 {
-    let ask = read_ask(alloc, exactly, path)?;
+    let selection = read_selection(alloc, exactly, path)?;
     let admin = read_admin(alloc, exactly, path)?;
-    left_out(alloc, exactly, path)?;
+    let ask = read_ask(alloc, exactly, path, selection)?;
     Ok(ExactDeviceRequest { ask, admin })
 }
 
@@ -88,21 +96,33 @@ pub(crate) fn read_admin(alloc: Global, object: &Value, path: &Path) -> Result<b
     Ok(optional_truth(alloc, object, path, "adminAccess")?.unwrap_or(false))
 }
 
-/// `tolerations` and `capacity`, which must not be set.
-fn left_out(alloc: Global, ask: &Value, path: &Path) -> Result<(), FieldError>
-    ensures { Reads result (fields.left_out_at path.now (view ask.now)) }
+/// What is asked for, with `tolerations`. NotSupported if `capacity` is set.
+fn read_ask(
+    alloc: Global,
+    ask: &Value,
+    path: &Path,
+    selection: Selection,
+) -> Result<DeviceAsk, FieldError>
+    ensures { Reads result (fields.ask_with selection path.now (view ask.now)) }
 {
-    unset(alloc, ask, path, "tolerations")?;
-    unset(alloc, ask, path, "capacity")
+    let tolerations = read_tolerations(alloc, ask, path)?;
+    unset(alloc, ask, path, "capacity")?;
+    Ok(DeviceAsk {
+        class: selection.class,
+        selectors: selection.selectors,
+        mode: selection.mode,
+        tolerations,
+    })
 }
 
-fn read_ask(alloc: Global, ask: &Value, path: &Path) -> Result<DeviceAsk, FieldError>
-    ensures { Reads result (fields.ask_at path.now (view ask.now)) }
+/// The class, the selectors and how many devices.
+fn read_selection(alloc: Global, ask: &Value, path: &Path) -> Result<Selection, FieldError>
+    ensures { Reads result (fields.selection_at path.now (view ask.now)) }
 {
     let class = text(alloc, ask, path, "deviceClassName")?;
     let selectors = read_selectors(alloc, ask, path)?;
     let mode = read_mode(alloc, ask, path)?;
-    Ok(DeviceAsk {
+    Ok(Selection {
         class,
         selectors,
         mode,

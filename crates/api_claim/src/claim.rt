@@ -34,8 +34,8 @@ impl ResourceClaim {
     ///   `selectors`, at most 32 of `cel.expression`, any text; `allocationMode`, which is
     ///   `ExactCount` or `All` (NotSupported); `count`, 0 to 2^31-1, where 0 counts as missing and
     ///   with `All` nothing else is taken (WrongType, OutOfRange); of `exactly` alone
-    ///   `adminAccess`; and `tolerations` and `capacity`, which must not be set (NotSupported, this
-    ///   project's own)
+    ///   `adminAccess`; `tolerations`, with the errors of `read_tolerations`; and `capacity`, which
+    ///   must not be set (NotSupported, this project's own)
     /// - of `firstAvailable` its length, at most 8 (TooMany), and the `name` of each subrequest, a
     ///   DNS label (Doubled within its request)
     /// - `spec.devices.constraints`, at most 32: of each `distinctAttribute`, which must not be set

@@ -17,6 +17,7 @@ ghost use Rattle.api_claim.specs.declared.types.ClaimStatus.{ClaimStatus};
 ghost use Rattle.api_claim.specs.declared.types.DeviceRequest.{DeviceRequest};
 ghost use Rattle.api_claim.specs.declared.types.ResourceClaim.{ResourceClaim};
 
+use device_taints::tolerations_keep_limits;
 use object_fields::{labels_are_names, metadata_keeps_limits, names_are_new};
 
 /// Each claim that is read keeps the limits and name rules of the API reference of
@@ -27,6 +28,7 @@ pub fn limits_are_kept()
     ensures status { (d : Data) (status : ClaimStatus) → status_of d ≡ Ok status → StatusKept status }
 {
     metadata_keeps_limits();
+    tolerations_keep_limits();
 }
 
 /// A claim that is read has the requests of its document: as many, with their names in order.

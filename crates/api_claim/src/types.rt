@@ -1,6 +1,7 @@
 ghost use Rattle.std.specs.Prelude.{◌≡◌, IfOk};
 ghost use Rattle.api_claim.specs.Limits.{ClaimKept, StatusKept};
 
+use device_taints::Toleration;
 use dra_values::{Duplicate, Seq, Text};
 use object_fields::{DeviceId, Key, QualName};
 use std::alloc::{AllocError, Global};
@@ -64,6 +65,9 @@ pub struct DeviceAsk {
     pub selectors: Seq<Text>,
     /// `allocationMode` with `count`.
     pub mode: AllocationMode,
+    /// `tolerations`, at most 16. Each taint of each device that is given must be tolerated by one of
+    /// them.
+    pub tolerations: Seq<Toleration>,
 }
 
 /// How many devices are asked for.
@@ -197,6 +201,7 @@ impl Duplicate for DeviceAsk {
             class: self.class.copy(alloc)?,
             selectors: self.selectors.copy(alloc)?,
             mode: self.mode,
+            tolerations: self.tolerations.copy(alloc)?,
         })
     }
 }
