@@ -1,5 +1,6 @@
 pub mod Lengths
 pub mod Readings
+pub mod Rows
 pub mod Parts
 pub mod Placement
 pub mod Limits

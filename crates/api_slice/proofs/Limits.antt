@@ -1,17 +1,18 @@
 -- Why each slice that is read keeps the limits: its devices, and then the whole.
-use Rattle.std.proofs.Common.{◌≡◌, ℕ, ◌+◌, ◌≤◌, nat_lt, ◌≢◌, ℤ, map, Bool, true, false, List, [], ◌∷◌, ◌++◌, length, Option, Result, Ok, sym, append_assoc, length-append, ◌∙◌, arith, codes}
+use Rattle.std.proofs.Common.{◌≡◌, ℕ, ◌+◌, ◌≤◌, nat_lt, ◌≢◌, ℤ, map, Bool, true, false, not, ◌&&◌, ◌||◌, List, [], ◌∷◌, ◌++◌, length, Option, Some, None, Result, Ok, option_and_then, refl, sym, append_assoc, length-append, ◌∙◌, arith, codes}
 use Rattle.std.proofs.lemmas.List.{append-nil}
 use Rattle.std.proofs.lemmas.List.Elements.{All-nil, All-cons, All-head, All-tail, All-append}
 use Rattle.std.specs.List.{All}
-use Rattle.serde_json.specs.Data.{Data, Items, no_items, item}
-use Rattle.object_fields.specs.Fields.{dns_label_at, field_error, items_length, name_in, natural_at, object_at, pool_name_at, object_value, optional_at, short_list_at, table_at, text_at, unless, ◌>>=◌}
+use Rattle.serde_json.specs.Data.{Data, null, boolean, number, string, array, object, Items, no_items, item}
+use Rattle.serde_json.specs.Find.{as_array}
+use Rattle.object_fields.specs.Fields.{dns_label_at, field_error, has_no_items, items_length, list_at, member_of, name_in, natural_at, object_at, pool_name_at, object_value, optional_at, short_list_at, table_at, text_at, unless, ◌>>=◌}
 use Rattle.object_fields.specs.Limits.{MetaKept, VersionKept}
 use Rattle.object_fields.specs.Lists.{alone, each, each_beside, each_from, items_or_none}
 use Rattle.object_fields.specs.Meta.{meta_at, name_most}
 use Rattle.object_fields.specs.Names.{is_dns_name, is_pool_name, pool_most}
 use Rattle.object_fields.specs.NewNames.{AreDifferent, is_among}
 use Rattle.object_fields.specs.declared.error.FieldError.{FieldError}
-use Rattle.object_fields.specs.declared.kind.FieldErrorKind.TheVariants.{Doubled, TooMany}
+use Rattle.object_fields.specs.declared.kind.FieldErrorKind.TheVariants.{Doubled, NotOne, TooMany}
 use Rattle.object_fields.specs.declared.meta.ObjectMeta.{ObjectMeta}
 use Rattle.object_fields.specs.declared.meta.Scope.{Scope}
 use Rattle.object_fields.specs.declared.meta.Scope.TheVariants.{Cluster}
@@ -21,13 +22,14 @@ use Rattle.object_fields.specs.declared.qualified.QualName.{QualName}
 use Rattle.api_slice.specs.Attributes.{attributes_in, attributes_of}
 use Rattle.api_slice.specs.Capacity.{capacity_in, capacity_of, together_at, together_most}
 use Rattle.api_slice.specs.Consumption.{consumes_of}
-use Rattle.api_slice.specs.Counters.{counter_sets_at}
+use Rattle.api_slice.specs.Counters.{alone_at, counter_sets_at, sets_from}
 use Rattle.api_slice.specs.Devices.{columns_of, devices_at, devices_most, devices_of, devices_with, new_device_name, nothing_more_from, rows_of}
 use Rattle.api_slice.specs.Drivers.{IsDriver, driver_most}
 use Rattle.api_slice.specs.Limits.{IsLabel, IsPool, IsWithinLimits, KeepsLimits}
 use Rattle.api_slice.specs.Properties.{ArePaired, AreProperties}
 use Rattle.api_slice.specs.Lists.{count_at}
-use Rattle.api_slice.specs.Nodes.{device_nodes_of, is_per_device, slice_nodes_at}
+use Rattle.api_slice.specs.Lists.{is_empty_or_none}
+use Rattle.api_slice.specs.Nodes.{device_nodes_of, is_empty, is_per_device, slice_nodes_at}
 use Rattle.api_slice.specs.Slices.{driver_at, pool_at, pool_in, signed_most, slice_of, spec_in}
 use Rattle.api_slice.specs.declared.device.Columns.{Columns}
 use Rattle.api_slice.specs.declared.types.Attribute.{Attribute}
@@ -37,9 +39,10 @@ use Rattle.api_slice.specs.declared.types.Device.{Device}
 use Rattle.api_slice.specs.declared.types.Nodes.{Nodes}
 use Rattle.api_slice.specs.declared.types.Pool.{Pool}
 use Rattle.api_slice.specs.declared.types.ResourceSlice.{ResourceSlice}
-use Rattle.api_slice.proofs.Readings.{gave, the_same, not_refused, kept, at_most, along, taken, named_by, labelled, numbered, few_items, none_is, push_different}
+use Rattle.api_slice.proofs.Readings.{gave, the_same, not_refused, not_false, kept, at_most, along, taken, named_by, labelled, numbered, few_items, items_are, none_is, push_different}
 use Rattle.api_slice.proofs.Parts.{counted, attributes_in_table, capacity_in_table, counters_keep, all_drawn}
 use Rattle.api_slice.proofs.Placement.{nodes_due, slice_nodes}
+use Rattle.api_slice.proofs.Rows.{Column, column, columns_read, spec_read}
 
 -- ---- a device
 
@@ -61,9 +64,9 @@ are_properties driver path d attributes capacity is a c =
       together = omega (arith, most, these, those, t.size, u.size);
     }
 
-device_keeps : (driver : List ℕ) (sets : List CounterSet) (per_device : Bool) (path : List Step) (d : Data) (x : Device) → IsDriver driver → attributes_of driver path d ≡ Ok x.properties.attributes → capacity_of driver path d ≡ Ok x.properties.capacity → consumes_of sets path d ≡ Ok x.consumes → device_nodes_of per_device path d ≡ Ok x.nodes → KeepsLimits sets per_device x
-device_keeps driver sets per_device path d x is a c draws own =
-    let drawn = all_drawn sets path d x.consumes draws in
+device_keeps : (driver : List ℕ) (per_device : Bool) (path : List Step) (d : Data) (x : Device) → IsDriver driver → attributes_of driver path d ≡ Ok x.properties.attributes → capacity_of driver path d ≡ Ok x.properties.capacity → consumes_of path d ≡ Ok x.consumes → device_nodes_of per_device path d ≡ Ok x.nodes → KeepsLimits per_device x
+device_keeps driver per_device path d x is a c draws own =
+    let drawn = all_drawn path d x.consumes draws in
     record {
       properties = are_properties driver path d x.properties.attributes x.properties.capacity is a c;
       draws = drawn.all;
@@ -74,41 +77,19 @@ device_keeps driver sets per_device path d x is a c draws own =
 
 -- ---- all devices
 
--- each element is what the reading returns for the item at its index
-abbrev pub Column : {A : Type 0} → (List Step → Data → Result A FieldError) → List Step → ℕ → List A → Items → Type 0
-Column r path place [] no_items = Unit {0}
-Column r path place [] (item d ds) = ⊥
-Column r path place (x ∷ xs) no_items = ⊥
-Column r path place (x ∷ xs) (item d ds) = (r (path ++ step.Place place ∷ []) d ≡ Ok x) × Column r path (place + 1) xs ds
-
-record Behind {A : Type 0} (r : List Step → Data → Result A FieldError) (path : List Step) (place : ℕ) (before : List A) (ds : Items) (xs : List A) : Type 0 where
-  own : List A
-  is : before ++ own ≡ xs
-  column : Column r path place own ds
-
-behind : {A : Type 0} (r : List Step → Data → Result A FieldError) (path : List Step) (place : ℕ) (before : List A) (ds : Items) (xs : List A) → each_from (alone r) path place before ds ≡ Ok xs → Behind r path place before ds xs
-behind r path place before no_items xs h = record { own = []; is = append-nil before ∙ the_same before xs h; column = tt }
-behind r path place before (item d ds) xs h =
-    let g = gave (r (path ++ step.Place place ∷ []) d) (λ x. each_from (alone r) path (place + 1) (before ++ x ∷ []) ds) xs h in
-    let b = behind r path (place + 1) (before ++ g.value ∷ []) ds xs g.second in
-    record { own = g.value ∷ b.own; is = sym (append_assoc before (g.value ∷ []) b.own) ∙ b.is; column = (g.first, b.column) }
-
-pub column : {A : Type 0} (r : List Step → Data → Result A FieldError) (path : List Step) (ds : Items) (xs : List A) → each r path ds ≡ Ok xs → Column r path 0 xs ds
-column r path ds xs h = let b = behind r path 0 [] ds xs h in along (λ ys. Column r path 0 ys ds) b.own xs b.is b.column
-
-devices_keep : (driver : List ℕ) (sets : List CounterSet) (per_device : Bool) (path : List Step) (place : ℕ) (ds : Items) (names : List (List ℕ)) (attributes : List (List (QualName × Attribute))) (capacity : List (List (QualName × ℤ))) (consumes : List (List CounterConsumption)) (nodes : List (Option Nodes)) →
-    IsDriver driver → Column (attributes_of driver) path place attributes ds → Column (capacity_of driver) path place capacity ds → Column (consumes_of sets) path place consumes ds → Column (device_nodes_of per_device) path place nodes ds → All (KeepsLimits sets per_device) (devices_with names attributes capacity consumes nodes)
-devices_keep driver sets per_device path place ds [] attributes capacity consumes nodes is a c q w = All-nil (KeepsLimits sets per_device)
-devices_keep driver sets per_device path place ds (n ∷ ns) [] capacity consumes nodes is a c q w = All-nil (KeepsLimits sets per_device)
-devices_keep driver sets per_device path place ds (n ∷ ns) (x ∷ xs) [] consumes nodes is a c q w = All-nil (KeepsLimits sets per_device)
-devices_keep driver sets per_device path place ds (n ∷ ns) (x ∷ xs) (y ∷ ys) [] nodes is a c q w = All-nil (KeepsLimits sets per_device)
-devices_keep driver sets per_device path place ds (n ∷ ns) (x ∷ xs) (y ∷ ys) (k ∷ ks) [] is a c q w = All-nil (KeepsLimits sets per_device)
-devices_keep driver sets per_device path place no_items (n ∷ ns) (x ∷ xs) (y ∷ ys) (k ∷ ks) (o ∷ os) is a c q w = absurd a
-devices_keep driver sets per_device path place (item d ds) (n ∷ ns) (x ∷ xs) (y ∷ ys) (k ∷ ks) (o ∷ os) is a c q w =
+devices_keep : (driver : List ℕ) (per_device : Bool) (path : List Step) (place : ℕ) (ds : Items) (names : List (List ℕ)) (attributes : List (List (QualName × Attribute))) (capacity : List (List (QualName × ℤ))) (consumes : List (List CounterConsumption)) (nodes : List (Option Nodes)) →
+    IsDriver driver → Column (attributes_of driver) path place attributes ds → Column (capacity_of driver) path place capacity ds → Column consumes_of path place consumes ds → Column (device_nodes_of per_device) path place nodes ds → All (KeepsLimits per_device) (devices_with names attributes capacity consumes nodes)
+devices_keep driver per_device path place ds [] attributes capacity consumes nodes is a c q w = All-nil (KeepsLimits per_device)
+devices_keep driver per_device path place ds (n ∷ ns) [] capacity consumes nodes is a c q w = All-nil (KeepsLimits per_device)
+devices_keep driver per_device path place ds (n ∷ ns) (x ∷ xs) [] consumes nodes is a c q w = All-nil (KeepsLimits per_device)
+devices_keep driver per_device path place ds (n ∷ ns) (x ∷ xs) (y ∷ ys) [] nodes is a c q w = All-nil (KeepsLimits per_device)
+devices_keep driver per_device path place ds (n ∷ ns) (x ∷ xs) (y ∷ ys) (k ∷ ks) [] is a c q w = All-nil (KeepsLimits per_device)
+devices_keep driver per_device path place no_items (n ∷ ns) (x ∷ xs) (y ∷ ys) (k ∷ ks) (o ∷ os) is a c q w = absurd a
+devices_keep driver per_device path place (item d ds) (n ∷ ns) (x ∷ xs) (y ∷ ys) (k ∷ ks) (o ∷ os) is a c q w =
     let one : Device = record { name = n; properties = record { attributes = x; capacity = y }; consumes = k; nodes = o } in
-    All-cons (KeepsLimits sets per_device) one (devices_with ns xs ys ks os)
-    (device_keeps driver sets per_device (path ++ step.Place place ∷ []) d one is a.0 c.0 q.0 w.0)
-    (devices_keep driver sets per_device path (place + 1) ds ns xs ys ks os is a.1 c.1 q.1 w.1)
+    All-cons (KeepsLimits per_device) one (devices_with ns xs ys ks os)
+    (device_keeps driver per_device (path ++ step.Place place ∷ []) d one is a.0 c.0 q.0 w.0)
+    (devices_keep driver per_device path (place + 1) ds ns xs ys ks os is a.1 c.1 q.1 w.1)
 
 pairs : (driver : List ℕ) (path : List Step) (place : ℕ) (ds : Items) (attributes : List (List (QualName × Attribute))) (capacity : List (List (QualName × ℤ))) → IsDriver driver → Column (attributes_of driver) path place attributes ds → Column (capacity_of driver) path place capacity ds → ArePaired attributes capacity
 pairs driver path place ds [] capacity is a c = tt
@@ -178,67 +159,86 @@ names_keep path place most before (item d ds) out t h =
 
 -- ---- all of them
 
-record AllKeep (sets : List CounterSet) (per_device : Bool) (most : ℕ) (devices : List Device) : Type 0 where
+record AllKeep (per_device : Bool) (most : ℕ) (devices : List Device) : Type 0 where
   count : length devices ≤ most
   labels : All IsLabel (map (λ d. d.name) devices)
   different : AreDifferent (map (λ d. d.name) devices)
-  each_one : All (KeepsLimits sets per_device) devices
+  each_one : All (KeepsLimits per_device) devices
 
-columns_keep : (driver : List ℕ) (sets : List CounterSet) (per_device : Bool) (path : List Step) (ds : Items) (out : Columns) → IsDriver driver → columns_of driver sets per_device path ds ≡ Ok out → AllKeep sets per_device (items_length ds) (devices_of out) × ArePaired out.attributes out.capacity
-columns_keep driver sets per_device path ds out is h =
-    let n = gave (each_beside new_device_name path ds) (λ names.
-    each (attributes_of driver) path ds >>= λ attributes.
-    each (capacity_of driver) path ds >>= λ capacity.
-    each (consumes_of sets) path ds >>= λ consumes.
-    each (device_nodes_of per_device) path ds >>= λ nodes.
-    Ok (record { names = names; attributes = attributes; capacity = capacity; consumes = consumes; nodes = nodes })) out h in
-    let a = gave (each (attributes_of driver) path ds) (λ attributes.
-    each (capacity_of driver) path ds >>= λ capacity.
-    each (consumes_of sets) path ds >>= λ consumes.
-    each (device_nodes_of per_device) path ds >>= λ nodes.
-    Ok (record { names = n.value; attributes = attributes; capacity = capacity; consumes = consumes; nodes = nodes })) out n.second in
-    let c = gave (each (capacity_of driver) path ds) (λ capacity.
-    each (consumes_of sets) path ds >>= λ consumes.
-    each (device_nodes_of per_device) path ds >>= λ nodes.
-    Ok (record { names = n.value; attributes = a.value; capacity = capacity; consumes = consumes; nodes = nodes })) out a.second in
-    let k = gave (each (consumes_of sets) path ds) (λ consumes.
-    each (device_nodes_of per_device) path ds >>= λ nodes.
-    Ok (record { names = n.value; attributes = a.value; capacity = c.value; consumes = consumes; nodes = nodes })) out c.second in
-    let w = gave (each (device_nodes_of per_device) path ds) (λ nodes.
-    Ok (record { names = n.value; attributes = a.value; capacity = c.value; consumes = k.value; nodes = nodes })) out k.second in
-    let made : Columns = record { names = n.value; attributes = a.value; capacity = c.value; consumes = k.value; nodes = w.value } in
-    let r = names_keep path 0 0 [] ds n.value (record { labels = All-nil IsLabel; different = tt; size = omega arith }) n.first in
-    let s = with_length n.value a.value c.value k.value w.value in
-    let attributes = column (attributes_of driver) path ds a.value a.first in
-    let capacity = column (capacity_of driver) path ds c.value c.first in
-    along (λ (x : Columns). AllKeep sets per_device (items_length ds) (devices_of x) × ArePaired x.attributes x.capacity) made out (the_same made out w.second) (
-      record {
-        count = omega (arith, s, r.size);
-        labels = with_all IsLabel n.value a.value c.value k.value w.value r.labels;
-        different = with_different n.value a.value c.value k.value w.value r.different;
-        each_one = devices_keep driver sets per_device path 0 ds n.value a.value c.value k.value w.value is attributes capacity (column (consumes_of sets) path ds k.value k.first) (column (device_nodes_of per_device) path ds w.value w.first);
-      },
-      pairs driver path 0 ds a.value c.value is attributes capacity,
-    )
+columns_keep : (driver : List ℕ) (per_device : Bool) (path : List Step) (ds : Items) (out : Columns) → IsDriver driver → columns_of driver per_device path ds ≡ Ok out → AllKeep per_device (items_length ds) (devices_of out)
+columns_keep driver per_device path ds out is h =
+    let c = columns_read driver per_device path ds out h in
+    let r = names_keep path 0 0 [] ds out.names (record { labels = All-nil IsLabel; different = tt; size = omega arith }) c.names in
+    let s = with_length out.names out.attributes out.capacity out.consumes out.nodes in
+    let attributes = column (attributes_of driver) path ds out.attributes c.attributes in
+    let capacity = column (capacity_of driver) path ds out.capacity c.capacity in
+    let consumes = column consumes_of path ds out.consumes c.consumes in
+    let nodes = column (device_nodes_of per_device) path ds out.nodes c.nodes in
+    record {
+      count = omega (arith, s, r.size);
+      labels = with_all IsLabel out.names out.attributes out.capacity out.consumes out.nodes r.labels;
+      different = with_different out.names out.attributes out.capacity out.consumes out.nodes r.different;
+      each_one = devices_keep driver per_device path 0 ds out.names out.attributes out.capacity out.consumes out.nodes is attributes capacity consumes nodes;
+    }
 
 -- the attributes and the capacities that were read are those of devices
-pub paired : (driver : List ℕ) (sets : List CounterSet) (per_device : Bool) (path : List Step) (ds : Items) (out : Columns) → IsDriver driver → columns_of driver sets per_device path ds ≡ Ok out → ArePaired out.attributes out.capacity
-paired driver sets per_device path ds out is h = (columns_keep driver sets per_device path ds out is h).1
+pub paired : (driver : List ℕ) (per_device : Bool) (path : List Step) (ds : Items) (out : Columns) → IsDriver driver → columns_of driver per_device path ds ≡ Ok out → ArePaired out.attributes out.capacity
+paired driver per_device path ds out is h =
+    let c = columns_read driver per_device path ds out h in
+    pairs driver path 0 ds out.attributes out.capacity is (column (attributes_of driver) path ds out.attributes c.attributes) (column (capacity_of driver) path ds out.capacity c.capacity)
 
-rows_keep : (driver : List ℕ) (sets : List CounterSet) (per_device : Bool) (path : List Step) (ds : Items) (out : List Device) → IsDriver driver → rows_of driver sets per_device path ds ≡ Ok out → AllKeep sets per_device (items_length ds) out
-rows_keep driver sets per_device path ds out is h =
-    let c = gave (columns_of driver sets per_device path ds) (λ columns. nothing_more_from path 0 ds >>= λ nothing. Ok (devices_of columns)) out h in
+rows_keep : (driver : List ℕ) (per_device : Bool) (path : List Step) (ds : Items) (out : List Device) → IsDriver driver → rows_of driver per_device path ds ≡ Ok out → AllKeep per_device (items_length ds) out
+rows_keep driver per_device path ds out is h =
+    let c = gave (columns_of driver per_device path ds) (λ columns. nothing_more_from path 0 ds >>= λ nothing. Ok (devices_of columns)) out h in
     let m = gave (nothing_more_from path 0 ds) (λ nothing. Ok (devices_of c.value)) out c.second in
-    along (AllKeep sets per_device (items_length ds)) (devices_of c.value) out (the_same (devices_of c.value) out m.second)
-    (columns_keep driver sets per_device path ds c.value is c.first).0
+    along (AllKeep per_device (items_length ds)) (devices_of c.value) out (the_same (devices_of c.value) out m.second)
+    (columns_keep driver per_device path ds c.value is c.first)
 
-all_keep : (driver : List ℕ) (sets : List CounterSet) (per_device : Bool) (path : List Step) (spec : Data) (out : List Device) → IsDriver driver → devices_at driver sets per_device path spec ≡ Ok out → AllKeep sets per_device devices_most out
-all_keep driver sets per_device path spec out is h =
+all_keep : (driver : List ℕ) (per_device : Bool) (path : List Step) (spec : Data) (out : List Device) → IsDriver driver → devices_at driver per_device path spec ≡ Ok out → AllKeep per_device devices_most out
+all_keep driver per_device path spec out is h =
     let g = gave (optional_at (short_list_at devices_most) path (codes "devices") spec) (λ ds.
-    rows_of driver sets per_device (path ++ step.Member (codes "devices") ∷ []) (items_or_none ds)) out h in
-    let r = rows_keep driver sets per_device (path ++ step.Member (codes "devices") ∷ []) (items_or_none g.value) out is g.second in
+    rows_of driver per_device (path ++ step.Member (codes "devices") ∷ []) (items_or_none ds)) out h in
+    let r = rows_keep driver per_device (path ++ step.Member (codes "devices") ∷ []) (items_or_none g.value) out is g.second in
     let few = few_items devices_most path (codes "devices") spec g.value g.first in
     record { count = omega (arith, few, r.count); labels = r.labels; different = r.different; each_one = r.each_one }
+
+-- ---- devices or counter sets
+
+empty_list : (m : Option Data) → is_empty_or_none m ≡ true → items_or_none (option_and_then as_array m) ≡ no_items
+empty_list None h = refl
+empty_list (Some null) h = absurd (let no_value : ⊥ = cc in no_value)
+empty_list (Some (boolean b)) h = absurd (let no_value : ⊥ = cc in no_value)
+empty_list (Some (number n)) h = absurd (let no_value : ⊥ = cc in no_value)
+empty_list (Some (string s)) h = absurd (let no_value : ⊥ = cc in no_value)
+empty_list (Some (array no_items)) h = refl
+empty_list (Some (array (item d ds))) h = absurd (let no_value : ⊥ = cc in no_value)
+empty_list (Some (object ms)) h = absurd (let no_value : ⊥ = cc in no_value)
+
+or_true : (b : Bool) → (b || true) ≡ true
+or_true true = refl
+or_true false = refl
+
+one_empty : (driver : List ℕ) (per_device : Bool) (sets_path path : List Step) (sets : Items) (m : Option Data) (ds : Items) (counters : List CounterSet) (devices : List Device) →
+    (not (has_no_items sets) && not (is_empty_or_none m)) ≡ false → ds ≡ items_or_none (option_and_then as_array m) → sets_from sets_path 0 0 [] sets ≡ Ok counters → rows_of driver per_device path ds ≡ Ok devices → (is_empty counters || is_empty devices) ≡ true
+one_empty driver per_device sets_path path no_items m ds counters devices free same c d =
+    along (λ cs. (is_empty cs || is_empty devices) ≡ true) [] counters (the_same [] counters c) refl
+one_empty driver per_device sets_path path (item x xs) m ds counters devices free same c d =
+    let none : ds ≡ no_items = same ∙ empty_list m (not_false (is_empty_or_none m) free) in
+    let read : rows_of driver per_device path no_items ≡ Ok devices = along (λ i. rows_of driver per_device path i ≡ Ok devices) ds no_items none d in
+    along (λ ys. (is_empty counters || is_empty ys) ≡ true) [] devices (the_same [] devices read) (or_true (is_empty counters))
+
+one_kind : (driver : List ℕ) (per_device : Bool) (path : List Step) (spec : Data) (counters : List CounterSet) (devices : List Device) → counter_sets_at path spec ≡ Ok counters → devices_at driver per_device path spec ≡ Ok devices → (is_empty counters || is_empty devices) ≡ true
+one_kind driver per_device path spec counters devices c d =
+    let g = gave (optional_at list_at path (codes "sharedCounters") spec) (λ items.
+    alone_at path spec (items_or_none items) >>= λ nothing.
+    sets_from (path ++ step.Member (codes "sharedCounters") ∷ []) 0 0 [] (items_or_none items)) counters c in
+    let a = gave (alone_at path spec (items_or_none g.value)) (λ nothing.
+    sets_from (path ++ step.Member (codes "sharedCounters") ∷ []) 0 0 [] (items_or_none g.value)) counters g.second in
+    let free = not_refused (field_error path (codes "sharedCounters") NotOne) (not (has_no_items (items_or_none g.value)) && not (is_empty_or_none (member_of (codes "devices") spec))) tt a.value a.first in
+    let r = gave (optional_at (short_list_at devices_most) path (codes "devices") spec) (λ ds.
+    rows_of driver per_device (path ++ step.Member (codes "devices") ∷ []) (items_or_none ds)) devices d in
+    one_empty driver per_device (path ++ step.Member (codes "sharedCounters") ∷ []) (path ++ step.Member (codes "devices") ∷ []) (items_or_none g.value) (member_of (codes "devices") spec) (items_or_none r.value) counters devices free
+    (items_are devices_most path (codes "devices") spec r.value r.first) a.second r.second
 
 -- ---- the slice
 
@@ -273,38 +273,17 @@ a_pool path spec p h =
 
 pub spec_keeps : (name : List ℕ) (version : Option ℕ) (path : List Step) (spec : Data) (s : ResourceSlice) → length name ≤ name_most → is_dns_name name ≡ true → VersionKept version → spec_in name version path spec ≡ Ok s → IsWithinLimits s
 spec_keeps name version path spec s size form kept_version h =
-    let d = gave (driver_at path spec) (λ driver.
-    pool_at path spec >>= λ pool.
-    slice_nodes_at path spec >>= λ nodes.
-    counter_sets_at path spec >>= λ counters.
-    devices_at driver counters (is_per_device nodes) path spec >>= λ devices.
-    Ok (record { name = name; version = version; driver = driver; pool = pool; nodes = nodes; counters = counters; devices = devices })) s h in
-    let p = gave (pool_at path spec) (λ pool.
-    slice_nodes_at path spec >>= λ nodes.
-    counter_sets_at path spec >>= λ counters.
-    devices_at d.value counters (is_per_device nodes) path spec >>= λ devices.
-    Ok (record { name = name; version = version; driver = d.value; pool = pool; nodes = nodes; counters = counters; devices = devices })) s d.second in
-    let n = gave (slice_nodes_at path spec) (λ nodes.
-    counter_sets_at path spec >>= λ counters.
-    devices_at d.value counters (is_per_device nodes) path spec >>= λ devices.
-    Ok (record { name = name; version = version; driver = d.value; pool = p.value; nodes = nodes; counters = counters; devices = devices })) s p.second in
-    let c = gave (counter_sets_at path spec) (λ counters.
-    devices_at d.value counters (is_per_device n.value) path spec >>= λ devices.
-    Ok (record { name = name; version = version; driver = d.value; pool = p.value; nodes = n.value; counters = counters; devices = devices })) s n.second in
-    let v = gave (devices_at d.value c.value (is_per_device n.value) path spec) (λ devices.
-    Ok (record { name = name; version = version; driver = d.value; pool = p.value; nodes = n.value; counters = c.value; devices = devices })) s c.second in
-    let made : ResourceSlice = record { name = name; version = version; driver = d.value; pool = p.value; nodes = n.value; counters = c.value; devices = v.value } in
-    let is = a_driver path spec d.value d.first in
-    let sets = counters_keep path spec c.value c.first in
-    let all = all_keep d.value c.value (is_per_device n.value) path spec v.value is v.first in
-    along IsWithinLimits made s (the_same made s v.second)
-    (record {
-      name = size;
-      name_form = form;
-      version = kept_version;
+    let r = spec_read name version path spec s h in
+    let is = a_driver path spec s.driver r.driver in
+    let sets = counters_keep path spec s.counters r.counters in
+    let all = all_keep s.driver (is_per_device s.nodes) path spec s.devices is r.devices in
+    record {
+      name = along (λ n. length n ≤ name_most) name s.name r.same_name size;
+      name_form = along (λ n. is_dns_name n ≡ true) name s.name r.same_name form;
+      version = along VersionKept version s.version r.same_version kept_version;
       driver = is;
-      pool = a_pool path spec p.value p.first;
-      nodes = slice_nodes path spec n.value n.first;
+      pool = a_pool path spec s.pool r.pool;
+      nodes = slice_nodes path spec s.nodes r.nodes;
       sets = sets.all;
       set_names = sets.different;
       counters = omega (arith, sets.total, sets.few);
@@ -312,7 +291,8 @@ spec_keeps name version path spec s size form kept_version h =
       device_names = all.labels;
       device_names_differ = all.different;
       devices = all.each_one;
-    })
+      one_kind = one_kind s.driver (is_per_device s.nodes) path spec s.counters s.devices r.counters r.devices;
+    }
 
 -- metadata keeps its rules
 abbrev pub MetaLaw : Type 0

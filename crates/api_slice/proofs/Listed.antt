@@ -17,7 +17,7 @@ use Rattle.object_fields.specs.declared.qualified.QualName.{QualName}
 use Rattle.api_slice.specs.Attributes.{attributes_of}
 use Rattle.api_slice.specs.Capacity.{capacity_of}
 use Rattle.api_slice.specs.Consumption.{consumes_of}
-use Rattle.api_slice.specs.Counters.{counter_sets_at, counters_at, has_set, new_set_name, sets_from}
+use Rattle.api_slice.specs.Counters.{alone_at, counter_sets_at, counters_at, has_set, new_set_name, sets_from}
 use Rattle.api_slice.specs.Devices.{columns_of, devices_at, devices_most, devices_of, devices_with, new_device_name, nothing_more_from, rows_of}
 use Rattle.api_slice.specs.Documents.{listed}
 use Rattle.api_slice.specs.Nodes.{device_nodes_of, is_per_device, slice_nodes_at}
@@ -29,8 +29,8 @@ use Rattle.api_slice.specs.declared.types.CounterSet.{CounterSet}
 use Rattle.api_slice.specs.declared.types.Device.{Device}
 use Rattle.api_slice.specs.declared.types.Nodes.{Nodes}
 use Rattle.api_slice.specs.declared.types.ResourceSlice.{ResourceSlice}
-use Rattle.api_slice.proofs.Limits.{Column, column}
-use Rattle.api_slice.proofs.Readings.{along, gave, kept, the_same, was_some}
+use Rattle.api_slice.proofs.Readings.{along, gave, items_are, kept, the_same, was_some}
+use Rattle.api_slice.proofs.Rows.{Column, column, columns_read, spec_read}
 
 -- ---- the labels of items, a law of the readers of fields
 
@@ -74,66 +74,35 @@ device_reading law = record {
 abbrev pub with_some : Device → Option (List ℕ)
 with_some x = Some x.name
 
-joined : (driver : List ℕ) (sets : List CounterSet) (per_device : Bool) (path : List Step) (place : ℕ) (ds : Items) (names : List (List ℕ)) (attributes : List (List (QualName × Attribute))) (capacity : List (List (QualName × ℤ))) (consumes : List (List CounterConsumption)) (nodes : List (Option Nodes)) →
-    map Some names ≡ names_in ds → Column (attributes_of driver) path place attributes ds → Column (capacity_of driver) path place capacity ds → Column (consumes_of sets) path place consumes ds → Column (device_nodes_of per_device) path place nodes ds → map with_some (devices_with names attributes capacity consumes nodes) ≡ names_in ds
-joined driver sets per_device path place no_items [] xs ys ks os n a c q w = refl
-joined driver sets per_device path place no_items (m ∷ ms) xs ys ks os n a c q w = absurd (let no_value : ⊥ = cc in no_value)
-joined driver sets per_device path place (item d ds) [] xs ys ks os n a c q w = absurd (let no_value : ⊥ = cc in no_value)
-joined driver sets per_device path place (item d ds) (m ∷ ms) [] ys ks os n a c q w = absurd a
-joined driver sets per_device path place (item d ds) (m ∷ ms) (x ∷ xs) [] ks os n a c q w = absurd c
-joined driver sets per_device path place (item d ds) (m ∷ ms) (x ∷ xs) (y ∷ ys) [] os n a c q w = absurd q
-joined driver sets per_device path place (item d ds) (m ∷ ms) (x ∷ xs) (y ∷ ys) (k ∷ ks) [] n a c q w = absurd w
-joined driver sets per_device path place (item d ds) (m ∷ ms) (x ∷ xs) (y ∷ ys) (k ∷ ks) (o ∷ os) n a c q w =
+joined : (driver : List ℕ) (per_device : Bool) (path : List Step) (place : ℕ) (ds : Items) (names : List (List ℕ)) (attributes : List (List (QualName × Attribute))) (capacity : List (List (QualName × ℤ))) (consumes : List (List CounterConsumption)) (nodes : List (Option Nodes)) →
+    map Some names ≡ names_in ds → Column (attributes_of driver) path place attributes ds → Column (capacity_of driver) path place capacity ds → Column consumes_of path place consumes ds → Column (device_nodes_of per_device) path place nodes ds → map with_some (devices_with names attributes capacity consumes nodes) ≡ names_in ds
+joined driver per_device path place no_items [] xs ys ks os n a c q w = refl
+joined driver per_device path place no_items (m ∷ ms) xs ys ks os n a c q w = absurd (let no_value : ⊥ = cc in no_value)
+joined driver per_device path place (item d ds) [] xs ys ks os n a c q w = absurd (let no_value : ⊥ = cc in no_value)
+joined driver per_device path place (item d ds) (m ∷ ms) [] ys ks os n a c q w = absurd a
+joined driver per_device path place (item d ds) (m ∷ ms) (x ∷ xs) [] ks os n a c q w = absurd c
+joined driver per_device path place (item d ds) (m ∷ ms) (x ∷ xs) (y ∷ ys) [] os n a c q w = absurd q
+joined driver per_device path place (item d ds) (m ∷ ms) (x ∷ xs) (y ∷ ys) (k ∷ ks) [] n a c q w = absurd w
+joined driver per_device path place (item d ds) (m ∷ ms) (x ∷ xs) (y ∷ ys) (k ∷ ks) (o ∷ os) n a c q w =
     let first : Some m ≡ named d = cc in
     let others : map Some ms ≡ names_in ds = cc in
-    ap (λ z. z ∷ map with_some (devices_with ms xs ys ks os)) first ∙ ap (λ zs. named d ∷ zs) (joined driver sets per_device path (place + 1) ds ms xs ys ks os others a.1 c.1 q.1 w.1)
+    ap (λ z. z ∷ map with_some (devices_with ms xs ys ks os)) first ∙ ap (λ zs. named d ∷ zs) (joined driver per_device path (place + 1) ds ms xs ys ks os others a.1 c.1 q.1 w.1)
 
 -- of names that were read one after another
 abbrev pub GivenNames : Type 0
 GivenNames = (path : List Step) (ds : Items) (names : List (List ℕ)) → each_beside new_device_name path ds ≡ Ok names → map Some names ≡ names_in ds
 
-rows_names : GivenNames → (driver : List ℕ) (sets : List CounterSet) (per_device : Bool) (path : List Step) (ds : Items) (out : List Device) → rows_of driver sets per_device path ds ≡ Ok out → map with_some out ≡ names_in ds
-rows_names law driver sets per_device path ds out h =
-    let r = gave (columns_of driver sets per_device path ds) (λ columns. nothing_more_from path 0 ds >>= λ nothing. Ok (devices_of columns)) out h in
+rows_names : GivenNames → (driver : List ℕ) (per_device : Bool) (path : List Step) (ds : Items) (out : List Device) → rows_of driver per_device path ds ≡ Ok out → map with_some out ≡ names_in ds
+rows_names law driver per_device path ds out h =
+    let r = gave (columns_of driver per_device path ds) (λ columns. nothing_more_from path 0 ds >>= λ nothing. Ok (devices_of columns)) out h in
     let m = gave (nothing_more_from path 0 ds) (λ nothing. Ok (devices_of r.value)) out r.second in
-    let n = gave (each_beside new_device_name path ds) (λ names.
-    each (attributes_of driver) path ds >>= λ attributes.
-    each (capacity_of driver) path ds >>= λ capacity.
-    each (consumes_of sets) path ds >>= λ consumes.
-    each (device_nodes_of per_device) path ds >>= λ nodes.
-    Ok (record { names = names; attributes = attributes; capacity = capacity; consumes = consumes; nodes = nodes })) r.value r.first in
-    let a = gave (each (attributes_of driver) path ds) (λ attributes.
-    each (capacity_of driver) path ds >>= λ capacity.
-    each (consumes_of sets) path ds >>= λ consumes.
-    each (device_nodes_of per_device) path ds >>= λ nodes.
-    Ok (record { names = n.value; attributes = attributes; capacity = capacity; consumes = consumes; nodes = nodes })) r.value n.second in
-    let c = gave (each (capacity_of driver) path ds) (λ capacity.
-    each (consumes_of sets) path ds >>= λ consumes.
-    each (device_nodes_of per_device) path ds >>= λ nodes.
-    Ok (record { names = n.value; attributes = a.value; capacity = capacity; consumes = consumes; nodes = nodes })) r.value a.second in
-    let k = gave (each (consumes_of sets) path ds) (λ consumes.
-    each (device_nodes_of per_device) path ds >>= λ nodes.
-    Ok (record { names = n.value; attributes = a.value; capacity = c.value; consumes = consumes; nodes = nodes })) r.value c.second in
-    let w = gave (each (device_nodes_of per_device) path ds) (λ nodes.
-    Ok (record { names = n.value; attributes = a.value; capacity = c.value; consumes = k.value; nodes = nodes })) r.value k.second in
-    let made : Columns = record { names = n.value; attributes = a.value; capacity = c.value; consumes = k.value; nodes = w.value } in
-    let names : map Some n.value ≡ names_in ds = law path ds n.value n.first in
-    let all = joined driver sets per_device path 0 ds n.value a.value c.value k.value w.value names (column (attributes_of driver) path ds a.value a.first) (column (capacity_of driver) path ds c.value c.first) (column (consumes_of sets) path ds k.value k.first) (column (device_nodes_of per_device) path ds w.value w.first) in
-    along (λ xs. map with_some xs ≡ names_in ds) (devices_of r.value) out (the_same (devices_of r.value) out m.second)
-    (along (λ (x : Columns). map with_some (devices_of x) ≡ names_in ds) made r.value (the_same made r.value w.second) all)
+    let k = r.value in
+    let c = columns_read driver per_device path ds k r.first in
+    let names : map Some k.names ≡ names_in ds = law path ds k.names c.names in
+    let all = joined driver per_device path 0 ds k.names k.attributes k.capacity k.consumes k.nodes names (column (attributes_of driver) path ds k.attributes c.attributes) (column (capacity_of driver) path ds k.capacity c.capacity) (column consumes_of path ds k.consumes c.consumes) (column (device_nodes_of per_device) path ds k.nodes c.nodes) in
+    along (λ xs. map with_some xs ≡ names_in ds) (devices_of k) out (the_same (devices_of k) out m.second) all
 
 -- ---- the lists of a document
-
-items_by : (m : Option Data) (e f g : FieldError) (most : ℕ) (o : Option Items) → if_there m (some_or e m >>= (λ v. some_or f (as_array v)) >>= λ ds. unless g (nat_lt most (items_length ds)) ds) ≡ Ok o → items_or_none o ≡ items_or_none (option_and_then as_array m)
-items_by None e f g most o h = ap items_or_none (sym (the_same None o h))
-items_by (Some v) e f g most o h =
-    let s = gave (some_or f (as_array v) >>= λ ds. unless g (nat_lt most (items_length ds)) ds) (λ ds. Ok (Some ds)) o h in
-    let t = gave (some_or f (as_array v)) (λ ds. unless g (nat_lt most (items_length ds)) ds) s.value s.first in
-    ap items_or_none (sym (the_same (Some s.value) o s.second) ∙ ap Some (sym (kept g (nat_lt most (items_length t.value)) t.value s.value t.second)) ∙ sym (was_some f (as_array v) t.value t.first))
-
--- the items of a list that may be missing
-items_are : (most : ℕ) (path : List Step) (name : List ℕ) (d : Data) (o : Option Items) → optional_at (short_list_at most) path name d ≡ Ok o → items_or_none o ≡ items_or_none (option_and_then as_array (member_of name d))
-items_are most path name d o h = items_by (member_of name d) (field_error path name Missing) (field_error path name WrongType) (field_error path name TooMany) most o h
 
 as_itself : (w : Data) (ms : Members) → as_object w ≡ Some ms → w ≡ object ms
 as_itself null ms h = absurd (let no_value : ⊥ = cc in no_value)
@@ -185,37 +154,20 @@ pub record Named (d : Data) (s : ResourceSlice) : Type 0 where
 
 spec_names : GivenNames → Labels → (name : List ℕ) (version : Option ℕ) (path : List Step) (d spec : Data) (s : ResourceSlice) → member_of (codes "spec") d ≡ Some spec → spec_in name version path spec ≡ Ok s → Named d s
 spec_names given labels name version path whole spec s there h =
-    let d = gave (driver_at path spec) (λ driver.
-    pool_at path spec >>= λ pool.
-    slice_nodes_at path spec >>= λ nodes.
-    counter_sets_at path spec >>= λ counters.
-    devices_at driver counters (is_per_device nodes) path spec >>= λ devices.
-    Ok (record { name = name; version = version; driver = driver; pool = pool; nodes = nodes; counters = counters; devices = devices })) s h in
-    let p = gave (pool_at path spec) (λ pool.
-    slice_nodes_at path spec >>= λ nodes.
-    counter_sets_at path spec >>= λ counters.
-    devices_at d.value counters (is_per_device nodes) path spec >>= λ devices.
-    Ok (record { name = name; version = version; driver = d.value; pool = pool; nodes = nodes; counters = counters; devices = devices })) s d.second in
-    let n = gave (slice_nodes_at path spec) (λ nodes.
-    counter_sets_at path spec >>= λ counters.
-    devices_at d.value counters (is_per_device nodes) path spec >>= λ devices.
-    Ok (record { name = name; version = version; driver = d.value; pool = p.value; nodes = nodes; counters = counters; devices = devices })) s p.second in
-    let c = gave (counter_sets_at path spec) (λ counters.
-    devices_at d.value counters (is_per_device n.value) path spec >>= λ devices.
-    Ok (record { name = name; version = version; driver = d.value; pool = p.value; nodes = n.value; counters = counters; devices = devices })) s n.second in
-    let v = gave (devices_at d.value c.value (is_per_device n.value) path spec) (λ devices.
-    Ok (record { name = name; version = version; driver = d.value; pool = p.value; nodes = n.value; counters = c.value; devices = devices })) s c.second in
-    let made : ResourceSlice = record { name = name; version = version; driver = d.value; pool = p.value; nodes = n.value; counters = c.value; devices = v.value } in
+    let r = spec_read name version path spec s h in
     let x = gave (optional_at (short_list_at devices_most) path (codes "devices") spec) (λ ds.
-    rows_of d.value c.value (is_per_device n.value) (path ++ step.Member (codes "devices") ∷ []) (items_or_none ds)) v.value v.first in
+    rows_of s.driver (is_per_device s.nodes) (path ++ step.Member (codes "devices") ∷ []) (items_or_none ds)) s.devices r.devices in
     let listed_devices : items_or_none x.value ≡ listed (codes "devices") whole = items_are devices_most path (codes "devices") spec x.value x.first ∙ ap (λ o. items_or_none (option_and_then as_array (option_and_then (member_of (codes "devices")) o))) (sym there) in
-    let devices = rows_names given d.value c.value (is_per_device n.value) (path ++ step.Member (codes "devices") ∷ []) (items_or_none x.value) v.value x.second ∙ ap names_in listed_devices in
+    let devices = rows_names given s.driver (is_per_device s.nodes) (path ++ step.Member (codes "devices") ∷ []) (items_or_none x.value) s.devices x.second ∙ ap names_in listed_devices in
     let y = gave (optional_at list_at path (codes "sharedCounters") spec) (λ items.
-    sets_from (path ++ step.Member (codes "sharedCounters") ∷ []) 0 0 [] (items_or_none items)) c.value c.first in
+    alone_at path spec (items_or_none items) >>= λ nothing.
+    sets_from (path ++ step.Member (codes "sharedCounters") ∷ []) 0 0 [] (items_or_none items)) s.counters r.counters in
+    let alone = gave (alone_at path spec (items_or_none y.value)) (λ nothing.
+    sets_from (path ++ step.Member (codes "sharedCounters") ∷ []) 0 0 [] (items_or_none y.value)) s.counters y.second in
     let listed_sets : items_or_none y.value ≡ listed (codes "sharedCounters") whole = list_is path (codes "sharedCounters") spec y.value y.first ∙ ap (λ o. items_or_none (option_and_then as_array (option_and_then (member_of (codes "sharedCounters")) o))) (sym there) in
-    let z = sets_names labels (path ++ step.Member (codes "sharedCounters") ∷ []) 0 0 [] (items_or_none y.value) c.value y.second in
+    let z = sets_names labels (path ++ step.Member (codes "sharedCounters") ∷ []) 0 0 [] (items_or_none y.value) s.counters alone.second in
     let sets = ap (map set_with_some) z.1.0 ∙ z.1.1 ∙ ap names_in listed_sets in
-    along (Named whole) made s (the_same made s v.second) (record { devices = devices; sets = sets })
+    record { devices = devices; sets = sets }
 
 pub slice_names : GivenNames → Labels → (d : Data) (s : ResourceSlice) → slice_of d ≡ Ok s → Named d s
 slice_names given labels d s h =

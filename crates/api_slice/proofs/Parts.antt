@@ -25,10 +25,10 @@ use Rattle.object_fields.specs.declared.qualified.QualName.{QualName}
 use Rattle.api_slice.specs.Amounts as amounts
 use Rattle.api_slice.specs.Attributes.{attribute_of, attributes_in, attributes_with, chars_most, is_long, is_version, new_name, one_value, qual_cmp, short_text_at, version_at, version_text}
 use Rattle.api_slice.specs.Capacity.{capacity_in, capacity_with, value_without_policy}
-use Rattle.api_slice.specs.Consumption.{amounts_at, amounts_most, amounts_with, consumes_of, draws_from, draws_on, find_set, has_counter, known_counter, new_draw_on}
-use Rattle.api_slice.specs.Counters.{counter_name, counter_sets_at, counters_at, counters_most, counters_with, has_set, new_set_name, sets_from}
+use Rattle.api_slice.specs.Consumption.{amounts_at, amounts_most, amounts_with, consumes_of, draws_from, draws_on, new_drawn_set}
+use Rattle.api_slice.specs.Counters.{alone_at, counter_name, counter_sets_at, counters_at, counters_most, counters_with, has_set, new_set_name, sets_from}
 use Rattle.api_slice.specs.Drivers.{IsDriver}
-use Rattle.api_slice.specs.Limits.{DrawsOn, IsAmount, IsCounterSet, IsLabel}
+use Rattle.api_slice.specs.Limits.{IsAmount, IsCounterSet, IsDraw, IsLabel}
 use Rattle.api_slice.specs.Properties.{IsValue}
 use Rattle.api_slice.specs.Lists.{count_at, count_on, members_length, members_or_none}
 use Rattle.api_slice.specs.declared.types.Attribute.{Attribute}
@@ -166,6 +166,9 @@ capacity_in_table driver path (Some ms) out d h =
 
 -- ---- counters
 
+abbrev pub IsAnyName : List ℕ → Type 0
+IsAnyName name = Unit {0}
+
 pub an_amount : (path : List Step) (d : Data) (n : ℤ) → amounts.amount_of path d ≡ Ok n → IsAmount n
 an_amount path d n h =
     let g = gave (object_value path d >>= amounts.quantity_at path (codes "value")) (amounts.not_negative (path ++ step.Member (codes "value") ∷ [])) n h in
@@ -267,126 +270,92 @@ sets_keep path place met before (item d ds) out t h =
 pub counters_keep : (path : List Step) (spec : Data) (out : List CounterSet) → counter_sets_at path spec ≡ Ok out → AreSets out
 counters_keep path spec out h =
     let g = gave (optional_at list_at path (codes "sharedCounters") spec) (λ items.
+    alone_at path spec (items_or_none items) >>= λ nothing.
     sets_from (path ++ step.Member (codes "sharedCounters") ∷ []) 0 0 [] (items_or_none items)) out h in
+    let a = gave (alone_at path spec (items_or_none g.value)) (λ nothing.
+    sets_from (path ++ step.Member (codes "sharedCounters") ∷ []) 0 0 [] (items_or_none g.value)) out g.second in
     sets_keep (path ++ step.Member (codes "sharedCounters") ∷ []) 0 0 [] (items_or_none g.value) out
-    (record { all = All-nil IsCounterSet; different = tt; total = omega arith; few = omega arith }) g.second
+    (record { all = All-nil IsCounterSet; different = tt; total = omega arith; few = omega arith }) a.second
 
 -- ---- what a device draws
 
-pub is_known : (path : List Step) (counters : List (List ℕ × ℤ)) (key name : List ℕ) → known_counter path counters key ≡ Ok name → has_counter name counters ≡ true
-is_known path counters key name h =
-    let b = not_refused (error_at path Unknown) (not (has_counter key counters)) key name h in
-    let e = kept (error_at path Unknown) (not (has_counter key counters)) key name h in
-    along (λ k. has_counter k counters ≡ true) key name e (not_false (has_counter key counters) b)
-
-pub amounts_table : (counters : List (List ℕ × ℤ)) (path : List Step) (most : ℕ) (before : List (List ℕ × ℤ)) (ms : Members) (out : List (List ℕ × ℤ)) → IsTable (λ name. has_counter name counters ≡ true) IsAmount most before → amounts_with counters path before ms ≡ Ok out → IsTable (λ name. has_counter name counters ≡ true) IsAmount (most + members_length ms) out
-amounts_table counters path most before no_members out t h =
-    along (IsTable (λ name. has_counter name counters ≡ true) IsAmount (most + 0)) before out (the_same before out h) (within (λ name. has_counter name counters ≡ true) IsAmount most (most + 0) before (omega arith) t)
-amounts_table counters path most before (member key value ms) out t h =
-    let n = gave (known_counter (path ++ step.Key key ∷ []) counters key) (λ name.
-    amounts.amount_of (path ++ step.Key key ∷ []) value >>= λ amount.
-    amounts_with counters path (insert_entry (slice_cmp nat_cmp) before name amount) ms) out h in
+pub amounts_table : (path : List Step) (most : ℕ) (before : List (List ℕ × ℤ)) (ms : Members) (out : List (List ℕ × ℤ)) → IsTable IsAnyName IsAmount most before → amounts_with path before ms ≡ Ok out → IsTable IsAnyName IsAmount (most + members_length ms) out
+amounts_table path most before no_members out t h =
+    along (IsTable IsAnyName IsAmount (most + 0)) before out (the_same before out h) (within IsAnyName IsAmount most (most + 0) before (omega arith) t)
+amounts_table path most before (member key value ms) out t h =
     let v = gave (amounts.amount_of (path ++ step.Key key ∷ []) value) (λ amount.
-    amounts_with counters path (insert_entry (slice_cmp nat_cmp) before n.value amount) ms) out n.second in
-    let known = is_known (path ++ step.Key key ∷ []) counters key n.value n.first in
-    let r = amounts_table counters path (most + 1) (insert_entry (slice_cmp nat_cmp) before n.value v.value) ms out (one_more (slice_cmp nat_cmp) (λ name. has_counter name counters ≡ true) IsAmount most before n.value v.value t known (an_amount (path ++ step.Key key ∷ []) value v.value v.first)) v.second in
+    amounts_with path (insert_entry (slice_cmp nat_cmp) before key amount) ms) out h in
+    let r = amounts_table path (most + 1) (insert_entry (slice_cmp nat_cmp) before key v.value) ms out (one_more (slice_cmp nat_cmp) IsAnyName IsAmount most before key v.value t tt (an_amount (path ++ step.Key key ∷ []) value v.value v.first)) v.second in
     record { keys = r.keys; values = r.values; size = omega (arith, r.size) }
 
-pub record AmountsOf (counters : List (List ℕ × ℤ)) (met : ℕ) (c : List (List ℕ × ℤ) × ℕ) : Type 0 where
-  pub keys : All (λ name. has_counter name counters ≡ true) (keys_of c.0)
+pub record AmountsOf (met : ℕ) (c : List (List ℕ × ℤ) × ℕ) : Type 0 where
   pub values : All IsAmount (values_of c.0)
   pub size : met + length c.0 ≤ c.1
   pub few : c.1 ≤ amounts_most
 
-pub amounts_in : (counters : List (List ℕ × ℤ)) (list path : List Step) (met : ℕ) (d : Data) (c : List (List ℕ × ℤ) × ℕ) → amounts_at counters list path met d ≡ Ok c → AmountsOf counters met c
-amounts_in counters list path met d c h =
+pub amounts_in : (list path : List Step) (met : ℕ) (d : Data) (c : List (List ℕ × ℤ) × ℕ) → amounts_at list path met d ≡ Ok c → AmountsOf met c
+amounts_in list path met d c h =
     let m = gave (table_at path (codes "counters") d) (λ ms.
     count_on list amounts_most met ms >>= λ more.
-    amounts_with counters (path ++ step.Member (codes "counters") ∷ []) [] ms >>= λ amounts.
+    amounts_with (path ++ step.Member (codes "counters") ∷ []) [] ms >>= λ amounts.
     Ok (amounts, more)) c h in
     let n = gave (count_on list amounts_most met m.value) (λ more.
-    amounts_with counters (path ++ step.Member (codes "counters") ∷ []) [] m.value >>= λ amounts.
+    amounts_with (path ++ step.Member (codes "counters") ∷ []) [] m.value >>= λ amounts.
     Ok (amounts, more)) c m.second in
-    let t = gave (amounts_with counters (path ++ step.Member (codes "counters") ∷ []) [] m.value) (λ amounts. Ok (amounts, n.value)) c n.second in
+    let t = gave (amounts_with (path ++ step.Member (codes "counters") ∷ []) [] m.value) (λ amounts. Ok (amounts, n.value)) c n.second in
     let k = counted_on list amounts_most met m.value n.value n.first in
-    let u = amounts_table counters (path ++ step.Member (codes "counters") ∷ []) 0 [] m.value t.value (no_entries (λ name. has_counter name counters ≡ true) IsAmount 0) t.first in
-    along (AmountsOf counters met) (t.value, n.value) c (the_same (t.value, n.value) c t.second)
-    (record { keys = u.keys; values = u.values; size = omega (arith, u.size, k.0); few = k.1 })
+    let u = amounts_table (path ++ step.Member (codes "counters") ∷ []) 0 [] m.value t.value (no_entries IsAnyName IsAmount 0) t.first in
+    along (AmountsOf met) (t.value, n.value) c (the_same (t.value, n.value) c t.second)
+    (record { values = u.values; size = omega (arith, u.size, k.0); few = k.1 })
 
-pub found : (name : List ℕ) (sets : List CounterSet) (s : CounterSet) → find_set name sets ≡ Some s → bytes_eq s.name name ≡ true
-found name [] s h = absurd (let no_value : ⊥ = cc in no_value)
-found name (x ∷ xs) s h =
-    (elim (bytes_eq x.name name) as (λ b. bytes_eq x.name name ≡ b → cond b (Some x) (find_set name xs) ≡ Some s → bytes_eq s.name name ≡ true) [
-      | true ↦ λ e k. let same : x ≡ s = cc in along (λ (y : CounterSet). bytes_eq y.name name ≡ true) x s same e
-      | false ↦ λ e k. found name xs s k
-    ]) refl h
-
-pub found_itself : (name : List ℕ) (sets : List CounterSet) (s : CounterSet) → find_set name sets ≡ Some s → find_set s.name sets ≡ Some s
-found_itself name sets s h =
-    let e : s.name ≡ name = (bytes_eq-Decides s.name name).0 (found name sets s h) in
-    along (λ n. find_set n sets ≡ Some s) name s.name (sym e) h
-
--- a set of the slice, from which nothing before draws
-pub record IsNewSet (sets : List CounterSet) (before : List CounterConsumption) (s : CounterSet) : Type 0 where
-  pub is : find_set s.name sets ≡ Some s
-  pub once : All (λ other. other ≢ s.name) (map (λ (c : CounterConsumption). c.set) before)
-
-pub a_set : (sets : List CounterSet) (path : List Step) (before : List CounterConsumption) (value : Data) (s : CounterSet) → new_draw_on sets path before value ≡ Ok s → IsNewSet sets before s
-a_set sets path before value s h =
-    let g = gave (object_value path value >>= text_at path (codes "counterSet")) (λ name.
-    some_or (field_error path (codes "counterSet") Unknown) (find_set name sets) >>=
-    unless (field_error path (codes "counterSet") Doubled) (draws_on name before)) s h in
-    let f = gave (some_or (field_error path (codes "counterSet") Unknown) (find_set g.value sets)) (unless (field_error path (codes "counterSet") Doubled) (draws_on g.value before)) s g.second in
-    let is = was_some (field_error path (codes "counterSet") Unknown) (find_set g.value sets) f.value f.first in
-    let e = kept (field_error path (codes "counterSet") Doubled) (draws_on g.value before) f.value s f.second in
-    let b : draws_on g.value before ≡ false = not_refused (field_error path (codes "counterSet") Doubled) (draws_on g.value before) f.value s f.second in
-    let n : f.value.name ≡ g.value = (bytes_eq-Decides f.value.name g.value).0 (found g.value sets f.value is) in
-    let others = none_named (λ (c : CounterConsumption). c.set) g.value before b in
-    along (IsNewSet sets before) f.value s e (record {
-      is = found_itself g.value sets f.value is;
-      once = along (λ x. All (λ other. other ≢ x) (map (λ (c : CounterConsumption). c.set) before)) g.value f.value.name (sym n) others;
-    })
+-- the name of a set from which nothing before draws
+pub a_drawn_set : (path : List Step) (before : List CounterConsumption) (value : Data) (name : List ℕ) → new_drawn_set path before value ≡ Ok name → All (λ other. other ≢ name) (map (λ (c : CounterConsumption). c.set) before)
+a_drawn_set path before value name h =
+    let g = gave (object_value path value >>= text_at path (codes "counterSet")) (λ text. unless (field_error path (codes "counterSet") Doubled) (draws_on text before) text) name h in
+    let e : g.value ≡ name = kept (field_error path (codes "counterSet") Doubled) (draws_on g.value before) g.value name g.second in
+    let b : draws_on g.value before ≡ false = not_refused (field_error path (codes "counterSet") Doubled) (draws_on g.value before) g.value name g.second in
+    along (λ n. All (λ other. other ≢ n) (map (λ (c : CounterConsumption). c.set) before)) g.value name e (none_named (λ (c : CounterConsumption). c.set) g.value before b)
 
 -- draws read so far, with that many amounts
-pub record DrawsMet (sets : List CounterSet) (met : ℕ) (draws : List CounterConsumption) : Type 0 where
+pub record DrawsMet (met : ℕ) (draws : List CounterConsumption) : Type 0 where
   pub different : AreDifferent (map (λ (c : CounterConsumption). c.set) draws)
-  pub all : All (DrawsOn sets) draws
+  pub all : All IsDraw draws
   pub total : sum_by (λ (c : CounterConsumption). length c.amounts) draws ≤ met
   pub few : met ≤ amounts_most
 
-pub record AreDraws (sets : List CounterSet) (draws : List CounterConsumption) : Type 0 where
+pub record AreDraws (draws : List CounterConsumption) : Type 0 where
   pub met : ℕ
   pub different : AreDifferent (map (λ (c : CounterConsumption). c.set) draws)
-  pub all : All (DrawsOn sets) draws
+  pub all : All IsDraw draws
   pub total : sum_by (λ (c : CounterConsumption). length c.amounts) draws ≤ met
   pub few : met ≤ amounts_most
 
-pub draws_keep : (sets : List CounterSet) (path : List Step) (place met : ℕ) (before : List CounterConsumption) (ds : Items) (out : List CounterConsumption) → DrawsMet sets met before → draws_from sets path place met before ds ≡ Ok out → AreDraws sets out
-draws_keep sets path place met before no_items out t h =
-    along (AreDraws sets) before out (the_same before out h) (record { met = met; all = t.all; different = t.different; total = t.total; few = t.few })
-draws_keep sets path place met before (item d ds) out t h =
-    let n = gave (new_draw_on sets (path ++ step.Place place ∷ []) before d) (λ counters.
-    amounts_at counters.counters path (path ++ step.Place place ∷ []) met d >>= λ amounts.
-    draws_from sets path (place + 1) amounts.1 (before ++ record { set = counters.name; amounts = amounts.0 } ∷ []) ds) out h in
-    let c = gave (amounts_at n.value.counters path (path ++ step.Place place ∷ []) met d) (λ amounts.
-    draws_from sets path (place + 1) amounts.1 (before ++ record { set = n.value.name; amounts = amounts.0 } ∷ []) ds) out n.second in
-    let is = a_set sets (path ++ step.Place place ∷ []) before d n.value n.first in
-    let u = amounts_in n.value.counters path (path ++ step.Place place ∷ []) met d c.value c.first in
-    let draw : CounterConsumption = record { set = n.value.name; amounts = c.value.0 } in
-    let fine : DrawsOn sets draw = record { set = n.value; is_set = is.is; counters = u.keys; amounts = u.values } in
-    let once = push_different (map (λ (x : CounterConsumption). x.set) before) n.value.name t.different is.once in
+pub draws_keep : (path : List Step) (place met : ℕ) (before : List CounterConsumption) (ds : Items) (out : List CounterConsumption) → DrawsMet met before → draws_from path place met before ds ≡ Ok out → AreDraws out
+draws_keep path place met before no_items out t h =
+    along AreDraws before out (the_same before out h) (record { met = met; all = t.all; different = t.different; total = t.total; few = t.few })
+draws_keep path place met before (item d ds) out t h =
+    let n = gave (new_drawn_set (path ++ step.Place place ∷ []) before d) (λ set.
+    amounts_at path (path ++ step.Place place ∷ []) met d >>= λ amounts.
+    draws_from path (place + 1) amounts.1 (before ++ record { set = set; amounts = amounts.0 } ∷ []) ds) out h in
+    let c = gave (amounts_at path (path ++ step.Place place ∷ []) met d) (λ amounts.
+    draws_from path (place + 1) amounts.1 (before ++ record { set = n.value; amounts = amounts.0 } ∷ []) ds) out n.second in
+    let others = a_drawn_set (path ++ step.Place place ∷ []) before d n.value n.first in
+    let u = amounts_in path (path ++ step.Place place ∷ []) met d c.value c.first in
+    let draw : CounterConsumption = record { set = n.value; amounts = c.value.0 } in
+    let fine : IsDraw draw = record { amounts = u.values } in
+    let once = push_different (map (λ (x : CounterConsumption). x.set) before) n.value t.different others in
     let s = sum_by-append (λ (x : CounterConsumption). length x.amounts) before (draw ∷ []) in
-    let one : DrawsMet sets c.value.1 (before ++ draw ∷ []) = record {
-      all = All-append (DrawsOn sets) before (draw ∷ []) t.all (All-cons (DrawsOn sets) draw [] fine (All-nil (DrawsOn sets)));
-      different = along AreDifferent (map (λ (x : CounterConsumption). x.set) before ++ n.value.name ∷ []) (map (λ (x : CounterConsumption). x.set) (before ++ draw ∷ [])) (sym (map-append (λ (x : CounterConsumption). x.set) before (draw ∷ []))) once;
+    let one : DrawsMet c.value.1 (before ++ draw ∷ []) = record {
+      all = All-append IsDraw before (draw ∷ []) t.all (All-cons IsDraw draw [] fine (All-nil IsDraw));
+      different = along AreDifferent (map (λ (x : CounterConsumption). x.set) before ++ n.value ∷ []) (map (λ (x : CounterConsumption). x.set) (before ++ draw ∷ [])) (sym (map-append (λ (x : CounterConsumption). x.set) before (draw ∷ []))) once;
       total = omega (arith, s, u.size, t.total);
       few = u.few;
     } in
-    draws_keep sets path (place + 1) c.value.1 (before ++ draw ∷ []) ds out one c.second
+    draws_keep path (place + 1) c.value.1 (before ++ draw ∷ []) ds out one c.second
 
-pub all_drawn : (sets : List CounterSet) (path : List Step) (d : Data) (out : List CounterConsumption) → consumes_of sets path d ≡ Ok out → AreDraws sets out
-all_drawn sets path d out h =
+pub all_drawn : (path : List Step) (d : Data) (out : List CounterConsumption) → consumes_of path d ≡ Ok out → AreDraws out
+all_drawn path d out h =
     let g = gave (optional_at list_at path (codes "consumesCounters") d) (λ items.
-    draws_from sets (path ++ step.Member (codes "consumesCounters") ∷ []) 0 0 [] (items_or_none items)) out h in
-    draws_keep sets (path ++ step.Member (codes "consumesCounters") ∷ []) 0 0 [] (items_or_none g.value) out
-    (record { all = All-nil (DrawsOn sets); different = tt; total = omega arith; few = omega arith }) g.second
+    draws_from (path ++ step.Member (codes "consumesCounters") ∷ []) 0 0 [] (items_or_none items)) out h in
+    draws_keep (path ++ step.Member (codes "consumesCounters") ∷ []) 0 0 [] (items_or_none g.value) out
+    (record { all = All-nil IsDraw; different = tt; total = omega arith; few = omega arith }) g.second

@@ -1,5 +1,5 @@
 -- What a reading that returned a value says about its steps: of texts, numbers, lists, names and tables.
-use Rattle.std.proofs.Common.{◌≡◌, ℕ, ◌+◌, ◌≤◌, nat_lt, nat_le, ◌≢◌, ℤ, pos, negsuc, map, Bool, true, false, ◌&&◌, ◌||◌, not, List, [], ◌∷◌, ◌++◌, length, Option, Some, None, Result, Ok, Err, refl, sym, subst, arith, if◌then◌else◌}
+use Rattle.std.proofs.Common.{◌≡◌, ℕ, ◌+◌, ◌≤◌, nat_lt, nat_le, ◌≢◌, ℤ, pos, negsuc, map, Bool, true, false, ◌&&◌, ◌||◌, not, List, [], ◌∷◌, ◌++◌, length, Option, Some, None, Result, Ok, Err, option_and_then, ap, ◌∙◌, refl, sym, subst, arith, if◌then◌else◌}
 use Rattle.std.proofs.lemmas.Bool.Decides.{nat_tests}
 use Rattle.std.proofs.lemmas.Slice.Eq.{bytes_eq-Decides}
 use Rattle.std.proofs.lemmas.List.Elements.{All-nil, All-cons, All-head, All-tail, All-append}
@@ -12,13 +12,14 @@ use Rattle.std.specs.declared.cmp.Ordering.{Ordering}
 use Rattle.std.specs.declared.cmp.Ordering.TheVariants.{Less, Equal, Greater}
 use Rattle.std.specs.Str.{bytes_eq}
 use Rattle.serde_json.specs.Data.{Data, Items}
+use Rattle.serde_json.specs.Find.{as_array}
 use Rattle.object_fields.specs.Fields.{dns_label_at, error_at, field_error, if_there, items_length, judged, list_at, member_of, name_at, name_in, natural_at, natural_between, whole_at, optional_at, short_list_at, some_or, text_at, unless, ◌>>=◌}
 use Rattle.object_fields.specs.Lists.{items_or_none}
 use Rattle.object_fields.specs.Names.{is_dns_label, is_dns_name, label_most}
 use Rattle.object_fields.specs.NewNames.{AreDifferent}
 use Rattle.object_fields.specs.Qualified.{IsFullName, cut_at, domain_and_id, domain_most, id_alone, id_most, is_c_identifier, qual_name_in, qualified_from}
 use Rattle.object_fields.specs.declared.error.FieldError.{FieldError}
-use Rattle.object_fields.specs.declared.kind.FieldErrorKind.TheVariants.{BadName, Doubled, OutOfRange, TooLong, TooMany}
+use Rattle.object_fields.specs.declared.kind.FieldErrorKind.TheVariants.{BadName, Doubled, Missing, OutOfRange, TooLong, TooMany, WrongType}
 use Rattle.object_fields.specs.declared.path.Step.{Step}
 use Rattle.object_fields.specs.declared.path.Step.TheVariants as step
 use Rattle.object_fields.specs.declared.qualified.QualName.{QualName}
@@ -228,6 +229,17 @@ few_of most (Some ds) h = h ds refl
 pub few_items : (most : ℕ) (path : List Step) (name : List ℕ) (d : Data) (o : Option Items) → optional_at (short_list_at most) path name d ≡ Ok o → items_length (items_or_none o) ≤ most
 few_items most path name d o h =
     few_of most o (given (λ ds. items_length ds ≤ most) (member_of name d) (short_list_at most path name d) o h (short_items most path name d))
+
+pub items_by : (m : Option Data) (e f g : FieldError) (most : ℕ) (o : Option Items) → if_there m (some_or e m >>= (λ v. some_or f (as_array v)) >>= λ ds. unless g (nat_lt most (items_length ds)) ds) ≡ Ok o → items_or_none o ≡ items_or_none (option_and_then as_array m)
+items_by None e f g most o h = ap items_or_none (sym (the_same None o h))
+items_by (Some v) e f g most o h =
+    let s = gave (some_or f (as_array v) >>= λ ds. unless g (nat_lt most (items_length ds)) ds) (λ ds. Ok (Some ds)) o h in
+    let t = gave (some_or f (as_array v)) (λ ds. unless g (nat_lt most (items_length ds)) ds) s.value s.first in
+    ap items_or_none (sym (the_same (Some s.value) o s.second) ∙ ap Some (sym (kept g (nat_lt most (items_length t.value)) t.value s.value t.second)) ∙ sym (was_some f (as_array v) t.value t.first))
+
+-- the items of a list that may be missing
+pub items_are : (most : ℕ) (path : List Step) (name : List ℕ) (d : Data) (o : Option Items) → optional_at (short_list_at most) path name d ≡ Ok o → items_or_none o ≡ items_or_none (option_and_then as_array (member_of name d))
+items_are most path name d o h = items_by (member_of name d) (field_error path name Missing) (field_error path name WrongType) (field_error path name TooMany) most o h
 
 -- ---- names that differ
 

@@ -1,5 +1,5 @@
--- The counter sets of a slice, `sharedCounters` (KEP 4815).
-use Rattle.std.specs.Prelude.{ℕ, ◌+◌, ℤ, Bool, List, [], ◌∷◌, ◌++◌, Result, Ok, codes}
+-- The counter sets of a slice, `sharedCounters`, on which the devices of its pool draw (KEP 4815).
+use Rattle.std.specs.Prelude.{ℕ, ◌+◌, ℤ, Bool, not, ◌&&◌, List, [], ◌∷◌, ◌++◌, Result, Ok, ⊤, codes}
 use Rattle.std.specs.BTreeMap.{insert_entry}
 use Rattle.std.specs.Cmp.Lexicographic.{slice_cmp}
 use Rattle.std.specs.List.{list_any}
@@ -7,14 +7,14 @@ use Rattle.std.specs.Ordering.{nat_cmp}
 use Rattle.std.specs.Str.{bytes_eq}
 use Rattle.serde_json.specs.Data.{Data, Items, no_items, item, Members, no_members, member}
 use Rattle.object_fields.specs.Names.{is_dns_label, label_most}
-use Rattle.object_fields.specs.Fields.{dns_label_at, field_error, list_at, name_in, object_value, optional_at, table_at, unless, ◌>>=◌}
+use Rattle.object_fields.specs.Fields.{dns_label_at, field_error, has_no_items, list_at, member_of, name_in, object_value, optional_at, table_at, unless, ◌>>=◌}
 use Rattle.object_fields.specs.Lists.{items_or_none}
 use Rattle.object_fields.specs.declared.error.FieldError.{FieldError}
-use Rattle.object_fields.specs.declared.kind.FieldErrorKind.TheVariants.{Doubled}
+use Rattle.object_fields.specs.declared.kind.FieldErrorKind.TheVariants.{Doubled, NotOne}
 use Rattle.object_fields.specs.declared.path.Step.{Step}
 use Rattle.object_fields.specs.declared.path.Step.TheVariants.{Member, Place, Key}
 use Rattle.api_slice.specs.Amounts.{amount_of}
-use Rattle.api_slice.specs.Lists.{count_on}
+use Rattle.api_slice.specs.Lists.{count_on, is_empty_or_none}
 use Rattle.api_slice.specs.declared.types.CounterSet.{CounterSet}
 
 -- a slice has at most 32 counters in all
@@ -58,8 +58,15 @@ sets_from path place met before (item d ds) =
     counters_at path (path ++ Place place ∷ []) met d >>= λ counters.
     sets_from path (place + 1) counters.1 (before ++ record { name = name; counters = counters.0 } ∷ []) ds
 
--- the sets may be missing
+-- nothing, or the error of counter sets beside devices
+abbrev pub alone_at : List Step → Data → Items → Result ⊤ FieldError
+alone_at path spec sets =
+    unless (field_error path (codes "sharedCounters") NotOne)
+    (not (has_no_items sets) && not (is_empty_or_none (member_of (codes "devices") spec))) tt
+
+-- the sets may be missing, and are missing or empty where the slice has devices
 abbrev pub counter_sets_at : List Step → Data → Result (List CounterSet) FieldError
 counter_sets_at path spec =
     optional_at list_at path (codes "sharedCounters") spec >>= λ items.
+    alone_at path spec (items_or_none items) >>= λ nothing.
     sets_from (path ++ Member (codes "sharedCounters") ∷ []) 0 0 [] (items_or_none items)

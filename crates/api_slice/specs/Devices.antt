@@ -16,7 +16,6 @@ use Rattle.api_slice.specs.Nodes.{device_nodes_of}
 use Rattle.api_slice.specs.declared.device.Columns.{Columns}
 use Rattle.api_slice.specs.declared.types.Attribute.{Attribute}
 use Rattle.api_slice.specs.declared.types.CounterConsumption.{CounterConsumption}
-use Rattle.api_slice.specs.declared.types.CounterSet.{CounterSet}
 use Rattle.api_slice.specs.declared.types.Device.{Device}
 use Rattle.api_slice.specs.declared.types.Nodes.{Nodes}
 
@@ -59,19 +58,19 @@ abbrev pub devices_of : Columns → List Device
 devices_of c = devices_with c.names c.attributes c.capacity c.consumes c.nodes
 
 -- names, attributes, capacities, what is drawn, and where
-abbrev pub columns_of : List ℕ → List CounterSet → Bool → List Step → Items → Result Columns FieldError
-columns_of driver sets per_device path ds =
+abbrev pub columns_of : List ℕ → Bool → List Step → Items → Result Columns FieldError
+columns_of driver per_device path ds =
     each_beside new_device_name path ds >>= λ names.
     each (attributes_of driver) path ds >>= λ attributes.
     each (capacity_of driver) path ds >>= λ capacity.
-    each (consumes_of sets) path ds >>= λ consumes.
+    each consumes_of path ds >>= λ consumes.
     each (device_nodes_of per_device) path ds >>= λ nodes.
     Ok (record { names = names; attributes = attributes; capacity = capacity; consumes = consumes; nodes = nodes })
 
 -- the columns, then the members that are left out
-abbrev pub rows_of : List ℕ → List CounterSet → Bool → List Step → Items → Result (List Device) FieldError
-rows_of driver sets per_device path ds =
-    columns_of driver sets per_device path ds >>= λ columns.
+abbrev pub rows_of : List ℕ → Bool → List Step → Items → Result (List Device) FieldError
+rows_of driver per_device path ds =
+    columns_of driver per_device path ds >>= λ columns.
     nothing_more_from path 0 ds >>= λ nothing.
     Ok (devices_of columns)
 
@@ -80,7 +79,7 @@ abbrev pub devices_most : ℕ
 devices_most = 128
 
 -- devices may be missing
-abbrev pub devices_at : List ℕ → List CounterSet → Bool → List Step → Data → Result (List Device) FieldError
-devices_at driver sets per_device path spec =
+abbrev pub devices_at : List ℕ → Bool → List Step → Data → Result (List Device) FieldError
+devices_at driver per_device path spec =
     optional_at (short_list_at devices_most) path (codes "devices") spec >>= λ ds.
-    rows_of driver sets per_device (path ++ Member (codes "devices") ∷ []) (items_or_none ds)
+    rows_of driver per_device (path ++ Member (codes "devices") ∷ []) (items_or_none ds)

@@ -1,6 +1,6 @@
 -- The limits and the name rules that each slice keeps that is read (API reference of
 -- resource.k8s.io/v1).
-use Rattle.std.specs.Prelude.{◌≡◌, ℕ, ◌≤◌, ◌≢◌, ℤ, pos, Bool, true, List, [], map, length, Option, Some, is_some, codes, false}
+use Rattle.std.specs.Prelude.{◌≡◌, ℕ, ◌≤◌, ◌≢◌, ◌||◌, ℤ, pos, Bool, true, List, [], map, length, Option, Some, is_some, codes, false}
 use Rattle.std.specs.List.{All, sum_by}
 use Rattle.std.specs.Map.{keys_of, values_of}
 use Rattle.node_select.specs.declared.requirement.Requirement.{Requirement}
@@ -11,12 +11,12 @@ use Rattle.object_fields.specs.Limits.{VersionKept}
 use Rattle.object_fields.specs.Meta.{name_most}
 use Rattle.object_fields.specs.Names.{is_dns_label, is_dns_name, is_pool_name, pool_most}
 use Rattle.object_fields.specs.NewNames.{AreDifferent}
-use Rattle.api_slice.specs.Consumption.{amounts_most, find_set, has_counter}
+use Rattle.api_slice.specs.Consumption.{amounts_most}
 use Rattle.api_slice.specs.Counters.{counters_most}
 use Rattle.api_slice.specs.Devices.{devices_most}
 use Rattle.api_slice.specs.Drivers.{IsDriver}
 use Rattle.api_slice.specs.Fields.{SliceFields}
-use Rattle.api_slice.specs.Nodes.{is_per_device}
+use Rattle.api_slice.specs.Nodes.{is_empty, is_per_device}
 use Rattle.api_slice.specs.Properties.{AreProperties}
 use Rattle.api_slice.specs.Slices.{signed_most}
 use Rattle.api_slice.specs.declared.types.CounterConsumption.{CounterConsumption}
@@ -91,19 +91,16 @@ pub record IsCounterSet (c : CounterSet) : Type 0 where
   pub counters : All IsLabel (keys_of c.counters)
   pub amounts : All IsAmount (values_of c.counters)
 
--- what is drawn from a set of the slice, by counters of that set
-pub record DrawsOn (sets : List CounterSet) (c : CounterConsumption) : Type 0 where
-  pub set : CounterSet
-  pub is_set : find_set c.set sets ≡ Some set
-  pub counters : All (λ name. has_counter name set.counters ≡ true) (keys_of c.amounts)
+-- what is drawn from one counter set
+pub record IsDraw (c : CounterConsumption) : Type 0 where
   pub amounts : All IsAmount (values_of c.amounts)
 
 -- ---- devices
 
--- of a slice with these counter sets, in which each device has nodes of its own or none has
-pub record KeepsLimits (sets : List CounterSet) (per_device : Bool) (d : Device) : Type 0 where
+-- of a slice in which each device has nodes of its own or none has
+pub record KeepsLimits (per_device : Bool) (d : Device) : Type 0 where
   pub properties : AreProperties d.properties
-  pub draws : All (DrawsOn sets) d.consumes
+  pub draws : All IsDraw d.consumes
   pub draws_once : AreDifferent (map (λ c. c.set) d.consumes)
   pub drawn : sum_by (λ c. length c.amounts) d.consumes ≤ amounts_most
   pub nodes : IsDue per_device d.nodes
@@ -117,6 +114,7 @@ pub record IsPool (p : Pool) : Type 0 where
   pub slices_least : 1 ≤ p.slices
   pub slices_most : p.slices ≤ signed_most
 
+-- a slice has devices or counter sets, not both
 pub record IsWithinLimits (s : SliceFields) : Type 0 where
   pub name : length s.name ≤ name_most
   pub name_form : is_dns_name s.name ≡ true
@@ -130,4 +128,5 @@ pub record IsWithinLimits (s : SliceFields) : Type 0 where
   pub device_count : length s.devices ≤ devices_most
   pub device_names : All IsLabel (map (λ d. d.name) s.devices)
   pub device_names_differ : AreDifferent (map (λ d. d.name) s.devices)
-  pub devices : All (KeepsLimits s.counters (is_per_device s.nodes)) s.devices
+  pub devices : All (KeepsLimits (is_per_device s.nodes)) s.devices
+  pub one_kind : (is_empty s.counters || is_empty s.devices) ≡ true

@@ -40,7 +40,7 @@ spec_in name version path spec =
     pool_at path spec >>= λ pool.
     slice_nodes_at path spec >>= λ nodes.
     counter_sets_at path spec >>= λ counters.
-    devices_at driver counters (is_per_device nodes) path spec >>= λ devices.
+    devices_at driver (is_per_device nodes) path spec >>= λ devices.
     Ok (record { name = name; version = version; driver = driver; pool = pool; nodes = nodes; counters = counters; devices = devices })
 
 abbrev pub spec_at : List ℕ → Option ℕ → Data → Result ResourceSlice FieldError

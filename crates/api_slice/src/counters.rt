@@ -4,11 +4,11 @@ ghost use Rattle.object_fields.specs.Fields.{Reads};
 ghost use Rattle.api_slice.specs.Counters as fields;
 
 use crate::amount::read_amount;
-use crate::lists::{count_on, items_or_none};
+use crate::lists::{count_on, is_empty_or_none, items_or_none};
 use crate::types::CounterSet;
-use dra_values::{Table, Text};
+use dra_values::{Seq, Table, Text};
 use object_fields::{
-    ByName, FieldError, FieldErrorKind, HasName, Path, label_of, optional_list, or_memory,
+    ByName, FieldError, FieldErrorKind, HasName, Path, label_of, member, optional_list, or_memory,
     read_dns_label, table, value_object,
 };
 use quantity::Quantity;
@@ -18,17 +18,30 @@ use std::alloc::Global;
 /// The most counters of a slice (API reference of `resource.k8s.io/v1`).
 const COUNTERS_MOST: usize = 32;
 
-/// The counter sets of a spec; none where they are missing.
+/// The counter sets of a spec; none where they are missing. It is NotOne at `sharedCounters` where
+/// there are devices besides.
 pub(crate) fn read_counter_sets(
     alloc: Global,
     spec: &Value,
     path: &Path,
-) -> Result<ByName<CounterSet>, FieldError>
+) -> Result<Seq<CounterSet>, FieldError>
     ensures { Reads result (fields.counter_sets_at path.now (view spec.now)) }
 {
-    let values = optional_list(alloc, spec, path, "sharedCounters")?;
+    let values = items_or_none(optional_list(alloc, spec, path, "sharedCounters")?);
+    check_alone(alloc, spec, path, values)?;
     let path = path.member(alloc, "sharedCounters")?;
-    each_set(alloc, items_or_none(values), &path)
+    each_set(alloc, values, &path)
+}
+
+/// Nothing where there are no counter sets or no devices, else NotOne.
+fn check_alone(alloc: Global, spec: &Value, path: &Path, sets: &[Value]) -> Result<(), FieldError>
+    ensures { Reads result (fields.alone_at path.now (view spec.now) (items_view sets.now)) }
+{
+    if !sets.is_empty() && !is_empty_or_none(member(spec, "devices")) {
+        Err(FieldError::of_field(alloc, path, "sharedCounters", FieldErrorKind::NotOne))
+    } else {
+        Ok(())
+    }
 }
 
 /// A set is found by its name.
@@ -40,7 +53,7 @@ impl HasName for CounterSet {
     }
 }
 
-fn each_set(alloc: Global, values: &[Value], path: &Path) -> Result<ByName<CounterSet>, FieldError>
+fn each_set(alloc: Global, values: &[Value], path: &Path) -> Result<Seq<CounterSet>, FieldError>
     ensures { Reads result (fields.sets_from path.now 0 0 [] (items_view values.now)) }
 {
     let mut sets = ByName::empty(alloc);
@@ -52,7 +65,7 @@ fn each_set(alloc: Global, values: &[Value], path: &Path) -> Result<ByName<Count
         sets = or_memory(alloc, sets.with(alloc, CounterSet { name, counters }))?;
         met = more;
     }
-    Ok(sets)
+    Ok(sets.into_seq())
 }
 
 /// The name of a set that none of these has.

@@ -16,7 +16,7 @@ use crate::driver::DriverName;
 use crate::lists::items_or_none;
 use crate::nodes::read_device_nodes;
 use crate::properties::Properties;
-use crate::types::{Attribute, CounterConsumption, CounterSet, Device, Nodes};
+use crate::types::{Attribute, CounterConsumption, Device, Nodes};
 use dra_values::{Seq, Table, Text};
 use object_fields::{
     ByName, FieldError, FieldErrorKind, Path, QualName, optional_short_list, or_memory,
@@ -30,29 +30,21 @@ use std::alloc::{AllocError, Global};
 const MAX_DEVICES_PER_SLICE: usize = 128;
 
 /// The devices of a spec; none where they are missing. Each row of fields is read of all devices
-/// before the next row of any. The driver, the counter sets and `per_device`, whether each device
-/// has its own nodes, are the slice's.
+/// before the next row of any. The driver and `per_device`, whether each device has its own nodes, are
+/// the slice's.
 pub(crate) fn read_devices(
     alloc: Global,
     spec: &Value,
     path: &Path,
     driver: &DriverName,
-    sets: &ByName<CounterSet>,
     per_device: bool,
 ) -> Result<Seq<Device>, FieldError>
     ensures { Reads result
-        (fields.devices_at driver.now sets.now per_device path.now (view spec.now)) }
+        (fields.devices_at driver.now per_device path.now (view spec.now)) }
 {
     let values = optional_short_list(alloc, spec, path, "devices", MAX_DEVICES_PER_SLICE)?;
     let path = path.member(alloc, "devices")?;
-    read_rows(
-        alloc,
-        items_or_none(values),
-        &path,
-        driver,
-        sets,
-        per_device,
-    )
+    read_rows(alloc, items_or_none(values), &path, driver, per_device)
 }
 
 #[tactic(auto, using(crate::proofs::Limits::paired))]
@@ -61,14 +53,13 @@ fn read_rows(
     values: &[Value],
     path: &Path,
     driver: &DriverName,
-    sets: &ByName<CounterSet>,
     per_device: bool,
 ) -> Result<Seq<Device>, FieldError>
     ensures { Reads result
-        (fields.rows_of driver.now sets.now per_device path.now (items_view values.now)) }
+        (fields.rows_of driver.now per_device path.now (items_view values.now)) }
 {
     let name = driver.as_text().as_str();
-    let columns = read_columns(alloc, values, path, name, sets, per_device)?;
+    let columns = read_columns(alloc, values, path, name, per_device)?;
     each_nothing_more(alloc, values, path)?;
     or_memory(alloc, devices_of(alloc, columns))
 }
@@ -88,16 +79,15 @@ fn read_columns(
     values: &[Value],
     path: &Path,
     driver: &str,
-    sets: &ByName<CounterSet>,
     per_device: bool,
 ) -> Result<Columns, FieldError>
     ensures { Reads result
-        (fields.columns_of driver.now sets.now per_device path.now (items_view values.now)) }
+        (fields.columns_of driver.now per_device path.now (items_view values.now)) }
 {
     let names = each_name(alloc, values, path)?;
     let attributes = each_attributes(alloc, values, path, driver)?;
     let capacity = each_capacity(alloc, values, path, driver)?;
-    let consumes = each_consumption(alloc, values, path, sets)?;
+    let consumes = each_consumption(alloc, values, path)?;
     let nodes = each_nodes(alloc, values, path, per_device)?;
     Ok(Columns {
         names,
@@ -176,14 +166,13 @@ fn each_consumption(
     alloc: Global,
     values: &[Value],
     path: &Path,
-    sets: &ByName<CounterSet>,
 ) -> Result<Seq<Seq<CounterConsumption>>, FieldError>
-    ensures { Reads result (each (consumes_of sets.now) path.now (items_view values.now)) }
+    ensures { Reads result (each consumes_of path.now (items_view values.now)) }
 {
     let mut column = Seq::empty(alloc);
     for place in 0..values.len() {
         let at = path.place(alloc, place)?;
-        let consumes = read_consumption(alloc, &values[place], &at, sets)?;
+        let consumes = read_consumption(alloc, &values[place], &at)?;
         or_memory(alloc, column.push(consumes))?;
     }
     Ok(column)

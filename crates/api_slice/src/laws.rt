@@ -25,8 +25,8 @@ use object_fields::{labels_are_names, metadata_keeps_limits, names_are_new};
 /// - of each device the names of attributes and capacities have a DNS subdomain of at most 63 bytes
 ///   and a C identifier of at most 32, strings and versions have at most 64 characters, a version is
 ///   one of Semantic Versioning 2.0.0, and attributes and capacities are at most 32 together
-/// - a device draws at most 32 amounts, none negative, on counters of sets of the slice, and on a set
-///   at most once
+/// - it has devices or counter sets, not both
+/// - a device draws at most 32 amounts, none negative, and on a counter set at most once
 /// - a device has nodes of its own if and only if the slice has `perDeviceNodeSelection`
 /// - a node's name isn't empty; a node selector has a value for each In and NotIn, and asks of fields
 ///   only with these, of `metadata.name`

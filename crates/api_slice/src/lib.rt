@@ -1,4 +1,4 @@
-//! ResourceSlices: the devices that a driver offers, as fields of `resource.k8s.io/v1`.
+//! ResourceSlices: the devices or counter sets that a driver offers, as fields of `resource.k8s.io/v1`.
 #![tactic(auto)]
 
 mod amount;

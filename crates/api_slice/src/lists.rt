@@ -2,7 +2,7 @@ ghost use Rattle.std.specs.Prelude.{◌≡◌, ◌+◌, nat_lt, option_map};
 ghost use Rattle.serde_json.specs.View.{items_view, members_view, view};
 ghost use Rattle.object_fields.specs.Fields.{Reads};
 ghost use Rattle.object_fields.specs.Lists.{items_or_none};
-ghost use Rattle.api_slice.specs.Lists.{count_on, count_at, members_length};
+ghost use Rattle.api_slice.specs.Lists.{count_on, count_at, is_empty_or_none, members_length};
 
 use object_fields::{FieldError, FieldErrorKind, Path, member};
 use serde_json::{Map, Value};
@@ -15,6 +15,17 @@ pub(crate) fn items_or_none(items: Option<&[Value]>) -> &[Value]
     match items {
         Some(items) => items,
         None => &[],
+    }
+}
+
+/// Whether a member is an empty list, or missing.
+pub(crate) fn is_empty_or_none(value: Option<&Value>) -> bool
+    ensures { result ≡ is_empty_or_none (option_map (λ v. view v.now) value.entry) }
+{
+    match value {
+        Some(Value::Array(items)) => items.is_empty(),
+        Some(_) => false,
+        None => true,
     }
 }
 

@@ -33,9 +33,10 @@ impl ResourceSlice {
     ///   OutOfRange
     /// - `spec.nodeName`, `nodeSelector`, `allNodes` and `perDeviceNodeSelection`, of which just one
     ///   is set, else NotOne at `spec`; false and the empty text are unset
-    /// - `spec.sharedCounters`, which may be missing: sets with a `name` (a DNS label, Doubled where
-    ///   a set before has it) and `counters`, each a DNS label with a `value` that isn't negative;
-    ///   with more than 32 counters in all it is TooMany
+    /// - `spec.sharedCounters`, which may be missing, and is NotOne unless it or `spec.devices` is
+    ///   missing, null or an empty list: sets with a `name` (a DNS label, Doubled where a set before
+    ///   has it) and `counters`, each a DNS label with a `value` that isn't negative; with more than
+    ///   32 counters in all it is TooMany
     /// - `spec.devices`, which may be missing: at most 128 (TooMany), each with a `name` (a DNS
     ///   label, Doubled where a device before has it)
     /// - `attributes` of a device, which may be missing: each a qualified name (Doubled where a key
@@ -45,9 +46,9 @@ impl ResourceSlice {
     /// - `capacity` of a device, which may be missing: each a qualified name (Doubled) with a
     ///   quantity as its `value`, and without a `requestPolicy` (NotSupported); with the attributes
     ///   at most 32, else TooMany
-    /// - `consumesCounters` of a device, which may be missing: each with a `counterSet` of the slice
-    ///   (Unknown), which appears once (Doubled), and `counters` of that set (Unknown) with a `value`
-    ///   that isn't negative; with more than 32 of these in all it is TooMany
+    /// - `consumesCounters` of a device, which may be missing: each with a `counterSet`, any text that
+    ///   appears once (Doubled), and `counters`, any texts with a `value` that isn't negative; with
+    ///   more than 32 of these in all it is TooMany
     /// - `nodeName`, `nodeSelector` and `allNodes` of a device: just one where the slice has
     ///   `perDeviceNodeSelection`, else none, NotOne at the device
     /// - `taints`, `allowMultipleAllocations`, `bindingConditions`, `bindingFailureConditions` and
@@ -98,14 +99,14 @@ fn read_spec(
     let pool = read_pool(alloc, spec, path)?;
     let nodes = read_slice_nodes(alloc, spec, path)?;
     let counters = read_counter_sets(alloc, spec, path)?;
-    let devices = read_devices(alloc, spec, path, &driver, &counters, is_per_device(&nodes))?;
+    let devices = read_devices(alloc, spec, path, &driver, is_per_device(&nodes))?;
     Ok(ResourceSlice {
         name,
         version,
         driver,
         pool,
         nodes,
-        counters: counters.into_seq(),
+        counters,
         devices,
     })
 }

@@ -9,7 +9,8 @@ use quantity::Quantity;
 use std::alloc::{AllocError, Global};
 use std::marker::Model;
 
-/// A ResourceSlice of `resource.k8s.io/v1`: devices that a driver offers.
+/// A ResourceSlice of `resource.k8s.io/v1`: devices that a driver offers, or counter sets on which the
+/// devices of its pool draw, not both.
 ///
 /// Each slice keeps the limits and name rules given at its fields and at those of its parts;
 /// contracts see the record of its fields.
@@ -63,7 +64,7 @@ pub enum Nodes {
     All,
 }
 
-/// A counter set: amounts that the devices of a slice share (KEP 4815).
+/// A counter set: amounts that the devices of its pool share (KEP 4815).
 #[derive(Drop)]
 pub struct CounterSet {
     /// A DNS label, which no other set of the slice has.
@@ -96,12 +97,12 @@ pub enum Attribute {
     Version(Text),
 }
 
-/// What a device draws from one counter set of its slice.
+/// What a device draws from one counter set of its pool (KEP 4815).
 #[derive(Drop)]
 pub struct CounterConsumption {
-    /// The name of a counter set of the slice.
+    /// The name of a counter set of the pool, any text; that the pool has such a set isn't certain.
     pub set: Text,
-    /// The amount from each counter by its name, a counter of that set; none is negative.
+    /// The amount from each counter of that set by its name, any text; none is negative.
     pub amounts: Table<Text, Quantity>,
 }
 

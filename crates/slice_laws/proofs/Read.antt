@@ -1,8 +1,7 @@
 -- What a reading that returned a value says about its steps.
-use Rattle.std.proofs.Common.{◌≡◌, ◌∙◌, ℕ, ◌+◌, ◌≤◌, nat_lt, Bool, true, false, cond, List, [], ◌∷◌, ◌++◌, Option, Some, None, Result, Ok, Err, append_assoc, arith, codes, refl, subst, sym}
+use Rattle.std.proofs.Common.{◌≡◌, ◌∙◌, ℕ, ◌+◌, ◌≤◌, nat_lt, Bool, true, false, List, [], ◌∷◌, ◌++◌, Option, Some, None, Result, Ok, Err, append_assoc, arith, codes, refl, subst, sym}
 use Rattle.std.proofs.lemmas.Bool.Decides.{nat_tests}
 use Rattle.std.proofs.lemmas.List.{append-nil}
-use Rattle.std.specs.Str.{bytes_eq}
 use Rattle.serde_json.specs.Data.{Data, Items, no_items, item, Members}
 use Rattle.object_fields.specs.Fields.{dns_label_at, error_at, object_value, some_or, unless, ◌>>=◌}
 use Rattle.object_fields.specs.Lists.{alone, each, each_from}
@@ -11,9 +10,7 @@ use Rattle.object_fields.specs.declared.error.FieldError.{FieldError}
 use Rattle.object_fields.specs.declared.kind.FieldErrorKind.TheVariants.{Doubled, TooMany}
 use Rattle.object_fields.specs.declared.path.Step.{Step}
 use Rattle.object_fields.specs.declared.path.Step.TheVariants as step
-use Rattle.api_slice.specs.Consumption.{find_set}
 use Rattle.api_slice.specs.Lists.{count_on, members_length}
-use Rattle.api_slice.specs.declared.types.CounterSet.{CounterSet}
 
 pub record Gave {A B : Type 0} (r : Result A FieldError) (f : A → Result B FieldError) (y : B) : Type 0 where
   pub value : A
@@ -80,18 +77,10 @@ pub record Labels : Type 0 where
   pub label_once : (path : List Step) (d : Data) (e : FieldError) → dns_label_at path (codes "name") d ≡ Err e → e.kind ≡ Doubled → ⊥
   pub object_once : (path : List Step) (d : Data) (e : FieldError) → object_value path d ≡ Err e → e.kind ≡ Doubled → ⊥
 
--- ---- counts and sets
+-- ---- counts
 
 pub counted_on : (path : List Step) (most met : ℕ) (ms : Members) (n : ℕ) → count_on path most met ms ≡ Ok n → (met + members_length ms ≡ n) × (n ≤ most)
 counted_on path most met ms n h =
     let b = not_refused (error_at path TooMany) (nat_lt most (met + members_length ms)) (met + members_length ms) n h in
     let e : met + members_length ms ≡ n = kept (error_at path TooMany) (nat_lt most (met + members_length ms)) (met + members_length ms) n h in
     (e, along (λ x. x ≤ most) (met + members_length ms) n e (at_most most (met + members_length ms) b))
-
-pub found : (name : List ℕ) (sets : List CounterSet) (s : CounterSet) → find_set name sets ≡ Some s → bytes_eq s.name name ≡ true
-found name [] s h = absurd (let no_value : ⊥ = cc in no_value)
-found name (x ∷ xs) s h =
-    (elim (bytes_eq x.name name) as (λ b. bytes_eq x.name name ≡ b → cond b (Some x) (find_set name xs) ≡ Some s → bytes_eq s.name name ≡ true) [
-      | true ↦ λ e k. let same : x ≡ s = cc in along (λ (y : CounterSet). bytes_eq y.name name ≡ true) x s same e
-      | false ↦ λ e k. found name xs s k
-    ]) refl h

@@ -2,13 +2,13 @@
 use Rattle.std.specs.Prelude.{◌≡◌, ℕ, ◌+◌, ◌<◌, zero, suc, true, List, [], ◌∷◌, ◌++◌, map, length, Option, Some, Result, Ok, codes, option_and_then}
 use Rattle.serde_json.specs.Data.{Data, Items, no_items, item}
 use Rattle.serde_json.specs.Find.{as_str}
-use Rattle.object_fields.specs.Fields.{error_at, field_error, member_of, object_value, some_or, table_at, text_at, ◌>>=◌}
+use Rattle.object_fields.specs.Fields.{error_at, field_error, member_of, object_value, table_at, text_at, ◌>>=◌}
 use Rattle.object_fields.specs.NewNames.{is_among, label_of}
 use Rattle.object_fields.specs.declared.error.FieldError.{FieldError}
-use Rattle.object_fields.specs.declared.kind.FieldErrorKind.TheVariants.{Doubled, TooMany, Unknown}
+use Rattle.object_fields.specs.declared.kind.FieldErrorKind.TheVariants.{Doubled, TooMany}
 use Rattle.object_fields.specs.declared.path.Step.{Step}
 use Rattle.object_fields.specs.declared.path.Step.TheVariants.{Member, Place}
-use Rattle.api_slice.specs.Consumption.{amounts_with, find_set}
+use Rattle.api_slice.specs.Consumption.{amounts_with}
 use Rattle.api_slice.specs.Counters.{counters_with}
 use Rattle.api_slice.specs.Lists.{count_at}
 use Rattle.api_slice.specs.declared.types.CounterConsumption.{CounterConsumption}
@@ -59,19 +59,17 @@ set_alone path d =
 abbrev pub set_names : List CounterSet → List (List ℕ)
 set_names sets = map (λ (s : CounterSet). s.name) sets
 
--- the set of the slice that an item names
-abbrev pub set_drawn_on : List CounterSet → List Step → Data → Result CounterSet FieldError
-set_drawn_on sets path d =
-    object_value path d >>= text_at path (codes "counterSet") >>= λ name.
-    some_or (field_error path (codes "counterSet") Unknown) (find_set name sets)
+-- the name of the set from which an item draws
+abbrev pub set_drawn_on : List Step → Data → Result (List ℕ) FieldError
+set_drawn_on path d = object_value path d >>= text_at path (codes "counterSet")
 
--- what is drawn from a set of the slice, by itself
-abbrev pub draw_alone : List CounterSet → List Step → Data → Result CounterConsumption FieldError
-draw_alone sets path d =
-    set_drawn_on sets path d >>= λ set.
+-- what is drawn from a set, by itself
+abbrev pub draw_alone : List Step → Data → Result CounterConsumption FieldError
+draw_alone path d =
+    set_drawn_on path d >>= λ set.
     table_at path (codes "counters") d >>= λ ms.
-    amounts_with set.counters (path ++ Member (codes "counters") ∷ []) [] ms >>= λ amounts.
-    Ok (record { set = set.name; amounts = amounts })
+    amounts_with (path ++ Member (codes "counters") ∷ []) [] ms >>= λ amounts.
+    Ok (record { set = set; amounts = amounts })
 
 abbrev pub sets_drawn_on : List CounterConsumption → List (List ℕ)
 sets_drawn_on draws = map (λ (c : CounterConsumption). c.set) draws

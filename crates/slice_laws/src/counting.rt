@@ -38,16 +38,16 @@ pub fn counter_sets_are_counted()
 /// The same of what a device draws from counter sets, of at most 32 amounts in all, where no two items
 /// name the same set.
 pub fn draws_are_counted()
-    ensures read { (all : List CounterSet) (path : List Step) (ds : Items) (draws : List CounterConsumption) →
-        each (draw_alone all) path ds ≡ Ok draws → AreNew [] (sets_drawn_on draws) → counted ds ≤ amounts_most → draws_from all path 0 0 [] ds ≡ Ok draws }
-    ensures many { (all : List CounterSet) (path : List Step) (ds : Items) (draws : List CounterConsumption) →
-        each (draw_alone all) path ds ≡ Ok draws → AreNew [] (sets_drawn_on draws) → amounts_most < counted ds → draws_from all path 0 0 [] ds ≡ Err (error_at path TooMany) }
-    ensures doubled { (all : List CounterSet) (path : List Step) (ds : Items) (before behind : List CounterConsumption) (draw : CounterConsumption) →
-        each (draw_alone all) path ds ≡ Ok (before ++ draw ∷ behind) → AreNew [] (sets_drawn_on before) → counted_first (length before) ds ≤ amounts_most → is_among draw.set (sets_drawn_on before) ≡ true →
-        draws_from all path 0 0 [] ds ≡ Err (field_error (path ++ Place (length before) ∷ []) (codes "counterSet") Doubled) }
-    ensures few { (all : List CounterSet) (path : List Step) (ds : Items) (draws : List CounterConsumption) → draws_from all path 0 0 [] ds ≡ Ok draws → counted ds ≤ amounts_most }
-    ensures only_many { (all : List CounterSet) (path : List Step) (ds : Items) (e : FieldError) → draws_from all path 0 0 [] ds ≡ Err e → e.kind ≡ TooMany → IsOverSum amounts_most path ds e }
-    ensures only_doubled { (all : List CounterSet) (path : List Step) (ds : Items) (e : FieldError) → draws_from all path 0 0 [] ds ≡ Err e → e.kind ≡ Doubled → IsRepeated (codes "counterSet") path ds e }
+    ensures read { (path : List Step) (ds : Items) (draws : List CounterConsumption) →
+        each draw_alone path ds ≡ Ok draws → AreNew [] (sets_drawn_on draws) → counted ds ≤ amounts_most → draws_from path 0 0 [] ds ≡ Ok draws }
+    ensures many { (path : List Step) (ds : Items) (draws : List CounterConsumption) →
+        each draw_alone path ds ≡ Ok draws → AreNew [] (sets_drawn_on draws) → amounts_most < counted ds → draws_from path 0 0 [] ds ≡ Err (error_at path TooMany) }
+    ensures doubled { (path : List Step) (ds : Items) (before behind : List CounterConsumption) (draw : CounterConsumption) →
+        each draw_alone path ds ≡ Ok (before ++ draw ∷ behind) → AreNew [] (sets_drawn_on before) → counted_first (length before) ds ≤ amounts_most → is_among draw.set (sets_drawn_on before) ≡ true →
+        draws_from path 0 0 [] ds ≡ Err (field_error (path ++ Place (length before) ∷ []) (codes "counterSet") Doubled) }
+    ensures few { (path : List Step) (ds : Items) (draws : List CounterConsumption) → draws_from path 0 0 [] ds ≡ Ok draws → counted ds ≤ amounts_most }
+    ensures only_many { (path : List Step) (ds : Items) (e : FieldError) → draws_from path 0 0 [] ds ≡ Err e → e.kind ≡ TooMany → IsOverSum amounts_most path ds e }
+    ensures only_doubled { (path : List Step) (ds : Items) (e : FieldError) → draws_from path 0 0 [] ds ≡ Err e → e.kind ≡ Doubled → IsRepeated (codes "counterSet") path ds e }
 {
     labels_are_names();
 }

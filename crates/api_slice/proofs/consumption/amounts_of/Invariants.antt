@@ -8,5 +8,5 @@ abbrev pub invariant-loop-key : goal.invariant-loop-key
 invariant-loop-key l = record {
   can : (goal.iterator-loop-key).can_next l.key-iterator;
   finite : (goal.iterator-loop-key).is_finite l.key-iterator;
-  rest : amounts_with l.counters l.path l.amounts (members_view l.key-iterator) ≡ amounts_with l.counters l.path [] (members_view l.members.entries);
+  rest : amounts_with l.path l.amounts (members_view l.key-iterator) ≡ amounts_with l.path [] (members_view l.members.entries);
 }

@@ -6,4 +6,4 @@ use Rattle.api_slice.proofs.consumption.each_draw.Given as goal
 -- the draws that are left, after those read, are all draws
 abbrev pub invariant-loop-place : goal.invariant-loop-place
 invariant-loop-place l =
-    draws_from l.sets l.path l.place l.met l.draws (items_view (drop l.place l.values)) ≡ draws_from l.sets l.path 0 0 [] (items_view l.values)
+    draws_from l.path l.place l.met l.draws (items_view (drop l.place l.values)) ≡ draws_from l.path 0 0 [] (items_view l.values)
