@@ -19,6 +19,9 @@ use Rattle.object_fields.specs.declared.meta.Scope.TheVariants.{Cluster}
 use Rattle.object_fields.specs.declared.path.Step.{Step}
 use Rattle.object_fields.specs.declared.path.Step.TheVariants as step
 use Rattle.object_fields.specs.declared.qualified.QualName.{QualName}
+use Rattle.device_taints.specs.Limits.{TaintsKept}
+use Rattle.device_taints.specs.Reading.{taints_at}
+use Rattle.device_taints.specs.declared.types.Taint.{Taint}
 use Rattle.api_slice.specs.Attributes.{attributes_in, attributes_of}
 use Rattle.api_slice.specs.Capacity.{capacity_in, capacity_of, together_at, together_most}
 use Rattle.api_slice.specs.Consumption.{consumes_of}
@@ -64,32 +67,45 @@ are_properties driver path d attributes capacity is a c =
       together = omega (arith, most, these, those, t.size, u.size);
     }
 
-device_keeps : (driver : List ℕ) (per_device : Bool) (path : List Step) (d : Data) (x : Device) → IsDriver driver → attributes_of driver path d ≡ Ok x.properties.attributes → capacity_of driver path d ≡ Ok x.properties.capacity → consumes_of path d ≡ Ok x.consumes → device_nodes_of per_device path d ≡ Ok x.nodes → KeepsLimits per_device x
-device_keeps driver per_device path d x is a c draws own =
-    let drawn = all_drawn path d x.consumes draws in
+-- taints keep their limits
+abbrev pub TaintsLaw : Type 0
+TaintsLaw = (path : List Step) (d : Data) (taints : List Taint) → taints_at path d ≡ Ok taints → TaintsKept taints
+
+record DeviceRead (driver : List ℕ) (per_device : Bool) (path : List Step) (d : Data) (x : Device) : Type 0 where
+  attributes : attributes_of driver path d ≡ Ok x.properties.attributes
+  capacity : capacity_of driver path d ≡ Ok x.properties.capacity
+  consumes : consumes_of path d ≡ Ok x.consumes
+  nodes : device_nodes_of per_device path d ≡ Ok x.nodes
+  taints : taints_at path d ≡ Ok x.taints
+
+device_keeps : TaintsLaw → (driver : List ℕ) (per_device : Bool) (path : List Step) (d : Data) (x : Device) → IsDriver driver → DeviceRead driver per_device path d x → KeepsLimits per_device x
+device_keeps law driver per_device path d x is r =
+    let drawn = all_drawn path d x.consumes r.consumes in
     record {
-      properties = are_properties driver path d x.properties.attributes x.properties.capacity is a c;
+      properties = are_properties driver path d x.properties.attributes x.properties.capacity is r.attributes r.capacity;
       draws = drawn.all;
       draws_once = drawn.different;
       drawn = omega (arith, drawn.total, drawn.few);
-      nodes = nodes_due per_device path d x.nodes own;
+      nodes = nodes_due per_device path d x.nodes r.nodes;
+      taints = law path d x.taints r.taints;
     }
 
 -- ---- all devices
 
-devices_keep : (driver : List ℕ) (per_device : Bool) (path : List Step) (place : ℕ) (ds : Items) (names : List (List ℕ)) (attributes : List (List (QualName × Attribute))) (capacity : List (List (QualName × ℤ))) (consumes : List (List CounterConsumption)) (nodes : List (Option Nodes)) →
-    IsDriver driver → Column (attributes_of driver) path place attributes ds → Column (capacity_of driver) path place capacity ds → Column consumes_of path place consumes ds → Column (device_nodes_of per_device) path place nodes ds → All (KeepsLimits per_device) (devices_with names attributes capacity consumes nodes)
-devices_keep driver per_device path place ds [] attributes capacity consumes nodes is a c q w = All-nil (KeepsLimits per_device)
-devices_keep driver per_device path place ds (n ∷ ns) [] capacity consumes nodes is a c q w = All-nil (KeepsLimits per_device)
-devices_keep driver per_device path place ds (n ∷ ns) (x ∷ xs) [] consumes nodes is a c q w = All-nil (KeepsLimits per_device)
-devices_keep driver per_device path place ds (n ∷ ns) (x ∷ xs) (y ∷ ys) [] nodes is a c q w = All-nil (KeepsLimits per_device)
-devices_keep driver per_device path place ds (n ∷ ns) (x ∷ xs) (y ∷ ys) (k ∷ ks) [] is a c q w = All-nil (KeepsLimits per_device)
-devices_keep driver per_device path place no_items (n ∷ ns) (x ∷ xs) (y ∷ ys) (k ∷ ks) (o ∷ os) is a c q w = absurd a
-devices_keep driver per_device path place (item d ds) (n ∷ ns) (x ∷ xs) (y ∷ ys) (k ∷ ks) (o ∷ os) is a c q w =
-    let one : Device = record { name = n; properties = record { attributes = x; capacity = y }; consumes = k; nodes = o } in
-    All-cons (KeepsLimits per_device) one (devices_with ns xs ys ks os)
-    (device_keeps driver per_device (path ++ step.Place place ∷ []) d one is a.0 c.0 q.0 w.0)
-    (devices_keep driver per_device path (place + 1) ds ns xs ys ks os is a.1 c.1 q.1 w.1)
+devices_keep : TaintsLaw → (driver : List ℕ) (per_device : Bool) (path : List Step) (place : ℕ) (ds : Items) (names : List (List ℕ)) (attributes : List (List (QualName × Attribute))) (capacity : List (List (QualName × ℤ))) (consumes : List (List CounterConsumption)) (nodes : List (Option Nodes)) (taints : List (List Taint)) →
+    IsDriver driver → Column (attributes_of driver) path place attributes ds → Column (capacity_of driver) path place capacity ds → Column consumes_of path place consumes ds → Column (device_nodes_of per_device) path place nodes ds → Column taints_at path place taints ds → All (KeepsLimits per_device) (devices_with names attributes capacity consumes nodes taints)
+devices_keep law driver per_device path place ds [] attributes capacity consumes nodes taints is a c q w t = All-nil (KeepsLimits per_device)
+devices_keep law driver per_device path place ds (n ∷ ns) [] capacity consumes nodes taints is a c q w t = All-nil (KeepsLimits per_device)
+devices_keep law driver per_device path place ds (n ∷ ns) (x ∷ xs) [] consumes nodes taints is a c q w t = All-nil (KeepsLimits per_device)
+devices_keep law driver per_device path place ds (n ∷ ns) (x ∷ xs) (y ∷ ys) [] nodes taints is a c q w t = All-nil (KeepsLimits per_device)
+devices_keep law driver per_device path place ds (n ∷ ns) (x ∷ xs) (y ∷ ys) (k ∷ ks) [] taints is a c q w t = All-nil (KeepsLimits per_device)
+devices_keep law driver per_device path place ds (n ∷ ns) (x ∷ xs) (y ∷ ys) (k ∷ ks) (o ∷ os) [] is a c q w t = All-nil (KeepsLimits per_device)
+devices_keep law driver per_device path place no_items (n ∷ ns) (x ∷ xs) (y ∷ ys) (k ∷ ks) (o ∷ os) (z ∷ zs) is a c q w t = absurd a
+devices_keep law driver per_device path place (item d ds) (n ∷ ns) (x ∷ xs) (y ∷ ys) (k ∷ ks) (o ∷ os) (z ∷ zs) is a c q w t =
+    let one : Device = record { name = n; properties = record { attributes = x; capacity = y }; consumes = k; nodes = o; taints = z } in
+    All-cons (KeepsLimits per_device) one (devices_with ns xs ys ks os zs)
+    (device_keeps law driver per_device (path ++ step.Place place ∷ []) d one is (record { attributes = a.0; capacity = c.0; consumes = q.0; nodes = w.0; taints = t.0 }))
+    (devices_keep law driver per_device path (place + 1) ds ns xs ys ks os zs is a.1 c.1 q.1 w.1 t.1)
 
 pairs : (driver : List ℕ) (path : List Step) (place : ℕ) (ds : Items) (attributes : List (List (QualName × Attribute))) (capacity : List (List (QualName × ℤ))) → IsDriver driver → Column (attributes_of driver) path place attributes ds → Column (capacity_of driver) path place capacity ds → ArePaired attributes capacity
 pairs driver path place ds [] capacity is a c = tt
@@ -102,31 +118,34 @@ pairs driver path place (item d ds) (x ∷ xs) (y ∷ ys) is a c = (
 
 -- ---- names of devices
 
-with_all : (P : List ℕ → Type 0) (names : List (List ℕ)) (attributes : List (List (QualName × Attribute))) (capacity : List (List (QualName × ℤ))) (consumes : List (List CounterConsumption)) (nodes : List (Option Nodes)) → All P names → All P (map (λ d. d.name) (devices_with names attributes capacity consumes nodes))
-with_all P [] attributes capacity consumes nodes h = All-nil P
-with_all P (n ∷ ns) [] capacity consumes nodes h = All-nil P
-with_all P (n ∷ ns) (a ∷ attributes) [] consumes nodes h = All-nil P
-with_all P (n ∷ ns) (a ∷ attributes) (c ∷ capacity) [] nodes h = All-nil P
-with_all P (n ∷ ns) (a ∷ attributes) (c ∷ capacity) (k ∷ consumes) [] h = All-nil P
-with_all P (n ∷ ns) (a ∷ attributes) (c ∷ capacity) (k ∷ consumes) (w ∷ nodes) h =
-    All-cons P n (map (λ d. d.name) (devices_with ns attributes capacity consumes nodes)) (All-head P n ns h) (with_all P ns attributes capacity consumes nodes (All-tail P n ns h))
+with_all : (P : List ℕ → Type 0) (names : List (List ℕ)) (attributes : List (List (QualName × Attribute))) (capacity : List (List (QualName × ℤ))) (consumes : List (List CounterConsumption)) (nodes : List (Option Nodes)) (taints : List (List Taint)) → All P names → All P (map (λ d. d.name) (devices_with names attributes capacity consumes nodes taints))
+with_all P [] attributes capacity consumes nodes taints h = All-nil P
+with_all P (n ∷ ns) [] capacity consumes nodes taints h = All-nil P
+with_all P (n ∷ ns) (a ∷ attributes) [] consumes nodes taints h = All-nil P
+with_all P (n ∷ ns) (a ∷ attributes) (c ∷ capacity) [] nodes taints h = All-nil P
+with_all P (n ∷ ns) (a ∷ attributes) (c ∷ capacity) (k ∷ consumes) [] taints h = All-nil P
+with_all P (n ∷ ns) (a ∷ attributes) (c ∷ capacity) (k ∷ consumes) (w ∷ nodes) [] h = All-nil P
+with_all P (n ∷ ns) (a ∷ attributes) (c ∷ capacity) (k ∷ consumes) (w ∷ nodes) (t ∷ taints) h =
+    All-cons P n (map (λ d. d.name) (devices_with ns attributes capacity consumes nodes taints)) (All-head P n ns h) (with_all P ns attributes capacity consumes nodes taints (All-tail P n ns h))
 
-with_different : (names : List (List ℕ)) (attributes : List (List (QualName × Attribute))) (capacity : List (List (QualName × ℤ))) (consumes : List (List CounterConsumption)) (nodes : List (Option Nodes)) → AreDifferent names → AreDifferent (map (λ d. d.name) (devices_with names attributes capacity consumes nodes))
-with_different [] attributes capacity consumes nodes h = tt
-with_different (n ∷ ns) [] capacity consumes nodes h = tt
-with_different (n ∷ ns) (a ∷ attributes) [] consumes nodes h = tt
-with_different (n ∷ ns) (a ∷ attributes) (c ∷ capacity) [] nodes h = tt
-with_different (n ∷ ns) (a ∷ attributes) (c ∷ capacity) (k ∷ consumes) [] h = tt
-with_different (n ∷ ns) (a ∷ attributes) (c ∷ capacity) (k ∷ consumes) (w ∷ nodes) h =
-    (with_all (λ other. other ≢ n) ns attributes capacity consumes nodes h.0, with_different ns attributes capacity consumes nodes h.1)
+with_different : (names : List (List ℕ)) (attributes : List (List (QualName × Attribute))) (capacity : List (List (QualName × ℤ))) (consumes : List (List CounterConsumption)) (nodes : List (Option Nodes)) (taints : List (List Taint)) → AreDifferent names → AreDifferent (map (λ d. d.name) (devices_with names attributes capacity consumes nodes taints))
+with_different [] attributes capacity consumes nodes taints h = tt
+with_different (n ∷ ns) [] capacity consumes nodes taints h = tt
+with_different (n ∷ ns) (a ∷ attributes) [] consumes nodes taints h = tt
+with_different (n ∷ ns) (a ∷ attributes) (c ∷ capacity) [] nodes taints h = tt
+with_different (n ∷ ns) (a ∷ attributes) (c ∷ capacity) (k ∷ consumes) [] taints h = tt
+with_different (n ∷ ns) (a ∷ attributes) (c ∷ capacity) (k ∷ consumes) (w ∷ nodes) [] h = tt
+with_different (n ∷ ns) (a ∷ attributes) (c ∷ capacity) (k ∷ consumes) (w ∷ nodes) (t ∷ taints) h =
+    (with_all (λ other. other ≢ n) ns attributes capacity consumes nodes taints h.0, with_different ns attributes capacity consumes nodes taints h.1)
 
-with_length : (names : List (List ℕ)) (attributes : List (List (QualName × Attribute))) (capacity : List (List (QualName × ℤ))) (consumes : List (List CounterConsumption)) (nodes : List (Option Nodes)) → length (devices_with names attributes capacity consumes nodes) ≤ length names
-with_length [] attributes capacity consumes nodes = omega arith
-with_length (n ∷ ns) [] capacity consumes nodes = omega arith
-with_length (n ∷ ns) (a ∷ attributes) [] consumes nodes = omega arith
-with_length (n ∷ ns) (a ∷ attributes) (c ∷ capacity) [] nodes = omega arith
-with_length (n ∷ ns) (a ∷ attributes) (c ∷ capacity) (k ∷ consumes) [] = omega arith
-with_length (n ∷ ns) (a ∷ attributes) (c ∷ capacity) (k ∷ consumes) (w ∷ nodes) = omega (arith, with_length ns attributes capacity consumes nodes)
+with_length : (names : List (List ℕ)) (attributes : List (List (QualName × Attribute))) (capacity : List (List (QualName × ℤ))) (consumes : List (List CounterConsumption)) (nodes : List (Option Nodes)) (taints : List (List Taint)) → length (devices_with names attributes capacity consumes nodes taints) ≤ length names
+with_length [] attributes capacity consumes nodes taints = omega arith
+with_length (n ∷ ns) [] capacity consumes nodes taints = omega arith
+with_length (n ∷ ns) (a ∷ attributes) [] consumes nodes taints = omega arith
+with_length (n ∷ ns) (a ∷ attributes) (c ∷ capacity) [] nodes taints = omega arith
+with_length (n ∷ ns) (a ∷ attributes) (c ∷ capacity) (k ∷ consumes) [] taints = omega arith
+with_length (n ∷ ns) (a ∷ attributes) (c ∷ capacity) (k ∷ consumes) (w ∷ nodes) [] = omega arith
+with_length (n ∷ ns) (a ∷ attributes) (c ∷ capacity) (k ∷ consumes) (w ∷ nodes) (t ∷ taints) = omega (arith, with_length ns attributes capacity consumes nodes taints)
 
 record AreNames (most : ℕ) (names : List (List ℕ)) : Type 0 where
   labels : All IsLabel names
@@ -165,20 +184,21 @@ record AllKeep (per_device : Bool) (most : ℕ) (devices : List Device) : Type 0
   different : AreDifferent (map (λ d. d.name) devices)
   each_one : All (KeepsLimits per_device) devices
 
-columns_keep : (driver : List ℕ) (per_device : Bool) (path : List Step) (ds : Items) (out : Columns) → IsDriver driver → columns_of driver per_device path ds ≡ Ok out → AllKeep per_device (items_length ds) (devices_of out)
-columns_keep driver per_device path ds out is h =
+columns_keep : TaintsLaw → (driver : List ℕ) (per_device : Bool) (path : List Step) (ds : Items) (out : Columns) → IsDriver driver → columns_of driver per_device path ds ≡ Ok out → AllKeep per_device (items_length ds) (devices_of out)
+columns_keep law driver per_device path ds out is h =
     let c = columns_read driver per_device path ds out h in
     let r = names_keep path 0 0 [] ds out.names (record { labels = All-nil IsLabel; different = tt; size = omega arith }) c.names in
-    let s = with_length out.names out.attributes out.capacity out.consumes out.nodes in
+    let s = with_length out.names out.attributes out.capacity out.consumes out.nodes out.taints in
     let attributes = column (attributes_of driver) path ds out.attributes c.attributes in
     let capacity = column (capacity_of driver) path ds out.capacity c.capacity in
     let consumes = column consumes_of path ds out.consumes c.consumes in
     let nodes = column (device_nodes_of per_device) path ds out.nodes c.nodes in
+    let taints = column taints_at path ds out.taints c.taints in
     record {
       count = omega (arith, s, r.size);
-      labels = with_all IsLabel out.names out.attributes out.capacity out.consumes out.nodes r.labels;
-      different = with_different out.names out.attributes out.capacity out.consumes out.nodes r.different;
-      each_one = devices_keep driver per_device path 0 ds out.names out.attributes out.capacity out.consumes out.nodes is attributes capacity consumes nodes;
+      labels = with_all IsLabel out.names out.attributes out.capacity out.consumes out.nodes out.taints r.labels;
+      different = with_different out.names out.attributes out.capacity out.consumes out.nodes out.taints r.different;
+      each_one = devices_keep law driver per_device path 0 ds out.names out.attributes out.capacity out.consumes out.nodes out.taints is attributes capacity consumes nodes taints;
     }
 
 -- the attributes and the capacities that were read are those of devices
@@ -187,18 +207,18 @@ paired driver per_device path ds out is h =
     let c = columns_read driver per_device path ds out h in
     pairs driver path 0 ds out.attributes out.capacity is (column (attributes_of driver) path ds out.attributes c.attributes) (column (capacity_of driver) path ds out.capacity c.capacity)
 
-rows_keep : (driver : List ℕ) (per_device : Bool) (path : List Step) (ds : Items) (out : List Device) → IsDriver driver → rows_of driver per_device path ds ≡ Ok out → AllKeep per_device (items_length ds) out
-rows_keep driver per_device path ds out is h =
+rows_keep : TaintsLaw → (driver : List ℕ) (per_device : Bool) (path : List Step) (ds : Items) (out : List Device) → IsDriver driver → rows_of driver per_device path ds ≡ Ok out → AllKeep per_device (items_length ds) out
+rows_keep law driver per_device path ds out is h =
     let c = gave (columns_of driver per_device path ds) (λ columns. nothing_more_from path 0 ds >>= λ nothing. Ok (devices_of columns)) out h in
     let m = gave (nothing_more_from path 0 ds) (λ nothing. Ok (devices_of c.value)) out c.second in
     along (AllKeep per_device (items_length ds)) (devices_of c.value) out (the_same (devices_of c.value) out m.second)
-    (columns_keep driver per_device path ds c.value is c.first)
+    (columns_keep law driver per_device path ds c.value is c.first)
 
-all_keep : (driver : List ℕ) (per_device : Bool) (path : List Step) (spec : Data) (out : List Device) → IsDriver driver → devices_at driver per_device path spec ≡ Ok out → AllKeep per_device devices_most out
-all_keep driver per_device path spec out is h =
+all_keep : TaintsLaw → (driver : List ℕ) (per_device : Bool) (path : List Step) (spec : Data) (out : List Device) → IsDriver driver → devices_at driver per_device path spec ≡ Ok out → AllKeep per_device devices_most out
+all_keep law driver per_device path spec out is h =
     let g = gave (optional_at (short_list_at devices_most) path (codes "devices") spec) (λ ds.
     rows_of driver per_device (path ++ step.Member (codes "devices") ∷ []) (items_or_none ds)) out h in
-    let r = rows_keep driver per_device (path ++ step.Member (codes "devices") ∷ []) (items_or_none g.value) out is g.second in
+    let r = rows_keep law driver per_device (path ++ step.Member (codes "devices") ∷ []) (items_or_none g.value) out is g.second in
     let few = few_items devices_most path (codes "devices") spec g.value g.first in
     record { count = omega (arith, few, r.count); labels = r.labels; different = r.different; each_one = r.each_one }
 
@@ -271,12 +291,12 @@ a_pool path spec p h =
     let g = gave (object_at path (codes "pool") spec) (pool_in (path ++ step.Member (codes "pool") ∷ [])) p h in
     a_pool_in (path ++ step.Member (codes "pool") ∷ []) g.value p g.second
 
-pub spec_keeps : (name : List ℕ) (version : Option ℕ) (path : List Step) (spec : Data) (s : ResourceSlice) → length name ≤ name_most → is_dns_name name ≡ true → VersionKept version → spec_in name version path spec ≡ Ok s → IsWithinLimits s
-spec_keeps name version path spec s size form kept_version h =
+pub spec_keeps : TaintsLaw → (name : List ℕ) (version : Option ℕ) (path : List Step) (spec : Data) (s : ResourceSlice) → length name ≤ name_most → is_dns_name name ≡ true → VersionKept version → spec_in name version path spec ≡ Ok s → IsWithinLimits s
+spec_keeps law name version path spec s size form kept_version h =
     let r = spec_read name version path spec s h in
     let is = a_driver path spec s.driver r.driver in
     let sets = counters_keep path spec s.counters r.counters in
-    let all = all_keep s.driver (is_per_device s.nodes) path spec s.devices is r.devices in
+    let all = all_keep law s.driver (is_per_device s.nodes) path spec s.devices is r.devices in
     record {
       name = along (λ n. length n ≤ name_most) name s.name r.same_name size;
       name_form = along (λ n. is_dns_name n ≡ true) name s.name r.same_name form;
@@ -298,9 +318,9 @@ spec_keeps name version path spec s size form kept_version h =
 abbrev pub MetaLaw : Type 0
 MetaLaw = (scope : Scope) (d : Data) (meta : ObjectMeta) → meta_at scope d ≡ Ok meta → MetaKept scope meta
 
-pub slice_keeps : MetaLaw → (d : Data) (s : ResourceSlice) → slice_of d ≡ Ok s → IsWithinLimits s
-slice_keeps law d s h =
+pub slice_keeps : MetaLaw → TaintsLaw → (d : Data) (s : ResourceSlice) → slice_of d ≡ Ok s → IsWithinLimits s
+slice_keeps law taints d s h =
     let m = gave (meta_at Cluster d) (λ meta. object_at [] (codes "spec") d >>= spec_in meta.key.name meta.version (step.Member (codes "spec") ∷ [])) s h in
     let o = gave (object_at [] (codes "spec") d) (spec_in m.value.key.name m.value.version (step.Member (codes "spec") ∷ [])) s m.second in
     let k = law Cluster d m.value m.first in
-    spec_keeps m.value.key.name m.value.version (step.Member (codes "spec") ∷ []) o.value s k.key.name.size k.key.name.form k.version o.second
+    spec_keeps taints m.value.key.name m.value.version (step.Member (codes "spec") ∷ []) o.value s k.key.name.size k.key.name.form k.version o.second

@@ -14,6 +14,8 @@ use Rattle.object_fields.specs.declared.meta.Scope.TheVariants.{Cluster}
 use Rattle.object_fields.specs.declared.path.Step.{Step}
 use Rattle.object_fields.specs.declared.path.Step.TheVariants as step
 use Rattle.object_fields.specs.declared.qualified.QualName.{QualName}
+use Rattle.device_taints.specs.Reading.{taints_at}
+use Rattle.device_taints.specs.declared.types.Taint.{Taint}
 use Rattle.api_slice.specs.Attributes.{attributes_of}
 use Rattle.api_slice.specs.Capacity.{capacity_of}
 use Rattle.api_slice.specs.Consumption.{consumes_of}
@@ -74,19 +76,20 @@ device_reading law = record {
 abbrev pub with_some : Device → Option (List ℕ)
 with_some x = Some x.name
 
-joined : (driver : List ℕ) (per_device : Bool) (path : List Step) (place : ℕ) (ds : Items) (names : List (List ℕ)) (attributes : List (List (QualName × Attribute))) (capacity : List (List (QualName × ℤ))) (consumes : List (List CounterConsumption)) (nodes : List (Option Nodes)) →
-    map Some names ≡ names_in ds → Column (attributes_of driver) path place attributes ds → Column (capacity_of driver) path place capacity ds → Column consumes_of path place consumes ds → Column (device_nodes_of per_device) path place nodes ds → map with_some (devices_with names attributes capacity consumes nodes) ≡ names_in ds
-joined driver per_device path place no_items [] xs ys ks os n a c q w = refl
-joined driver per_device path place no_items (m ∷ ms) xs ys ks os n a c q w = absurd (let no_value : ⊥ = cc in no_value)
-joined driver per_device path place (item d ds) [] xs ys ks os n a c q w = absurd (let no_value : ⊥ = cc in no_value)
-joined driver per_device path place (item d ds) (m ∷ ms) [] ys ks os n a c q w = absurd a
-joined driver per_device path place (item d ds) (m ∷ ms) (x ∷ xs) [] ks os n a c q w = absurd c
-joined driver per_device path place (item d ds) (m ∷ ms) (x ∷ xs) (y ∷ ys) [] os n a c q w = absurd q
-joined driver per_device path place (item d ds) (m ∷ ms) (x ∷ xs) (y ∷ ys) (k ∷ ks) [] n a c q w = absurd w
-joined driver per_device path place (item d ds) (m ∷ ms) (x ∷ xs) (y ∷ ys) (k ∷ ks) (o ∷ os) n a c q w =
+joined : (driver : List ℕ) (per_device : Bool) (path : List Step) (place : ℕ) (ds : Items) (names : List (List ℕ)) (attributes : List (List (QualName × Attribute))) (capacity : List (List (QualName × ℤ))) (consumes : List (List CounterConsumption)) (nodes : List (Option Nodes)) (taints : List (List Taint)) →
+    map Some names ≡ names_in ds → Column (attributes_of driver) path place attributes ds → Column (capacity_of driver) path place capacity ds → Column consumes_of path place consumes ds → Column (device_nodes_of per_device) path place nodes ds → Column taints_at path place taints ds → map with_some (devices_with names attributes capacity consumes nodes taints) ≡ names_in ds
+joined driver per_device path place no_items [] xs ys ks os zs n a c q w t = refl
+joined driver per_device path place no_items (m ∷ ms) xs ys ks os zs n a c q w t = absurd (let no_value : ⊥ = cc in no_value)
+joined driver per_device path place (item d ds) [] xs ys ks os zs n a c q w t = absurd (let no_value : ⊥ = cc in no_value)
+joined driver per_device path place (item d ds) (m ∷ ms) [] ys ks os zs n a c q w t = absurd a
+joined driver per_device path place (item d ds) (m ∷ ms) (x ∷ xs) [] ks os zs n a c q w t = absurd c
+joined driver per_device path place (item d ds) (m ∷ ms) (x ∷ xs) (y ∷ ys) [] os zs n a c q w t = absurd q
+joined driver per_device path place (item d ds) (m ∷ ms) (x ∷ xs) (y ∷ ys) (k ∷ ks) [] zs n a c q w t = absurd w
+joined driver per_device path place (item d ds) (m ∷ ms) (x ∷ xs) (y ∷ ys) (k ∷ ks) (o ∷ os) [] n a c q w t = absurd t
+joined driver per_device path place (item d ds) (m ∷ ms) (x ∷ xs) (y ∷ ys) (k ∷ ks) (o ∷ os) (z ∷ zs) n a c q w t =
     let first : Some m ≡ named d = cc in
     let others : map Some ms ≡ names_in ds = cc in
-    ap (λ z. z ∷ map with_some (devices_with ms xs ys ks os)) first ∙ ap (λ zs. named d ∷ zs) (joined driver per_device path (place + 1) ds ms xs ys ks os others a.1 c.1 q.1 w.1)
+    ap (λ e. e ∷ map with_some (devices_with ms xs ys ks os zs)) first ∙ ap (λ es. named d ∷ es) (joined driver per_device path (place + 1) ds ms xs ys ks os zs others a.1 c.1 q.1 w.1 t.1)
 
 -- of names that were read one after another
 abbrev pub GivenNames : Type 0
@@ -99,7 +102,7 @@ rows_names law driver per_device path ds out h =
     let k = r.value in
     let c = columns_read driver per_device path ds k r.first in
     let names : map Some k.names ≡ names_in ds = law path ds k.names c.names in
-    let all = joined driver per_device path 0 ds k.names k.attributes k.capacity k.consumes k.nodes names (column (attributes_of driver) path ds k.attributes c.attributes) (column (capacity_of driver) path ds k.capacity c.capacity) (column consumes_of path ds k.consumes c.consumes) (column (device_nodes_of per_device) path ds k.nodes c.nodes) in
+    let all = joined driver per_device path 0 ds k.names k.attributes k.capacity k.consumes k.nodes k.taints names (column (attributes_of driver) path ds k.attributes c.attributes) (column (capacity_of driver) path ds k.capacity c.capacity) (column consumes_of path ds k.consumes c.consumes) (column (device_nodes_of per_device) path ds k.nodes c.nodes) (column taints_at path ds k.taints c.taints) in
     along (λ xs. map with_some xs ≡ names_in ds) (devices_of k) out (the_same (devices_of k) out m.second) all
 
 -- ---- the lists of a document

@@ -7,6 +7,7 @@ use Rattle.object_fields.specs.Lists.{alone, each, each_beside, each_from}
 use Rattle.object_fields.specs.declared.error.FieldError.{FieldError}
 use Rattle.object_fields.specs.declared.path.Step.{Step}
 use Rattle.object_fields.specs.declared.path.Step.TheVariants as step
+use Rattle.device_taints.specs.Reading.{taints_at}
 use Rattle.api_slice.specs.Attributes.{attributes_of}
 use Rattle.api_slice.specs.Capacity.{capacity_of}
 use Rattle.api_slice.specs.Consumption.{consumes_of}
@@ -50,6 +51,7 @@ pub record ColumnsRead (driver : List ℕ) (per_device : Bool) (path : List Step
   pub capacity : each (capacity_of driver) path ds ≡ Ok c.capacity
   pub consumes : each consumes_of path ds ≡ Ok c.consumes
   pub nodes : each (device_nodes_of per_device) path ds ≡ Ok c.nodes
+  pub taints : each taints_at path ds ≡ Ok c.taints
 
 pub columns_read : (driver : List ℕ) (per_device : Bool) (path : List Step) (ds : Items) (out : Columns) → columns_of driver per_device path ds ≡ Ok out → ColumnsRead driver per_device path ds out
 columns_read driver per_device path ds out h =
@@ -58,24 +60,31 @@ columns_read driver per_device path ds out h =
     each (capacity_of driver) path ds >>= λ capacity.
     each consumes_of path ds >>= λ consumes.
     each (device_nodes_of per_device) path ds >>= λ nodes.
-    Ok (record { names = names; attributes = attributes; capacity = capacity; consumes = consumes; nodes = nodes })) out h in
+    each taints_at path ds >>= λ taints.
+    Ok (record { names = names; attributes = attributes; capacity = capacity; consumes = consumes; nodes = nodes; taints = taints })) out h in
     let a = gave (each (attributes_of driver) path ds) (λ attributes.
     each (capacity_of driver) path ds >>= λ capacity.
     each consumes_of path ds >>= λ consumes.
     each (device_nodes_of per_device) path ds >>= λ nodes.
-    Ok (record { names = n.value; attributes = attributes; capacity = capacity; consumes = consumes; nodes = nodes })) out n.second in
+    each taints_at path ds >>= λ taints.
+    Ok (record { names = n.value; attributes = attributes; capacity = capacity; consumes = consumes; nodes = nodes; taints = taints })) out n.second in
     let c = gave (each (capacity_of driver) path ds) (λ capacity.
     each consumes_of path ds >>= λ consumes.
     each (device_nodes_of per_device) path ds >>= λ nodes.
-    Ok (record { names = n.value; attributes = a.value; capacity = capacity; consumes = consumes; nodes = nodes })) out a.second in
+    each taints_at path ds >>= λ taints.
+    Ok (record { names = n.value; attributes = a.value; capacity = capacity; consumes = consumes; nodes = nodes; taints = taints })) out a.second in
     let k = gave (each consumes_of path ds) (λ consumes.
     each (device_nodes_of per_device) path ds >>= λ nodes.
-    Ok (record { names = n.value; attributes = a.value; capacity = c.value; consumes = consumes; nodes = nodes })) out c.second in
+    each taints_at path ds >>= λ taints.
+    Ok (record { names = n.value; attributes = a.value; capacity = c.value; consumes = consumes; nodes = nodes; taints = taints })) out c.second in
     let w = gave (each (device_nodes_of per_device) path ds) (λ nodes.
-    Ok (record { names = n.value; attributes = a.value; capacity = c.value; consumes = k.value; nodes = nodes })) out k.second in
-    let made : Columns = record { names = n.value; attributes = a.value; capacity = c.value; consumes = k.value; nodes = w.value } in
-    along (ColumnsRead driver per_device path ds) made out (the_same made out w.second)
-    (record { names = n.first; attributes = a.first; capacity = c.first; consumes = k.first; nodes = w.first })
+    each taints_at path ds >>= λ taints.
+    Ok (record { names = n.value; attributes = a.value; capacity = c.value; consumes = k.value; nodes = nodes; taints = taints })) out k.second in
+    let t = gave (each taints_at path ds) (λ taints.
+    Ok (record { names = n.value; attributes = a.value; capacity = c.value; consumes = k.value; nodes = w.value; taints = taints })) out w.second in
+    let made : Columns = record { names = n.value; attributes = a.value; capacity = c.value; consumes = k.value; nodes = w.value; taints = t.value } in
+    along (ColumnsRead driver per_device path ds) made out (the_same made out t.second)
+    (record { names = n.first; attributes = a.first; capacity = c.first; consumes = k.first; nodes = w.first; taints = t.first })
 
 -- ---- a spec
 

@@ -9,6 +9,8 @@ use Rattle.object_fields.specs.declared.kind.FieldErrorKind.TheVariants.{Doubled
 use Rattle.object_fields.specs.declared.path.Step.{Step}
 use Rattle.object_fields.specs.declared.path.Step.TheVariants.{Member, Place}
 use Rattle.object_fields.specs.declared.qualified.QualName.{QualName}
+use Rattle.device_taints.specs.Reading.{taints_at}
+use Rattle.device_taints.specs.declared.types.Taint.{Taint}
 use Rattle.api_slice.specs.Attributes.{attributes_of}
 use Rattle.api_slice.specs.Capacity.{capacity_of}
 use Rattle.api_slice.specs.Consumption.{consumes_of}
@@ -31,7 +33,6 @@ new_device_name path before value =
 
 abbrev pub nothing_more : List Step → Data → Result ⊤ FieldError
 nothing_more path d =
-    unset_at path (codes "taints") d >>= λ nothing.
     unset_at path (codes "allowMultipleAllocations") d >>= λ nothing.
     unset_at path (codes "bindingConditions") d >>= λ nothing.
     unset_at path (codes "bindingFailureConditions") d >>= λ nothing.
@@ -45,19 +46,20 @@ nothing_more_from path place (item d ds) =
 -- ---- row by row
 
 -- the devices of which these are the fields, each list in the order of the devices
-abbrev pub devices_with : List (List ℕ) → List (List (QualName × Attribute)) → List (List (QualName × ℤ)) → List (List CounterConsumption) → List (Option Nodes) → List Device
-devices_with [] attributes capacity consumes nodes = []
-devices_with (n ∷ ns) [] capacity consumes nodes = []
-devices_with (n ∷ ns) (a ∷ attributes) [] consumes nodes = []
-devices_with (n ∷ ns) (a ∷ attributes) (c ∷ capacity) [] nodes = []
-devices_with (n ∷ ns) (a ∷ attributes) (c ∷ capacity) (k ∷ consumes) [] = []
-devices_with (n ∷ ns) (a ∷ attributes) (c ∷ capacity) (k ∷ consumes) (w ∷ nodes) =
-    record { name = n; properties = record { attributes = a; capacity = c }; consumes = k; nodes = w } ∷ devices_with ns attributes capacity consumes nodes
+abbrev pub devices_with : List (List ℕ) → List (List (QualName × Attribute)) → List (List (QualName × ℤ)) → List (List CounterConsumption) → List (Option Nodes) → List (List Taint) → List Device
+devices_with [] attributes capacity consumes nodes taints = []
+devices_with (n ∷ ns) [] capacity consumes nodes taints = []
+devices_with (n ∷ ns) (a ∷ attributes) [] consumes nodes taints = []
+devices_with (n ∷ ns) (a ∷ attributes) (c ∷ capacity) [] nodes taints = []
+devices_with (n ∷ ns) (a ∷ attributes) (c ∷ capacity) (k ∷ consumes) [] taints = []
+devices_with (n ∷ ns) (a ∷ attributes) (c ∷ capacity) (k ∷ consumes) (w ∷ nodes) [] = []
+devices_with (n ∷ ns) (a ∷ attributes) (c ∷ capacity) (k ∷ consumes) (w ∷ nodes) (t ∷ taints) =
+    record { name = n; properties = record { attributes = a; capacity = c }; consumes = k; nodes = w; taints = t } ∷ devices_with ns attributes capacity consumes nodes taints
 
 abbrev pub devices_of : Columns → List Device
-devices_of c = devices_with c.names c.attributes c.capacity c.consumes c.nodes
+devices_of c = devices_with c.names c.attributes c.capacity c.consumes c.nodes c.taints
 
--- names, attributes, capacities, what is drawn, and where
+-- names, attributes, capacities, what is drawn, where, and taints
 abbrev pub columns_of : List ℕ → Bool → List Step → Items → Result Columns FieldError
 columns_of driver per_device path ds =
     each_beside new_device_name path ds >>= λ names.
@@ -65,7 +67,8 @@ columns_of driver per_device path ds =
     each (capacity_of driver) path ds >>= λ capacity.
     each consumes_of path ds >>= λ consumes.
     each (device_nodes_of per_device) path ds >>= λ nodes.
-    Ok (record { names = names; attributes = attributes; capacity = capacity; consumes = consumes; nodes = nodes })
+    each taints_at path ds >>= λ taints.
+    Ok (record { names = names; attributes = attributes; capacity = capacity; consumes = consumes; nodes = nodes; taints = taints })
 
 -- the columns, then the members that are left out
 abbrev pub rows_of : List ℕ → Bool → List Step → Items → Result (List Device) FieldError

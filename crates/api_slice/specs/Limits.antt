@@ -11,6 +11,7 @@ use Rattle.object_fields.specs.Limits.{VersionKept}
 use Rattle.object_fields.specs.Meta.{name_most}
 use Rattle.object_fields.specs.Names.{is_dns_label, is_dns_name, is_pool_name, pool_most}
 use Rattle.object_fields.specs.NewNames.{AreDifferent}
+use Rattle.device_taints.specs.Limits.{TaintsKept}
 use Rattle.api_slice.specs.Consumption.{amounts_most}
 use Rattle.api_slice.specs.Counters.{counters_most}
 use Rattle.api_slice.specs.Devices.{devices_most}
@@ -104,6 +105,7 @@ pub record KeepsLimits (per_device : Bool) (d : Device) : Type 0 where
   pub draws_once : AreDifferent (map (λ c. c.set) d.consumes)
   pub drawn : sum_by (λ c. length c.amounts) d.consumes ≤ amounts_most
   pub nodes : IsDue per_device d.nodes
+  pub taints : TaintsKept d.taints
 
 -- ---- the slice
 

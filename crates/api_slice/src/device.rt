@@ -2,6 +2,7 @@ ghost use Rattle.std.specs.Prelude.{◌≡◌, IfOk};
 ghost use Rattle.serde_json.specs.View.{items_view, view};
 ghost use Rattle.object_fields.specs.Fields.{Reads};
 ghost use Rattle.object_fields.specs.Lists.{each, each_beside};
+ghost use Rattle.device_taints.specs.Reading.{taints_at};
 ghost use Rattle.api_slice.specs.Devices as fields;
 ghost use Rattle.api_slice.specs.Attributes.{attributes_of};
 ghost use Rattle.api_slice.specs.Capacity.{capacity_of};
@@ -17,6 +18,7 @@ use crate::lists::items_or_none;
 use crate::nodes::read_device_nodes;
 use crate::properties::Properties;
 use crate::types::{Attribute, CounterConsumption, Device, Nodes};
+use device_taints::{Taint, read_taints};
 use dra_values::{Seq, Table, Text};
 use object_fields::{
     ByName, FieldError, FieldErrorKind, Path, QualName, optional_short_list, or_memory,
@@ -72,6 +74,7 @@ pub(crate) struct Columns {
     capacity: Seq<Table<QualName, Quantity>>,
     consumes: Seq<Seq<CounterConsumption>>,
     nodes: Seq<Option<Nodes>>,
+    taints: Seq<Seq<Taint>>,
 }
 
 fn read_columns(
@@ -89,12 +92,14 @@ fn read_columns(
     let capacity = each_capacity(alloc, values, path, driver)?;
     let consumes = each_consumption(alloc, values, path)?;
     let nodes = each_nodes(alloc, values, path, per_device)?;
+    let taints = each_taints(alloc, values, path)?;
     Ok(Columns {
         names,
         attributes,
         capacity,
         consumes,
         nodes,
+        taints,
     })
 }
 
@@ -195,6 +200,22 @@ fn each_nodes(
     Ok(column)
 }
 
+fn each_taints(
+    alloc: Global,
+    values: &[Value],
+    path: &Path,
+) -> Result<Seq<Seq<Taint>>, FieldError>
+    ensures { Reads result (each taints_at path.now (items_view values.now)) }
+{
+    let mut column = Seq::empty(alloc);
+    for place in 0..values.len() {
+        let at = path.place(alloc, place)?;
+        let taints = read_taints(alloc, &values[place], &at)?;
+        or_memory(alloc, column.push(taints))?;
+    }
+    Ok(column)
+}
+
 /// Nothing where no device sets a member that this project leaves out, else NotSupported at the
 /// first.
 fn each_nothing_more(alloc: Global, values: &[Value], path: &Path) -> Result<(), FieldError>
@@ -210,7 +231,6 @@ fn each_nothing_more(alloc: Global, values: &[Value], path: &Path) -> Result<(),
 fn nothing_more(alloc: Global, device: &Value, path: &Path) -> Result<(), FieldError>
     ensures { Reads result (fields.nothing_more path.now (view device.now)) }
 {
-    unset(alloc, device, path, "taints")?;
     unset(alloc, device, path, "allowMultipleAllocations")?;
     unset(alloc, device, path, "bindingConditions")?;
     unset(alloc, device, path, "bindingFailureConditions")?;
@@ -226,6 +246,7 @@ fn devices_of(alloc: Global, columns: Columns) -> Result<Seq<Device>, AllocError
     let mut capacity = columns.capacity.into_vec().into_iter();
     let mut consumes = columns.consumes.into_vec().into_iter();
     let mut nodes = columns.nodes.into_vec().into_iter();
+    let mut taints = columns.taints.into_vec().into_iter();
     let mut devices = Seq::empty(alloc);
     for name in columns.names.into_vec() {
         let Some(attributes) = attributes.next() else {
@@ -240,11 +261,15 @@ fn devices_of(alloc: Global, columns: Columns) -> Result<Seq<Device>, AllocError
         let Some(nodes) = nodes.next() else {
             return Ok(devices);
         };
+        let Some(taints) = taints.next() else {
+            return Ok(devices);
+        };
         devices.push(Device {
             name,
             properties: Properties::new(attributes, capacity),
             consumes,
             nodes,
+            taints,
         })?;
     }
     Ok(devices)

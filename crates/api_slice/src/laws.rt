@@ -14,6 +14,7 @@ ghost use Rattle.api_slice.specs.declared.types.CounterSet.{CounterSet};
 ghost use Rattle.api_slice.specs.declared.types.Device.{Device};
 ghost use Rattle.api_slice.specs.declared.types.ResourceSlice.{ResourceSlice};
 
+use device_taints::taints_keep_limits;
 use object_fields::{labels_are_names, metadata_keeps_limits, names_are_new};
 
 /// What each slice keeps that is read (API reference of `resource.k8s.io/v1`):
@@ -27,6 +28,7 @@ use object_fields::{labels_are_names, metadata_keeps_limits, names_are_new};
 ///   one of Semantic Versioning 2.0.0, and attributes and capacities are at most 32 together
 /// - it has devices or counter sets, not both
 /// - a device draws at most 32 amounts, none negative, and on a counter set at most once
+/// - a device has at most 16 taints, each with a key of 1 to 317 bytes and a value of at most 63
 /// - a device has nodes of its own if and only if the slice has `perDeviceNodeSelection`
 /// - a node's name isn't empty; a node selector has a value for each In and NotIn, and asks of fields
 ///   only with these, of `metadata.name`
@@ -34,6 +36,7 @@ pub fn slices_keep_limits()
     ensures { (d : Data) (s : ResourceSlice) → slice_of d ≡ Ok s → IsWithinLimits s }
 {
     metadata_keeps_limits();
+    taints_keep_limits();
 }
 
 /// A slice that is read has the devices and the counter sets of its document: as many, with their names

@@ -10,6 +10,7 @@ use crate::device::read_devices;
 use crate::driver::DriverName;
 use crate::nodes::read_slice_nodes;
 use crate::types::{Pool, ResourceSlice, SliceNodes};
+use device_taints::taints_keep_limits;
 use dra_values::Text;
 use object_fields::{
     FieldError, ObjectMeta, Path, Scope, metadata_keeps_limits, natural, object, read_pool_name,
@@ -51,8 +52,10 @@ impl ResourceSlice {
     ///   more than 32 of these in all it is TooMany
     /// - `nodeName`, `nodeSelector` and `allNodes` of a device: just one where the slice has
     ///   `perDeviceNodeSelection`, else none, NotOne at the device
-    /// - `taints`, `allowMultipleAllocations`, `bindingConditions`, `bindingFailureConditions` and
-    ///   `bindsToNode` of a device: NotSupported unless missing, null, false or empty
+    /// - `taints` of a device, which may be missing: at most 16 (TooMany), as `read_taints` of
+    ///   `device_taints` reads them
+    /// - `allowMultipleAllocations`, `bindingConditions`, `bindingFailureConditions` and `bindsToNode`
+    ///   of a device: NotSupported unless missing, null, false or empty
     ///
     /// A required field is Missing if it isn't there or is null; then it is WrongType if it
     /// is of another JSON type, TooLong, and BadName, BadQuantity or BadVersion, and a number or an
@@ -95,6 +98,7 @@ fn read_spec(
     requires version { VersionKept version }
     ensures { Reads result (fields.spec_in name version path.now (view spec.now)) }
 {
+    taints_keep_limits();
     let driver = DriverName::read(alloc, spec, path)?;
     let pool = read_pool(alloc, spec, path)?;
     let nodes = read_slice_nodes(alloc, spec, path)?;

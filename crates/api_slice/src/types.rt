@@ -3,6 +3,7 @@ ghost use Rattle.api_slice.specs.Limits.{IsWithinLimits};
 
 use crate::driver::DriverName;
 use crate::properties::Properties;
+use device_taints::Taint;
 use dra_values::{Duplicate, Seq, Table, Text};
 use node_select::Selector;
 use quantity::Quantity;
@@ -84,6 +85,8 @@ pub struct Device {
     pub consumes: Seq<CounterConsumption>,
     /// Where the device is; set if and only if the slice has `perDeviceNodeSelection`.
     pub nodes: Option<Nodes>,
+    /// `taints`, at most 16.
+    pub taints: Seq<Taint>,
 }
 
 /// The value of an attribute.
@@ -202,6 +205,7 @@ impl Duplicate for Device {
             properties: self.properties.copy(alloc)?,
             consumes: self.consumes.copy(alloc)?,
             nodes: self.nodes.duplicate(alloc)?,
+            taints: self.taints.copy(alloc)?,
         })
     }
 }
