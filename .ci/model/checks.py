@@ -60,6 +60,7 @@ def failure_of_grants(state, claims, node, results):
     if failure is None:
         failure = (
             failure_of_matches(view, grants)
+            or failure_of_taints(view, grants)
             or failure_of_holders(view, grants)
             or failure_of_counters(view, grants)
             or failure_of_constraints(view, grants)
@@ -102,6 +103,16 @@ def failure_of_matches(view, grants):
     return f"SelectorFault:{fault.device}" if fault else None
 
 
+def failure_of_taints(view, grants):
+    """A device with a taint that no toleration of its request tolerates."""
+    for granted in grants:
+        for way in granted.ways:
+            for result in granted.results_of(way):
+                if not rules.is_tolerated(view, way, result.device):
+                    return f"Tainted:{result.device}"
+    return None
+
+
 def failure_of_holders(view, grants):
     """A device that a claim holds, or that the plan has granted to an earlier claim."""
     granted = {}
@@ -119,7 +130,7 @@ def failure_of_counters(view, grants):
         for counter, _ in view.draws(device):
             if not rules.is_covered(view, counter, grants):
                 numbers = rules.drawn(view, counter, grants), view.value(counter)
-                return f"Counter:{counter[1]}/{counter[2]}:" + ":".join(map(printed_quantity, numbers))
+                return f"Counter:{counter[2]}/{counter[3]}:" + ":".join(map(printed_quantity, numbers))
     return None
 
 

@@ -20,6 +20,8 @@ from objects import (
     Result,
     SliceObject,
     Status,
+    Taint,
+    Toleration,
     Way,
 )
 from values import (
@@ -284,7 +286,10 @@ def read_node_choices(place, also=()):
 
 
 def read_counters(spec):
+    """The counter sets. A slice with devices has none, whatever they are."""
     sets = {}
+    if spec.list("sharedCounters", None) and spec.get("devices") not in (None, []):
+        spec.fail("NotOne", "sharedCounters")
     for place in spec.places("sharedCounters", None):
         name = place.name("name", 63, is_dns_label)
         check_new(name, sets, place.at("name"))
@@ -340,14 +345,13 @@ def read_capacity(place, driver, attributes):
     return capacity
 
 
-def read_draws(device, counters):
-    """What a device draws: the set, the counter and the amount, in the order of the list and then of the names."""
+def read_draws(device):
+    """The sets that a device draws from, and what it draws: the set, the counter and the amount, in the order of the
+    list and then of the names."""
     draws = []
     seen = []
     for place in device.places("consumesCounters", None):
         name = place.text("counterSet")
-        if name not in counters:
-            place.fail("Unknown", "counterSet")
         check_new(name, seen, place.at("counterSet"))
         seen.append(name)
         place.needed("counters")
@@ -355,10 +359,36 @@ def read_draws(device, counters):
         if len(amounts) + len(draws) > 32:
             device.fail("TooMany", "consumesCounters")
         for key, value, path in amounts:
-            if key not in counters[name]:
-                raise FieldError("Unknown", path)
             draws.append((name, key, Place(there(value, path), path).quantity("value", False)))
-    return draws
+    return seen, draws
+
+
+EFFECTS = ("NoSchedule", "NoExecute")
+
+
+def read_taint(place):
+    key = place.name("key", 317, bool)
+    value = place.optional_text("value") or ""
+    if len(value.encode()) > 63:
+        place.fail("TooLong", "value")
+    effect = place.text("effect")
+    if effect not in EFFECTS:
+        place.fail("NotSupported", "effect")
+    return Taint(key, value, effect)
+
+
+def read_toleration(place):
+    key = place.optional_text("key") or ""
+    operator = "Equal" if place.get("operator") is None else place.text("operator")
+    if operator not in ("Equal", "Exists"):
+        place.fail("NotSupported", "operator")
+    value = place.optional_text("value") or "" if operator == "Equal" else ""
+    effect = place.optional_text("effect") or ""
+    if effect not in ("", *EFFECTS):
+        place.fail("NotSupported", "effect")
+    if operator == "Equal" and not key:
+        place.fail("Missing", "key")
+    return Toleration(key, operator, value, effect)
 
 
 def read_slice(top):
@@ -384,16 +414,16 @@ def read_slice(top):
     for place, device in zip(places, devices):
         device.capacity = read_capacity(place, driver, device.attributes)
     for place, device in zip(places, devices):
-        device.draws = read_draws(place, counters)
+        device.sets, device.draws = read_draws(place)
     for place, device in zip(places, devices):
         own = read_node_choices(place)
         if len(own) != (1 if choices[0] is None else 0):
             raise FieldError("NotOne", place.path)
         device.nodes = own[0] if own else None
+    for place, device in zip(places, devices):
+        device.taints = [read_taint(taint) for taint in place.places("taints", 16)]
     for place in places:
-        place.left_out(
-            "taints", "allowMultipleAllocations", "bindingConditions", "bindingFailureConditions", "bindsToNode"
-        )
+        place.left_out("allowMultipleAllocations", "bindingConditions", "bindingFailureConditions", "bindsToNode")
     return SliceObject(metadata, driver, pool_name, generation, slice_count, choices[0], counters, devices)
 
 
@@ -432,8 +462,9 @@ def read_way(place, label, admin):
         place.fail("NotSupported", "allocationMode")
     count = 0 if place.get("count") is None else place.whole("count", 0, 0 if mode == "All" else 2**31 - 1)
     granted = place.truth("adminAccess") if admin else False
-    place.left_out("tolerations", "capacity")
-    return Way(label, device_class, selectors, None if mode == "All" else count or 1, granted)
+    tolerations = [read_toleration(item) for item in place.places("tolerations", 16)]
+    place.left_out("capacity")
+    return Way(label, device_class, selectors, None if mode == "All" else count or 1, granted, tolerations)
 
 
 def read_claim(top):

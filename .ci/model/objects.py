@@ -41,12 +41,33 @@ class NodeChoice:
 
 
 @dataclass
+class Taint:
+    """What keeps requests off a device that don't tolerate it. A missing value is empty."""
+
+    key: str
+    value: str
+    effect: str
+
+
+@dataclass
+class Toleration:
+    """Which taints a request puts up with. What is missing is empty; `operator` is Equal or Exists."""
+
+    key: str
+    operator: str
+    value: str
+    effect: str
+
+
+@dataclass
 class Device:
     name: str
     attributes: dict = field(default_factory=dict)
     capacity: dict = field(default_factory=dict)
     draws: list = field(default_factory=list)
+    sets: list = field(default_factory=list)
     nodes: NodeChoice | None = None
+    taints: list = field(default_factory=list)
 
 
 @dataclass
@@ -80,6 +101,7 @@ class Way:
     selectors: list
     count: int | None
     admin: bool
+    tolerations: list = field(default_factory=list)
 
 
 @dataclass

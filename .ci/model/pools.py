@@ -40,8 +40,13 @@ class PoolDevice:
 
     @property
     def draws(self):
-        """The counters that the device draws on, each as slice, set and name, with the amounts."""
-        return [((self.slice.metadata.key, name, key), amount) for name, key, amount in self.device.draws]
+        """The counters of its pool that the device draws on, each as driver, pool, set and name, with the amounts."""
+        one = self.slice
+        return [((one.driver, one.pool, name, key), amount) for name, key, amount in self.device.draws]
+
+    @property
+    def taints(self):
+        return self.device.taints
 
 
 # Visibility
@@ -109,10 +114,24 @@ def is_complete(pool):
     return all(one.slice_count == len(pool) for one in pool)
 
 
+def counters(pool):
+    """What the counters of a pool have, by set and name."""
+    return {(name, key): value for one in pool for name, found in one.counters.items() for key, value in found.items()}
+
+
 def is_invalid(pool):
-    """Two slices disagree on their number, or a device name comes twice."""
-    names = [device.name for one in pool for device in one.devices]
-    return len({one.slice_count for one in pool}) > 1 or len(set(names)) < len(names)
+    """Two slices disagree on their number, a device name or a set name comes twice, or a device draws from a set or
+    a counter that the pool doesn't have."""
+    devices = [device for one in pool for device in one.devices]
+    names = [device.name for device in devices]
+    sets = [name for one in pool for name in one.counters]
+    return (
+        len({one.slice_count for one in pool}) > 1
+        or len(set(names)) < len(names)
+        or len(set(sets)) < len(sets)
+        or any(name not in sets for device in devices for name in device.sets)
+        or any((name, key) not in counters(pool) for device in devices for name, key, _ in device.draws)
+    )
 
 
 def is_usable(pool):
@@ -137,7 +156,11 @@ class NodeView:
         self.node = state.node(name)
         every = pools(state)
         self.in_pools = {}
+        self.counters = {}
         self.devices = []
+        for pool in filter(is_usable, every):
+            for (name, key), value in counters(pool).items():
+                self.counters[pool[0].driver, pool[0].pool, name, key] = value
         for one in (one for pool in every if is_usable(pool) for one in pool):
             for device in one.devices:
                 found = PoolDevice(one, device)
@@ -164,9 +187,12 @@ class NodeView:
         return self.in_pools[device].draws if device in self.in_pools else []
 
     def value(self, counter):
-        """What a counter has."""
-        one, name, key = counter
-        return self.state.tables["ResourceSlice"][one].object.counters[name][key]
+        """What a counter of a usable pool has."""
+        return self.counters[counter]
+
+    def taints(self, device):
+        """The taints of a device of a usable pool."""
+        return self.in_pools[device].taints if device in self.in_pools else []
 
     def evaluate(self, way, device):
         """Yes, No or a Fault: what the selectors of the class and then of the request evaluate to on a device. The

@@ -57,21 +57,33 @@ class Generator:
         if counted and self.chance(70):
             amount = {"memory": {"value": str(self.random.randint(0, 3))}}
             device["consumesCounters"] = [{"counterSet": "set", "counters": amount}]
+        if self.chance(15):
+            taint = {"key": self.pick(("slow", "broken")), "effect": self.pick(("NoSchedule", "NoExecute"))}
+            device["taints"] = [taint | ({"value": "v"} if self.chance(30) else {})]
         return device
 
-    def slice(self, number, first=False):
-        counted = self.chance(40)
-        pool = {"name": f"pool{number}", "generation": 1, "resourceSliceCount": 1}
+    def pool(self, number, first):
+        """Pools 0 and 1 have counters, in a slice of their own, so they have two slices; the others have one."""
+        slices = 2 if number < 2 else 1
+        pool = {"name": f"pool{number}", "generation": 1, "resourceSliceCount": slices}
         if not first:
-            pool["generation"] = self.pick((1, 1, 2))
-            pool["resourceSliceCount"] = self.pick((1, 1, 1, 2))
-        spec = {"driver": DRIVER, "pool": pool}
+            pool["generation"] = self.pick((1, 1, 1, 2))
+            pool["resourceSliceCount"] = self.pick((slices, slices, slices, slices, 3 - slices))
+        return pool
+
+    def slice(self, number, first=False):
+        spec = {"driver": DRIVER, "pool": self.pool(number, first)}
+        counted = number < 2 or self.chance(3)
         spec["devices"] = [self.device(i, counted) for i in range(self.random.randint(1, 4))]
         spec |= {"allNodes": True} if self.chance(30) else {"nodeName": f"n{number % self.nodes}"}
-        if counted:
-            amount = {"memory": {"value": str(self.random.randint(1, 5))}}
-            spec["sharedCounters"] = [{"name": "set", "counters": amount}]
         return document("resource.k8s.io/v1", "ResourceSlice", f"s{number}", spec=spec)
+
+    def counters(self, number, first=False):
+        spec = {"driver": DRIVER, "pool": self.pool(number, first), "allNodes": True}
+        sets = ("set", "set") if self.chance(3) else ("set",)
+        amount = {"memory": {"value": str(self.random.randint(1, 5))}}
+        spec["sharedCounters"] = [{"name": name, "counters": amount} for name in sets]
+        return document("resource.k8s.io/v1", "ResourceSlice", f"c{number}", spec=spec)
 
     def way(self, exactly):
         way = {"deviceClassName": self.pick(("gpu", "gpu", "some"))}
@@ -80,6 +92,9 @@ class Generator:
         way |= {"allocationMode": "All"} if self.chance(10) else {"count": self.pick((1, 1, 1, 2))}
         if exactly and self.chance(10):
             way["adminAccess"] = True
+        if self.chance(25):
+            toleration = {"operator": "Exists"} if self.chance(50) else {"key": "slow", "value": self.pick(("", "v"))}
+            way["tolerations"] = [toleration | ({"effect": "NoSchedule"} if self.chance(30) else {})]
         return way
 
     def request(self, number):
@@ -111,7 +126,8 @@ class Generator:
     def delete(self):
         kind, name = self.pick(
             [("Pod", f"p{self.random.randrange(10)}"), ("ResourceClaim", f"c{self.random.randrange(8)}")] * 3
-            + [("ResourceSlice", f"s{self.random.randrange(4)}"), ("Node", "n0"), ("DeviceClass", self.pick(CLASSES))]
+            + [("ResourceSlice", f"s{self.random.randrange(4)}"), ("ResourceSlice", f"c{self.random.randrange(2)}")]
+            + [("Node", "n0"), ("DeviceClass", self.pick(CLASSES))]
         )
         return self.command("Delete", name, target=kind)
 
@@ -124,15 +140,17 @@ class Generator:
                 lambda: self.command("Schedule", f"p{self.random.randrange(11)}"),
                 lambda: self.command("Release", f"p{self.random.randrange(11)}"),
                 lambda: self.slice(self.random.randrange(4)),
+                lambda: self.counters(self.random.randrange(2)),
                 lambda: self.node(self.random.randrange(self.nodes + 1)),
                 self.delete,
             ),
-            (14, 16, 34, 18, 5, 3, 10),
+            (14, 16, 34, 18, 4, 2, 3, 10),
         )[0]()
 
     def script(self, commands):
         documents = [self.node(i) for i in range(self.nodes)] + [self.device_class(name) for name in CLASSES]
         documents += [self.slice(i, first=True) for i in range(self.random.randint(1, 4))]
+        documents += [self.counters(i, first=True) for i in range(2)]
         documents += [self.claim(i) for i in range(8)] + [self.pod(i) for i in range(5)]
         return documents + [self.next() for _ in range(commands)]
 

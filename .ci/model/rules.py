@@ -1,4 +1,4 @@
-"""What an allocation is: nine facts about the results that some claims get on a node.
+"""What an allocation is: ten facts about the results that some claims get on a node.
 
 The claims are given with the choice, which is one way for each request: its `exactly`, or one item of its
 `firstAvailable`.
@@ -113,6 +113,17 @@ def covered(view, grants):
     )
 
 
+def tolerated(view, grants):
+    """Each taint of the device of each result, with admin access or without, is tolerated by a toleration of the
+    result's request."""
+    return all(
+        is_tolerated(view, way, result.device)
+        for granted in grants
+        for way in granted.ways
+        for result in granted.results_of(way)
+    )
+
+
 def constraints_hold(view, grants):
     """All results that a `matchAttribute` constraint names have its attribute, with one type and one value; versions
     are compared as texts. Each claim has at most 32 results."""
@@ -132,6 +143,7 @@ FACTS = (
     distinct,
     exclusive,
     covered,
+    tolerated,
     constraints_hold,
 )
 
@@ -156,6 +168,19 @@ def drawn(view, counter, grants):
 
 def is_covered(view, counter, grants):
     return drawn(view, counter, grants) <= view.value(counter)
+
+
+def tolerates(toleration, taint):
+    """The effect is empty or the taint's. With Exists the key is empty or the taint's; else key and value are."""
+    if toleration.effect not in ("", taint.effect):
+        return False
+    if toleration.operator == "Exists":
+        return toleration.key in ("", taint.key)
+    return (toleration.key, toleration.value) == (taint.key, taint.value)
+
+
+def is_tolerated(view, way, device):
+    return all(any(tolerates(one, taint) for one in way.tolerations) for taint in view.taints(device))
 
 
 def is_named(constraint, result):

@@ -54,7 +54,8 @@ def is_good(view, choice, slots, devices):
             return False
     grants = filled(choice, slots, devices)
     return all(
-        fact(view, grants) for fact in (rules.distinct, rules.exclusive, rules.covered, rules.constraints_hold)
+        fact(view, grants)
+        for fact in (rules.distinct, rules.exclusive, rules.covered, rules.tolerated, rules.constraints_hold)
     )
 
 
