@@ -1,5 +1,5 @@
 -- What is the same is equal, and the other way round.
-use Rattle.std.proofs.Common.{ℕ, ◌≡◌, ◌∙◌, List, [], ◌∷◌, Bool, true, false, ◌&&◌, eqb, refl, sym, ap}
+use Rattle.std.proofs.Common.{ℕ, ◌≡◌, ◌∙◌, List, [], ◌∷◌, Bool, true, false, ◌&&◌, Option, None, Some, eqb, refl, sym, ap}
 use Rattle.std.specs.Cmp.Lexicographic.{pointwise}
 use Rattle.std.proofs.lemmas.Bool.{and_from, and_parts, eq-eqb, eqb-true}
 use Rattle.api_claim.specs.declared.types.AllocationMode.{AllocationMode}
@@ -14,9 +14,15 @@ use Rattle.api_claim.specs.declared.types.RequestKind.TheVariants.{Exactly, Firs
 use Rattle.api_claim.specs.declared.types.ResourceClaim.{ResourceClaim}
 use Rattle.api_cluster.specs.declared.types.Pod.{Pod}
 use Rattle.api_cluster.specs.declared.types.PodResourceClaim.{PodResourceClaim}
+use Rattle.device_taints.specs.Tolerating.{effect_eq}
+use Rattle.device_taints.specs.declared.types.TaintEffect.{TaintEffect}
+use Rattle.device_taints.specs.declared.types.TaintEffect.TheVariants.{NoSchedule, NoExecute}
+use Rattle.device_taints.specs.declared.types.Toleration.{Toleration}
+use Rattle.device_taints.specs.declared.types.TolerationOperator.{TolerationOperator}
+use Rattle.device_taints.specs.declared.types.TolerationOperator.TheVariants.{Equal, Exists}
 use Rattle.object_fields.specs.declared.qualified.QualName.{QualName}
 use Rattle.pool_view.specs.Names.{text_eq}
-use Rattle.cluster.specs.Same.{same_ask, same_attribute, same_constraint, same_exactly, same_kind, same_mode, same_pod_claim, same_pod_claims, same_request, same_spec, same_subrequest, same_truth}
+use Rattle.cluster.specs.Same.{same_ask, same_attribute, same_constraint, same_effects, same_exactly, same_kind, same_mode, same_operator, same_pod_claim, same_pod_claims, same_request, same_spec, same_subrequest, same_toleration, same_truth}
 
 -- a test that decides equality
 pub record Exact {A : Type 0} (same : A → A → Bool) : Type 0 where
@@ -70,20 +76,71 @@ truth_whole : (a : Bool) → same_truth a a ≡ true
 truth_whole true = refl
 truth_whole false = refl
 
-ask_of : (c d : List ℕ) (s t : List (List ℕ)) (m n : AllocationMode) → c ≡ d → s ≡ t → m ≡ n
-    → ◌≡◌ {A = DeviceAsk} (record { class = c; selectors = s; mode = m }) (record { class = d; selectors = t; mode = n })
-ask_of c d s t m n e f g = cc
+effect_sound : (a b : TaintEffect) → effect_eq a b ≡ true → a ≡ b
+effect_sound NoSchedule NoSchedule e = refl
+effect_sound NoSchedule NoExecute e = absurd (cc)
+effect_sound NoExecute NoSchedule e = absurd (cc)
+effect_sound NoExecute NoExecute e = refl
+
+effect_whole : (a : TaintEffect) → effect_eq a a ≡ true
+effect_whole NoSchedule = refl
+effect_whole NoExecute = refl
+
+effects_sound : (a b : Option TaintEffect) → same_effects a b ≡ true → a ≡ b
+effects_sound None None e = refl
+effects_sound None (Some f) e = absurd (cc)
+effects_sound (Some x) None e = absurd (cc)
+effects_sound (Some x) (Some y) e = ap (λ (z : TaintEffect). Some z) (effect_sound x y e)
+
+effects_whole : (a : Option TaintEffect) → same_effects a a ≡ true
+effects_whole None = refl
+effects_whole (Some x) = effect_whole x
+
+operator_sound : (a b : TolerationOperator) → same_operator a b ≡ true → a ≡ b
+operator_sound (Equal x) (Equal y) e = ap Equal (text_exact.sound x y e)
+operator_sound (Equal x) Exists e = absurd (cc)
+operator_sound Exists (Equal y) e = absurd (cc)
+operator_sound Exists Exists e = refl
+
+operator_whole : (a : TolerationOperator) → same_operator a a ≡ true
+operator_whole (Equal x) = text_exact.whole x
+operator_whole Exists = refl
+
+toleration_of : (k l : List ℕ) (o p : TolerationOperator) (e f : Option TaintEffect) → k ≡ l → o ≡ p → e ≡ f
+    → ◌≡◌ {A = Toleration} (record { key = k; operator = o; effect = e }) (record { key = l; operator = p; effect = f })
+toleration_of k l o p e f is same alike = cc
+
+toleration_exact : Exact same_toleration
+toleration_exact = record {
+  sound = λ a b is.
+      let outer = and_parts (text_eq a.key b.key) (same_operator a.operator b.operator && same_effects a.effect b.effect) is in
+      let inner = and_parts (same_operator a.operator b.operator) (same_effects a.effect b.effect) outer.1 in
+      toleration_of a.key b.key a.operator b.operator a.effect b.effect (text_exact.sound a.key b.key outer.0) (operator_sound a.operator b.operator inner.0) (effects_sound a.effect b.effect inner.1);
+  whole = λ a.
+      and_from (text_eq a.key a.key) (same_operator a.operator a.operator && same_effects a.effect a.effect) (text_exact.whole a.key)
+      (and_from (same_operator a.operator a.operator) (same_effects a.effect a.effect) (operator_whole a.operator) (effects_whole a.effect));
+}
+
+tolerations_exact : Exact (pointwise same_toleration)
+tolerations_exact = list_exact same_toleration toleration_exact
+
+ask_of : (c d : List ℕ) (s t : List (List ℕ)) (m n : AllocationMode) (k l : List Toleration) → c ≡ d → s ≡ t → m ≡ n → k ≡ l
+    → ◌≡◌ {A = DeviceAsk} (record { class = c; selectors = s; mode = m; tolerations = k }) (record { class = d; selectors = t; mode = n; tolerations = l })
+ask_of c d s t m n k l e f g h = cc
 
 ask_sound : (a b : DeviceAsk) → same_ask a b ≡ true → a ≡ b
 ask_sound a b is =
-    let outer = and_parts (text_eq a.class b.class) (pointwise text_eq a.selectors b.selectors && same_mode a.mode b.mode) is in
-    let inner = and_parts (pointwise text_eq a.selectors b.selectors) (same_mode a.mode b.mode) outer.1 in
-    ask_of a.class b.class a.selectors b.selectors a.mode b.mode (text_exact.sound a.class b.class outer.0) (texts_exact.sound a.selectors b.selectors inner.0) (mode_sound a.mode b.mode inner.1)
+    let outer = and_parts (text_eq a.class b.class) (pointwise text_eq a.selectors b.selectors && (same_mode a.mode b.mode && pointwise same_toleration a.tolerations b.tolerations)) is in
+    let inner = and_parts (pointwise text_eq a.selectors b.selectors) (same_mode a.mode b.mode && pointwise same_toleration a.tolerations b.tolerations) outer.1 in
+    let last = and_parts (same_mode a.mode b.mode) (pointwise same_toleration a.tolerations b.tolerations) inner.1 in
+    ask_of a.class b.class a.selectors b.selectors a.mode b.mode a.tolerations b.tolerations
+    (text_exact.sound a.class b.class outer.0) (texts_exact.sound a.selectors b.selectors inner.0) (mode_sound a.mode b.mode last.0) (tolerations_exact.sound a.tolerations b.tolerations last.1)
 
 ask_whole : (a : DeviceAsk) → same_ask a a ≡ true
 ask_whole a =
-    and_from (text_eq a.class a.class) (pointwise text_eq a.selectors a.selectors && same_mode a.mode a.mode) (text_exact.whole a.class)
-    (and_from (pointwise text_eq a.selectors a.selectors) (same_mode a.mode a.mode) (texts_exact.whole a.selectors) (mode_whole a.mode))
+    and_from (text_eq a.class a.class) (pointwise text_eq a.selectors a.selectors && (same_mode a.mode a.mode && pointwise same_toleration a.tolerations a.tolerations)) (text_exact.whole a.class)
+    (and_from (pointwise text_eq a.selectors a.selectors) (same_mode a.mode a.mode && pointwise same_toleration a.tolerations a.tolerations) (texts_exact.whole a.selectors)
+    (and_from (same_mode a.mode a.mode) (pointwise same_toleration a.tolerations a.tolerations) (mode_whole a.mode) (tolerations_exact.whole a.tolerations)))
 
 exactly_of : (x y : DeviceAsk) (a b : Bool) → x ≡ y → a ≡ b → ◌≡◌ {A = ExactDeviceRequest} (record { ask = x; admin = a }) (record { ask = y; admin = b })
 exactly_of x y a b e f = cc

@@ -1,5 +1,5 @@
 -- When two claims have the same spec, and two pods the same claims.
-use Rattle.std.specs.Prelude.{◌==◌, Bool, true, false, not, ◌&&◌, if◌then◌else◌}
+use Rattle.std.specs.Prelude.{◌==◌, Bool, true, false, not, ◌&&◌, Option, None, Some, if◌then◌else◌}
 use Rattle.std.specs.Cmp.Lexicographic.{pointwise}
 use Rattle.api_claim.specs.declared.types.AllocationMode.{AllocationMode}
 use Rattle.api_claim.specs.declared.types.AllocationMode.TheVariants.{ExactCount, All}
@@ -13,6 +13,11 @@ use Rattle.api_claim.specs.declared.types.RequestKind.TheVariants.{Exactly, Firs
 use Rattle.api_claim.specs.declared.types.ResourceClaim.{ResourceClaim}
 use Rattle.api_cluster.specs.declared.types.Pod.{Pod}
 use Rattle.api_cluster.specs.declared.types.PodResourceClaim.{PodResourceClaim}
+use Rattle.device_taints.specs.Tolerating.{effect_eq}
+use Rattle.device_taints.specs.declared.types.TaintEffect.{TaintEffect}
+use Rattle.device_taints.specs.declared.types.Toleration.{Toleration}
+use Rattle.device_taints.specs.declared.types.TolerationOperator.{TolerationOperator}
+use Rattle.device_taints.specs.declared.types.TolerationOperator.TheVariants.{Equal, Exists}
 use Rattle.object_fields.specs.declared.qualified.QualName.{QualName}
 use Rattle.pool_view.specs.Names.{text_eq}
 
@@ -22,8 +27,26 @@ same_mode (ExactCount n) All = false
 same_mode All (ExactCount m) = false
 same_mode All All = true
 
+abbrev pub same_effects : Option TaintEffect → Option TaintEffect → Bool
+same_effects None None = true
+same_effects None (Some f) = false
+same_effects (Some e) None = false
+same_effects (Some e) (Some f) = effect_eq e f
+
+abbrev pub same_operator : TolerationOperator → TolerationOperator → Bool
+same_operator (Equal a) (Equal b) = text_eq a b
+same_operator (Equal a) Exists = false
+same_operator Exists (Equal b) = false
+same_operator Exists Exists = true
+
+abbrev pub same_toleration : Toleration → Toleration → Bool
+same_toleration a b = text_eq a.key b.key && (same_operator a.operator b.operator && same_effects a.effect b.effect)
+
 abbrev pub same_ask : DeviceAsk → DeviceAsk → Bool
-same_ask a b = text_eq a.class b.class && (pointwise text_eq a.selectors b.selectors && same_mode a.mode b.mode)
+same_ask a b =
+    text_eq a.class b.class
+    && (pointwise text_eq a.selectors b.selectors
+    && (same_mode a.mode b.mode && pointwise same_toleration a.tolerations b.tolerations))
 
 abbrev pub same_truth : Bool → Bool → Bool
 same_truth a b = if a then b else not b

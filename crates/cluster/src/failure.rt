@@ -22,6 +22,8 @@ pub enum Failure {
     SelectorNo(DeviceId),
     /// The device on which a selector of a request is neither true nor false.
     SelectorFault(DeviceId),
+    /// A result's device, which has a taint that its request doesn't tolerate.
+    Tainted(DeviceId),
     /// A result's device is held by this claim, or granted to it earlier in the plan.
     Held { device: DeviceId, claim: Key },
     /// A counter from which more would be drawn than it has.
@@ -39,6 +41,6 @@ pub struct Shortfall {
     pub counter: Text,
     /// What would be drawn from it with all results, in 10^-9.
     pub drawn: u128,
-    /// What it has, in 10^-9; `None` if the device's slice has no such counter.
+    /// What it has, in 10^-9; `None` if the device's pool has no such counter.
     pub value: Option<u128>,
 }

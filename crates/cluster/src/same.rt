@@ -2,13 +2,14 @@ ghost use Rattle.std.specs.Prelude.{◌≡◌, ◌↔◌, Bool, true};
 ghost use Rattle.api_claim.specs.declared.types.ResourceClaim.{ResourceClaim};
 ghost use Rattle.api_cluster.specs.declared.types.Pod.{Pod};
 ghost use Rattle.std.specs.Cmp.Lexicographic.{pointwise};
-ghost use Rattle.cluster.specs.Same.{same_ask, same_constraint, same_exactly, same_kind, same_mode, same_pod_claim, same_pod_claims, same_request, same_spec, same_subrequest, same_truth};
+ghost use Rattle.cluster.specs.Same.{same_ask, same_constraint, same_effects, same_exactly, same_kind, same_mode, same_operator, same_pod_claim, same_pod_claims, same_request, same_spec, same_subrequest, same_toleration, same_truth};
 
 use api_claim::{
     AllocationMode, DeviceAsk, DeviceConstraint, DeviceRequest, DeviceSubRequest,
     ExactDeviceRequest, RequestKind, ResourceClaim,
 };
 use api_cluster::{Pod, PodResourceClaim};
+use device_taints::{TaintEffect, Toleration, TolerationOperator};
 
 /// Values of which it can be asked whether they are the same.
 trait Same: Sized {
@@ -54,6 +55,16 @@ impl Same for DeviceConstraint {
         self.requests == other.requests
             && self.attribute.domain == other.attribute.domain
             && self.attribute.id == other.attribute.id
+    }
+}
+
+impl Same for Toleration {
+    ghost same = { same_toleration };
+
+    fn is_same(&self, other: &Toleration) -> bool {
+        self.key == other.key
+            && is_same_operator(&self.operator, &other.operator)
+            && is_same_effect(self.effect, other.effect)
     }
 }
 
@@ -117,6 +128,34 @@ fn is_same_ask(first: &DeviceAsk, second: &DeviceAsk) -> bool
     first.class == second.class
         && first.selectors == second.selectors
         && is_same_mode(first.mode, second.mode)
+        && are_same(first.tolerations.as_slice(), second.tolerations.as_slice())
+}
+
+fn is_same_operator(first: &TolerationOperator, second: &TolerationOperator) -> bool
+    ensures { result ≡ same_operator first.now second.now }
+{
+    match first {
+        TolerationOperator::Equal(value) => match second {
+            TolerationOperator::Equal(other) => value == other,
+            TolerationOperator::Exists => false,
+        },
+        TolerationOperator::Exists => match second {
+            TolerationOperator::Equal(_) => false,
+            TolerationOperator::Exists => true,
+        },
+    }
+}
+
+fn is_same_effect(first: Option<TaintEffect>, second: Option<TaintEffect>) -> bool
+    ensures { result ≡ same_effects first second }
+{
+    match first {
+        None => second.is_none(),
+        Some(effect) => match second {
+            None => false,
+            Some(other) => effect == other,
+        },
+    }
 }
 
 fn is_same_mode(first: AllocationMode, second: AllocationMode) -> bool

@@ -139,6 +139,7 @@ failure_text (failure.DeviceGone device) = codes "DeviceGone:" ++ device_text de
 failure_text (failure.Shape claim) = codes "Shape:" ++ key_text claim
 failure_text (failure.SelectorNo device) = codes "SelectorNo:" ++ device_text device
 failure_text (failure.SelectorFault device) = codes "SelectorFault:" ++ device_text device
+failure_text (failure.Tainted device) = codes "Tainted:" ++ device_text device
 failure_text (failure.Held device claim) = codes "Held:" ++ device_text device ++ codes ":" ++ key_text claim
 failure_text (failure.Counter x) = shortfall_text x
 failure_text (failure.Constraint claim index) = codes "Constraint:" ++ key_text claim ++ codes ":" ++ decimal index

@@ -60,6 +60,7 @@ pub fn failure_text(alloc: Global, failure: &Failure) -> Result<String, AllocErr
         Failure::Shape(claim) => format!(in alloc; "Shape:{claim}"),
         Failure::SelectorNo(device) => format!(in alloc; "SelectorNo:{device}"),
         Failure::SelectorFault(device) => format!(in alloc; "SelectorFault:{device}"),
+        Failure::Tainted(device) => format!(in alloc; "Tainted:{device}"),
         Failure::Held { device, claim } => format!(in alloc; "Held:{device}:{claim}"),
         Failure::Counter(short) => shortfall_text(alloc, short),
         Failure::Constraint { claim, index } => format!(in alloc; "Constraint:{claim}:{index}"),
