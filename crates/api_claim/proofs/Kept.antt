@@ -308,7 +308,18 @@ kind_kept law path d a names h k = kind_by law (has_some (codes "firstAvailable"
 
 -- ---- the requests
 
-pub kinds_kept : TolerationLaw → (path : List Step) (ds : Items) (kinds : List RequestKind) → kinds_in path ds ≡ Ok kinds → EachOf KindKept kinds × (length kinds ≡ items_length ds)
+-- as many kinds as items
+pub kinds_length : (path : List Step) (ds : Items) (kinds : List RequestKind) → kinds_in path ds ≡ Ok kinds → length kinds ≡ items_length ds
+kinds_length path ds kinds h =
+    let s = then_ok (each asked_at path ds) (λ asks. each subrequest_names_at path ds >>= λ names. Ok (map kind_of (zip asks names))) kinds h in
+    let t = then_ok (each subrequest_names_at path ds) (λ names. Ok (map kind_of (zip s.0 names))) kinds s.1.1 in
+    let e : given (map kind_of (zip s.0 t.0)) ≡ Ok kinds = t.1.1 in
+    let is : map kind_of (zip s.0 t.0) ≡ kinds = cc in
+    let l = rows_length asked_at path 0 ds s.0 (rows asked_at path s.0 ds s.1.0) in
+    let m = rows_length subrequest_names_at path 0 ds t.0 (rows subrequest_names_at path t.0 ds t.1.0) in
+    sym (ap length is) ∙ length-map (zip s.0 t.0) kind_of ∙ length-zip s.0 t.0 ∙ omega (arith, l, m)
+
+kinds_kept : TolerationLaw → (path : List Step) (ds : Items) (kinds : List RequestKind) → kinds_in path ds ≡ Ok kinds → EachOf KindKept kinds
 kinds_kept law path ds kinds h =
     let s = then_ok (each asked_at path ds) (λ asks. each subrequest_names_at path ds >>= λ names. Ok (map kind_of (zip asks names))) kinds h in
     let t = then_ok (each subrequest_names_at path ds) (λ names. Ok (map kind_of (zip s.0 names))) kinds s.1.1 in
@@ -316,11 +327,8 @@ kinds_kept law path ds kinds h =
     let is : map kind_of (zip s.0 t.0) ≡ kinds = cc in
     let a = rows asked_at path s.0 ds s.1.0 in
     let b = rows subrequest_names_at path t.0 ds t.1.0 in
-    let l = rows_length asked_at path 0 ds s.0 a in
-    let m = rows_length subrequest_names_at path 0 ds t.0 b in
-    let long : length (map kind_of (zip s.0 t.0)) ≡ items_length ds = length-map (zip s.0 t.0) kind_of ∙ length-zip s.0 t.0 ∙ omega (arith, l, m) in
     let every = each_map KindKept kind_of (zip s.0 t.0) (rows_zip (λ p. KindKept (kind_of p)) asked_at subrequest_names_at (kind_kept law) path 0 ds s.0 t.0 a b) in
-    (subst (EachOf KindKept) is every, sym (ap length is) ∙ long)
+    subst (EachOf KindKept) is every
 
 pub requests_kept : TolerationLaw → (path : List Step) (ds : Items) (requests : List DeviceRequest) → 1 ≤ items_length ds → items_length ds ≤ requests_most → requests_in path ds ≡ Ok requests → RequestsKept requests
 requests_kept law path ds requests one few h =
@@ -331,13 +339,14 @@ requests_kept law path ds requests one few h =
     let n = names_from request_name_at request_name path 0 [] s.0 ds no_names s.1.0 in
     let l : length s.0 ≡ items_length ds = omega (arith, n.1) in
     let k = kinds_kept law path ds t.0 t.1.0 in
-    let long : length (map request_of (zip s.0 t.0)) ≡ items_length ds = length-map (zip s.0 t.0) request_of ∙ length-zip s.0 t.0 ∙ omega (arith, l, k.1) in
-    let firsts : map (λ r. r.name) (map request_of (zip s.0 t.0)) ≡ s.0 = map_map request_of (λ r. r.name) (zip s.0 t.0) ∙ firsts-zip s.0 t.0 (k.1 ∙ sym l) in
+    let m = kinds_length path ds t.0 t.1.0 in
+    let long : length (map request_of (zip s.0 t.0)) ≡ items_length ds = length-map (zip s.0 t.0) request_of ∙ length-zip s.0 t.0 ∙ omega (arith, l, m) in
+    let firsts : map (λ r. r.name) (map request_of (zip s.0 t.0)) ≡ s.0 = map_map request_of (λ r. r.name) (zip s.0 t.0) ∙ firsts-zip s.0 t.0 (m ∙ sym l) in
     let kept : RequestsKept (map request_of (zip s.0 t.0)) = record {
       some = omega (arith, long, one);
       few = omega (arith, long, few);
       names = subst AreNames (sym firsts) n.0;
-      kinds = each_map (λ r. KindKept r.kind) request_of (zip s.0 t.0) (each_second KindKept s.0 t.0 k.0);
+      kinds = each_map (λ r. KindKept r.kind) request_of (zip s.0 t.0) (each_second KindKept s.0 t.0 k);
     } in
     subst RequestsKept is kept
 

@@ -23,7 +23,7 @@ use Rattle.api_claim.specs.declared.types.DeviceRequest.{DeviceRequest}
 use Rattle.api_claim.specs.declared.types.RequestKind.{RequestKind}
 use Rattle.api_claim.specs.declared.types.ResourceClaim.{ResourceClaim}
 use Rattle.api_claim.proofs.Inverse.{given, map_map, then_ok, unless_ok}
-use Rattle.api_claim.proofs.Kept.{kinds_kept, names_from, no_names, request_name}
+use Rattle.api_claim.proofs.Kept.{kinds_length, names_from, no_names, request_name}
 
 -- ---- what the labels of items say, a law of the readers of fields
 
@@ -129,8 +129,8 @@ requests_names law path ds requests h =
     let is : made ≡ requests = cc in
     let n = names_from request_name_at request_name path 0 [] s.0 ds no_names s.1.0 in
     let l : length s.0 ≡ items_length ds = omega (arith, n.1) in
-    let k = kinds_kept path ds t.0 t.1.0 in
-    let firsts : map (λ (r : DeviceRequest). r.name) made ≡ s.0 = map_map request_of (λ (r : DeviceRequest). r.name) (zip s.0 t.0) ∙ firsts-zip s.0 t.0 (k.1 ∙ sym l) in
+    let k = kinds_length path ds t.0 t.1.0 in
+    let firsts : map (λ (r : DeviceRequest). r.name) made ≡ s.0 = map_map request_of (λ (r : DeviceRequest). r.name) (zip s.0 t.0) ∙ firsts-zip s.0 t.0 (k ∙ sym l) in
     let some : map with_some made ≡ map Some (map (λ (r : DeviceRequest). r.name) made) = sym (map_map (λ (r : DeviceRequest). r.name) Some made) in
     subst (λ rs. map with_some rs ≡ names_in ds) is (some ∙ ap (map Some) firsts ∙ law path ds s.0 s.1.0)
 
