@@ -1,6 +1,6 @@
 ghost use Rattle.std.specs.Prelude.{◌≡◌, ◌+◌, nat_lt, option_map};
 ghost use Rattle.serde_json.specs.View.{items_view, members_view, view};
-ghost use Rattle.object_fields.specs.Fields.{Reads};
+ghost use Rattle.object_fields.specs.Fields.{Reads, has_no_items};
 ghost use Rattle.object_fields.specs.Lists.{items_or_none};
 ghost use Rattle.api_slice.specs.Lists.{count_on, count_at, is_empty_or_none, members_length};
 
@@ -23,7 +23,17 @@ pub(crate) fn is_empty_or_none(value: Option<&Value>) -> bool
     ensures { result ≡ is_empty_or_none (option_map (λ v. view v.now) value.entry) }
 {
     match value {
-        Some(Value::Array(items)) => items.is_empty(),
+        Some(Value::Array(items)) => no_items(items.as_slice()),
+        Some(_) => false,
+        None => true,
+    }
+}
+
+/// Whether a list has no items.
+fn no_items(items: &[Value]) -> bool
+    ensures { result ≡ has_no_items (items_view items.now) }
+{
+    match items.first() {
         Some(_) => false,
         None => true,
     }
