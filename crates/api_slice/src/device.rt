@@ -200,11 +200,7 @@ fn each_nodes(
     Ok(column)
 }
 
-fn each_taints(
-    alloc: Global,
-    values: &[Value],
-    path: &Path,
-) -> Result<Seq<Seq<Taint>>, FieldError>
+fn each_taints(alloc: Global, values: &[Value], path: &Path) -> Result<Seq<Seq<Taint>>, FieldError>
     ensures { Reads result (each taints_at path.now (items_view values.now)) }
 {
     let mut column = Seq::empty(alloc);
