@@ -1,5 +1,6 @@
 -- What the clauses see of a lock and of its passes, and what each call makes of a pass.
-use Rattle.std.specs.Prelude.{◌≡◌, ℕ, ◌+◌, ◌-◌, List, [], ◌++◌, length, if◌then◌else◌, Option, Some, None, ltb}
+use Rattle.std.specs.Prelude.{◌≡◌, ℕ, ◌+◌, ◌-◌, ◌≤◌, List, [], ◌++◌, length, if◌then◌else◌, IfSome, Option, Some, None, ltb}
+use Rattle.std.specs.List.{AllByRecursion}
 use Rattle.atomic_table.specs.Seated.{TableId}
 use Rattle.turn_lock.specs.Places.{new_places}
 
@@ -34,6 +35,14 @@ module _ {E : Type 0} where
   -- the pass has a turn, which began with this history
   abbrev pub HasTurn : Known E → List E → Type 0
   HasTurn p h = p.turn ≡ Some h
+
+  -- each of the pass's own indices is one of its front
+  abbrev pub OwnIsSeen : Known E → Type 0
+  OwnIsSeen p = AllByRecursion (λ n. n ≤ length p.front) p.own
+
+  -- the turn began with a history that is no shorter than the front
+  abbrev pub BeginsLater : Known E → Type 0
+  BeginsLater p = IfSome p.turn (λ h. length p.front ≤ length h)
 
   abbrev pub longer : List E → List E → List E
   longer a b = if ltb (length a) (length b) then b else a

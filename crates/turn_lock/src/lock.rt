@@ -2,7 +2,7 @@ ghost use Rattle.std.specs.Prelude.{◌≡◌, ◌+◌, ℕ, ◌%◌, ◌<◌, L
 ghost use mathlib.Core.List.{IsPrefix};
 ghost use Rattle.turn_lock.specs.declared.view.Stage.TheVariants.{Waiting, InTurn};
 ghost use Rattle.turn_lock.specs.Places.{Grown, OwnsAll};
-ghost use Rattle.turn_lock.specs.Known.{IsOf, IsFree, HasTurn, first_pass, entered, left, lessened, split_off, joined};
+ghost use Rattle.turn_lock.specs.Known.{IsOf, IsFree, HasTurn, OwnIsSeen, first_pass, entered, left, lessened, split_off, joined};
 ghost use Rattle.turn_lock.specs.Stages.{with_stage};
 
 use crate::recorded::Recorded;
@@ -49,14 +49,14 @@ pub struct Pass<T: Recorded> {
 
 impl<T: Recorded> Model for Pass<T> {
     ghost use Rattle.std.specs.Prelude.{◌≡◌, ◌<◌, true};
-    ghost use Rattle.turn_lock.specs.Known.{Known};
+    ghost use Rattle.turn_lock.specs.Known.{Known, OwnIsSeen, BeginsLater};
     ghost use Rattle.turn_lock.specs.Stages.{known_of, rests, carried};
 
     ghost Value = { Known T.Entry };
 
     ghost view = { λ p. known_of p.seat.table_id p.seat.me.0 };
 
-    ghost invariant = { λ p. (p.share ≡ p.seat.me.0.share) × (0 < p.share) × (rests p.seat.me.0.stage ≡ true) × (p.seat.me.1 ≡ carried p.seat.me.0.stage) };
+    ghost invariant = { λ p. (p.share ≡ p.seat.me.0.share) × (0 < p.share) × (rests p.seat.me.0.stage ≡ true) × (p.seat.me.1 ≡ carried p.seat.me.0.stage) × OwnIsSeen (known_of p.seat.table_id p.seat.me.0) × BeginsLater (known_of p.seat.table_id p.seat.me.0) };
 }
 
 /// Why a lock wasn't made: out of memory. The state is returned.
@@ -257,5 +257,13 @@ impl<T: Recorded> Pass<T> {
         ensures { result ≡ self.now.share }
     {
         self.share
+    }
+
+    /// States that the pass has seen its own entries: each of its own indices is at most the length of
+    /// its front.
+    pub fn own_is_seen(&self)
+        ensures { OwnIsSeen self.now }
+    {
+        let _ = &self.seat;
     }
 }

@@ -1,7 +1,8 @@
 use Rattle.std.proofs.Common.{rules, ap, sym, ◌∙◌, subst}
 use Rattle.turn_lock.proofs.Keeps.{in_keeps_at, leave_keeps, turn_over, carried_slot, holding_of, left_is}
+use Rattle.turn_lock.proofs.Seen.{own_after}
 use Rattle.turn_lock.specs.Places.{Grown}
-use Rattle.turn_lock.specs.Known.{left}
+use Rattle.turn_lock.specs.Known.{left, OwnIsSeen, BeginsLater}
 use Rattle.turn_lock.specs.Stages.{carried, known_of, rests}
 use Rattle.turn_lock.proofs.lock.TurnLock.leave.Goals as goal
 
@@ -38,7 +39,10 @@ invariant_of-pass g c =
     let held = holding_of _ _ (ap (λ k. k.turn) c.pass.view_is ∙ c.requires.turn.1) in
     let e = c.exchange-empty.ensures.3 ∙ ap (λ z. (c.pass.inside.seat.me.0, z)) (carried_slot _ _ _ _ _ i.3 held.1) in
     let z = turn_over _ c.pass.inside.seat.me _ _ _ _ _ c.into_state-state.result held.1 e c.load.ensures.2 c.fetch_add.ensures.2 in
-    (i.0 ∙ sym (ap (λ m. m.0.share) z), i.1, ap (λ m. rests m.0.stage) z, ap (λ m. m.1) z ∙ sym (ap (λ m. carried m.0.stage) z))
+    let grown = subst (λ y. Grown c.requires.turn.0 (g.T.Recorded.history y)) (sym c.into_state-state.ensures) c.requires.turn.2 in
+    let seen = subst (λ m. OwnIsSeen (known_of c.fetch_add.new.seat.table_id m.0) × BeginsLater (known_of c.fetch_add.new.seat.table_id m.0)) (sym z)
+    (own_after c.pass.inside.seat.me.0 held.0 c.requires.turn.0 (g.T.Recorded.history c.into_state-state.result) held.1 i.4 i.5 grown, tt) in
+    (i.0 ∙ sym (ap (λ m. m.0.share) z), i.1, ap (λ m. rests m.0.stage) z, ap (λ m. m.1) z ∙ sym (ap (λ m. carried m.0.stage) z), seen.0, seen.1)
 
 pub returns : goal.returns
 returns g c =
