@@ -5,6 +5,7 @@ use crate::{Job, Unrun, run_all};
 use dra_ports::{Gate, HoldGate, OpenGate, Point};
 use std::alloc::{AllocError, Global};
 use std::sync::Wait;
+use std::sync::atomic::{AtomicU64, Ordering};
 use std::test::*;
 use std::thread::Threads;
 use turn_lock::{Pass, Recorded, Refused, TurnLock};
@@ -38,6 +39,33 @@ impl Job<Blank> for Tell {
         gate.reached(self.number, Point::Searched);
         gate.reached(self.number, Point::Ended);
         self.number
+    }
+}
+
+/// A gate that counts the calls of another.
+#[derive(Drop)]
+struct Counting {
+    gate: HoldGate,
+    calls: AtomicU64,
+}
+
+impl Counting {
+    fn new(gate: HoldGate) -> Counting {
+        Counting {
+            gate,
+            calls: AtomicU64::new(0),
+        }
+    }
+
+    fn calls(&self) -> u64 {
+        self.calls.load(Ordering::SeqCst)
+    }
+}
+
+impl Gate for Counting {
+    fn reached(&self, job: u64, point: Point) {
+        self.calls.fetch_add(1, Ordering::SeqCst);
+        self.gate.reached(job, point);
     }
 }
 
@@ -138,9 +166,19 @@ fn ends_stand_list_by_list(rt: HostRuntime) -> Result<(), Fail> {
 #[test]
 fn two_lists_run_beside_each_other(rt: HostRuntime) -> Result<(), Fail> {
     for _ in 0..10 {
-        let gate = HoldGate::new(0, Point::Searched, 1, 100_000_000);
+        let gate = Counting::new(HoldGate::new(0, Point::Searched, 1, 100_000_000));
         assert!(rt; ends_in_order(&rt, rt.alloc(), &gate, &[1, 1], 2)?);
-        assert!(rt; !gate.gave_up());
+        assert!(rt; gate.calls() == 4);
+        assert!(rt; !gate.gate.gave_up());
     }
+    Ok(())
+}
+
+#[test]
+fn jobs_of_one_list_wait_in_vain(rt: HostRuntime) -> Result<(), Fail> {
+    let gate = Counting::new(HoldGate::new(0, Point::Searched, 1, 1000));
+    assert!(rt; ends_in_order(&rt, rt.alloc(), &gate, &[2], 2)?);
+    assert!(rt; gate.calls() == 4);
+    assert!(rt; gate.gate.gave_up());
     Ok(())
 }
