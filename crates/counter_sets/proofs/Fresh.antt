@@ -1,204 +1,208 @@
--- The value at a counter after the counters of a slice were added.
-use Rattle.std.proofs.Common.{◌≡◌, ℕ, ℤ, List, [], ◌∷◌, Bool, true, false, Option, None, Some, refl, sym, ap, ◌∙◌, if◌then◌else◌, cond}
-use Rattle.std.specs.BTreeMap.{insert_entry, is_at}
-use Rattle.std.specs.Cmp.Lexicographic.{same_text, texts_ties}
-use Rattle.std.specs.declared.cmp.Ordering.{Ordering}
-use Rattle.std.specs.declared.cmp.Ordering.TheVariants.{Less, Equal, Greater}
-use Rattle.std.specs.List.{find}
+-- The counters that are kept after those of a slice were added.
+use Rattle.std.proofs.Common.{◌≡◌, ℕ, ℤ, List, [], ◌∷◌, Bool, true, false, Option, None, Some, refl, sym, ap, ◌∙◌, if◌then◌else◌, ◌&&◌, ◌||◌, cond, map}
+use Rattle.std.specs.BTreeMap.{insert_entry}
+use Rattle.std.specs.Cmp.Lexicographic.{same_text}
+use Rattle.std.specs.List.{find, list_any}
 use Rattle.std.specs.Option.{is_some, option_and_then, option_map}
-use Rattle.std.specs.Ordering.{is_eq, match_ordering}
-use Rattle.std.proofs.lemmas.Cmp.{nat_list_eq_equiv}
+use Rattle.std.proofs.lemmas.Iterator.Adapters.{option_map_id}
 use Rattle.api_slice.specs.declared.types.CounterSet.{CounterSet}
 use Rattle.api_slice.specs.declared.types.ResourceSlice.{ResourceSlice}
 use Rattle.pool_view.specs.Names.{at_name, text_cmp, text_eq}
-use Rattle.counter_sets.specs.Draws.{CounterId, counter_value, natural, sets_for, value_in}
-use Rattle.counter_sets.specs.Totals.{Tabled, counter_at, counter_in, drawn_in, keeps, or_empty, or_zero, with_set, with_slice, zero_sets, zeros}
+use Rattle.pool_view.specs.Pools.{set_named}
+use Rattle.counter_sets.specs.Draws.{CounterId, counter_value, is_of_pool, natural, or_value}
+use Rattle.counter_sets.specs.Totals.{KeptCounters, PoolCounters, SetCounters, Tabled, changed_at, counter_at, counter_in, drawn_in, drawn_kept, grown_set, grown_sets, or_empty, pool_in, pools_with, undrawn, value_kept, value_of, with_counters, with_grown, with_room, with_set, with_sets, with_slice}
+use Rattle.counter_sets.specs.declared.added.GrownSet.{GrownSet}
+use Rattle.counter_sets.specs.declared.counter.Counter.{Counter}
+use Rattle.counter_sets.proofs.Names.{moved_if, moved_name, option_map_twice}
+use Rattle.counter_sets.proofs.Putting.{added_at, at_head, found, or_else, or_none, put_at}
 
--- whether a name is at another, by their equality
-pub at_is : (k name : List ℕ) → is_at (text_cmp k) name ≡ text_eq name k
-at_is k name = sym (texts_ties k name) ∙ nat_list_eq_equiv.symm k name
+-- ---- counters of a set
 
-abbrev pub found : {V : Type 0} → Bool → V → Option V → Option V
-found b v o = if b then Some v else o
+counter_step : (t : Bool) (x : ℤ) (o : Option Counter) (p : Option ℤ) → or_else (or_else o (found t (undrawn x) None)) (option_map undrawn p) ≡ or_else o (option_map undrawn (found t x p))
+counter_step true x None p = refl
+counter_step true x (Some k) p = refl
+counter_step false x None p = refl
+counter_step false x (Some k) p = refl
 
-at_head : {V : Type 0} (e : List ℕ × V) (es : List (List ℕ × V)) (k : List ℕ) → at_name (e ∷ es) k ≡ found (text_eq e.0 k) e.1 (at_name es k)
-at_head e es k = ap (λ (b : Bool). found b e.1 (at_name es k)) (at_is k e.0)
+counters_at : (es : List (List ℕ × ℤ)) (counters : SetCounters) (k : List ℕ) → at_name (with_counters es counters) k ≡ or_else (at_name counters k) (option_map undrawn (at_name es k))
+counters_at [] counters k = or_none (at_name counters k)
+counters_at (e ∷ es) counters k =
+    counters_at es (if is_some (at_name counters e.0) then counters else insert_entry text_cmp counters e.0 (undrawn e.1)) k
+    ∙ ap (λ (o : Option Counter). or_else o (option_map undrawn (at_name es k))) (added_at (is_some (at_name counters e.0)) e.0 k (undrawn e.1) counters refl)
+    ∙ counter_step (text_eq e.0 k) e.1 (at_name counters k) (at_name es k)
+    ∙ sym (ap (λ (q : Option ℤ). or_else (at_name counters k) (option_map undrawn q)) (at_head e es k))
 
--- ---- a name more
+-- ---- sets of a pool
 
-same_found : {V : Type 0} (b c : Bool) (v x : V) (o : Option V) → b ≡ c → found b v o ≡ found c v (found b x o)
-same_found true true v x o e = refl
-same_found false false v x o e = refl
-same_found true false v x o e = absurd (cc)
-same_found false true v x o e = absurd (cc)
+abbrev grows : List ℕ → GrownSet → Bool
+grows k g = text_eq g.name k
 
-other_found : {V : Type 0} (b c : Bool) (v x : V) (o : Option V) → (b ≡ true → c ≡ true → ⊥) → found b x (found c v o) ≡ found c v (found b x o)
-other_found true true v x o no_both = absurd (no_both refl refl)
-other_found true false v x o no_both = refl
-other_found false true v x o no_both = refl
-other_found false false v x o no_both = refl
+abbrev empty_if : Bool → Option SetCounters
+empty_if b = if b then Some [] else None
 
-not_both : (n m k : List ℕ) → text_cmp n m ≡ Greater → text_eq m k ≡ true → text_eq n k ≡ true → ⊥
-not_both n m k greater e f =
-    let same : n ≡ m = same_text n k (sym f) ∙ sym (same_text m k (sym e)) in
-    let equal : text_eq n m ≡ true = ap (λ (t : List ℕ). text_eq t m) same ∙ nat_list_eq_equiv.refl m in
-    let other : text_eq n m ≡ false = texts_ties n m ∙ ap is_eq greater in
-    cc
+room_step : (t r : Bool) (o : Option SetCounters) → or_else (or_else o (found t [] None)) (empty_if r) ≡ or_else o (empty_if (t || r))
+room_step true r None = refl
+room_step true r (Some x) = refl
+room_step false r None = refl
+room_step false r (Some x) = refl
 
-insert_by : {V : Type 0} (o : Ordering) (n k : List ℕ) (v : V) (e : List ℕ × V) (es : List (List ℕ × V)) → text_cmp n e.0 ≡ o
-    → at_name (insert_entry text_cmp es n v) k ≡ found (text_eq n k) v (at_name es k)
-    → at_name (match_ordering o ((n, v) ∷ e ∷ es) ((e.0, v) ∷ es) (e ∷ insert_entry text_cmp es n v)) k ≡ found (text_eq n k) v (at_name (e ∷ es) k)
-insert_by Less n k v e es is h = at_head (n, v) (e ∷ es) k
-insert_by Equal n k v e es is h =
-    at_head (e.0, v) es k
-    ∙ same_found (text_eq e.0 k) (text_eq n k) v e.1 (at_name es k) (ap (λ (t : List ℕ). text_eq t k) (sym (same_text n e.0 (sym (texts_ties n e.0 ∙ ap is_eq is)))))
-    ∙ sym (ap (found (text_eq n k) v) (at_head e es k))
-insert_by Greater n k v e es is h =
-    at_head e (insert_entry text_cmp es n v) k
-    ∙ ap (found (text_eq e.0 k) e.1) h
-    ∙ other_found (text_eq e.0 k) (text_eq n k) v e.1 (at_name es k) (not_both n e.0 k is)
-    ∙ sym (ap (found (text_eq n k) v) (at_head e es k))
+room_at : (gs : List GrownSet) (sets : PoolCounters) (k : List ℕ) → at_name (with_room gs sets) k ≡ or_else (at_name sets k) (empty_if (list_any (grows k) gs))
+room_at [] sets k = or_none (at_name sets k)
+room_at (g ∷ gs) sets k =
+    room_at gs (with_set g.name sets) k
+    ∙ ap (λ (o : Option SetCounters). or_else o (empty_if (list_any (grows k) gs))) (added_at (is_some (at_name sets g.name)) g.name k [] sets refl)
+    ∙ room_step (text_eq g.name k) (list_any (grows k) gs) (at_name sets k)
 
--- the value at a name after an insertion
-pub insert_at : {V : Type 0} (n k : List ℕ) (v : V) (es : List (List ℕ × V)) → at_name (insert_entry text_cmp es n v) k ≡ found (text_eq n k) v (at_name es k)
-insert_at n k v [] = at_head (n, v) [] k
-insert_at n k v (e ∷ es) = insert_by (text_cmp n e.0) n k v e es refl (insert_at n k v es)
+abbrev grown_to : Option GrownSet → SetCounters → SetCounters
+grown_to None counters = counters
+grown_to (Some g) counters = g.counters
 
--- ---- counters
+grown_step : (t : Bool) (g : GrownSet) (o : Option GrownSet) (w : Option SetCounters)
+    → option_map (moved_if t (λ counters. g.counters)) (option_map (grown_to o) w) ≡ option_map (grown_to (cond t (Some g) o)) w
+grown_step t g o None = refl
+grown_step true g o (Some x) = refl
+grown_step false g o (Some x) = refl
 
-abbrev zero_if : Bool → Option ℕ → Option ℕ
-zero_if b o = found b 0 o
+none_grown : (w : Option SetCounters) → w ≡ option_map (grown_to None) w
+none_grown None = refl
+none_grown (Some x) = refl
 
-zeros_step : (b : Bool) (x : ℤ) (p : Option ℤ) (o : Option ℕ) → zero_if (is_some p) (zero_if b o) ≡ zero_if (is_some (found b x p)) o
-zeros_step true x None o = refl
-zeros_step true x (Some y) o = refl
-zeros_step false x p o = refl
+grown_at : (gs : List GrownSet) (sets : PoolCounters) (k : List ℕ) → at_name (with_grown gs sets) k ≡ option_map (grown_to (find (grows k) gs)) (at_name sets k)
+grown_at [] sets k = none_grown (at_name sets k)
+grown_at (g ∷ gs) sets k =
+    moved_name g.name k (λ counters. g.counters) (with_grown gs sets)
+    ∙ ap (option_map (moved_if (text_eq g.name k) (λ counters. g.counters))) (grown_at gs sets k)
+    ∙ grown_step (text_eq g.name k) g (find (grows k) gs) (at_name sets k)
 
-zeros_at : (es : List (List ℕ × ℤ)) (counters : Tabled ℕ) (k : List ℕ) → at_name (zeros es counters) k ≡ zero_if (is_some (at_name es k)) (at_name counters k)
-zeros_at [] counters k = refl
-zeros_at (e ∷ es) counters k =
-    zeros_at es (insert_entry text_cmp counters e.0 0) k
-    ∙ ap (zero_if (is_some (at_name es k))) (insert_at e.0 k 0 counters)
-    ∙ zeros_step (text_eq e.0 k) e.1 (at_name es k) (at_name counters k)
-    ∙ sym (ap (λ (q : Option ℤ). zero_if (is_some q) (at_name counters k)) (at_head e es k))
+found_step : (t : Bool) (s : CounterSet) (f : CounterSet → GrownSet) (o : Option GrownSet) (p : Option CounterSet) → o ≡ option_map f p → cond t (Some (f s)) o ≡ option_map f (cond t (Some s) p)
+found_step true s f o p e = refl
+found_step false s f o p e = e
 
--- ---- sets
+grown_found : (sets : PoolCounters) (ss : List CounterSet) (k : List ℕ) → find (grows k) (grown_sets ss sets) ≡ option_map (grown_set sets) (set_named ss k)
+grown_found sets [] k = refl
+grown_found sets (s ∷ ss) k =
+    found_step (text_eq s.name k) s (grown_set sets) (find (grows k) (grown_sets ss sets)) (set_named ss k) (grown_found sets ss k)
 
-abbrev or_else : {V : Type 0} → Option V → Option V → Option V
-or_else None o = o
-or_else (Some x) o = Some x
+any_step : (t r : Bool) (s : CounterSet) (o : Option CounterSet) → r ≡ is_some o → (t || r) ≡ is_some (cond t (Some s) o)
+any_step true r s o e = refl
+any_step false r s o e = e
 
-or_none : {V : Type 0} (o : Option V) → o ≡ or_else o None
-or_none None = refl
-or_none (Some x) = refl
+grown_any : (sets : PoolCounters) (ss : List CounterSet) (k : List ℕ) → list_any (grows k) (grown_sets ss sets) ≡ is_some (set_named ss k)
+grown_any sets [] k = refl
+grown_any sets (s ∷ ss) k = any_step (text_eq s.name k) (list_any (grows k) (grown_sets ss sets)) s (set_named ss k) (grown_any sets ss k)
 
-there_already : {V : Type 0} (o p : Option V) → is_some o ≡ true → o ≡ or_else o p
-there_already None p e = absurd (cc)
-there_already (Some x) p e = refl
+named_step : (t : Bool) (s u : CounterSet) (o : Option CounterSet) (k : List ℕ) → text_eq s.name k ≡ t → cond t (Some s) o ≡ Some u → (o ≡ Some u → u.name ≡ k) → u.name ≡ k
+named_step true s u o k is e later =
+    let same : s ≡ u = cc in
+    ap (λ (v : CounterSet). v.name) (sym same) ∙ same_text s.name k (sym is)
+named_step false s u o k is e later = later e
 
-not_there : {V : Type 0} (o : Option V) (z : V) → is_some o ≡ false → Some z ≡ or_else o (Some z)
-not_there None z e = refl
-not_there (Some x) z e = absurd (cc)
+named_is : (ss : List CounterSet) (k : List ℕ) (u : CounterSet) → set_named ss k ≡ Some u → u.name ≡ k
+named_is [] k u e = absurd (cc)
+named_is (s ∷ ss) k u e = named_step (text_eq s.name k) s u (set_named ss k) k refl e (named_is ss k u)
 
-with_there : {V : Type 0} (t : Bool) (z : V) (o : Option V) → (t ≡ true → is_some o ≡ true) → o ≡ or_else o (found t z None)
-with_there true z o h = there_already o (Some z) (h refl)
-with_there false z o h = or_none o
+abbrev of_set : Option CounterSet → Option SetCounters → Option SetCounters
+of_set None w = w
+of_set (Some s) w = Some (with_counters s.counters (or_empty w))
 
-with_new : {V : Type 0} (t : Bool) (z : V) (o : Option V) → (t ≡ true → is_some o ≡ false) → found t z o ≡ or_else o (found t z None)
-with_new true z o h = not_there o z (h refl)
-with_new false z o h = or_none o
+none_put : (w : Option SetCounters) → option_map (grown_to None) (or_else w None) ≡ w
+none_put None = refl
+none_put (Some x) = refl
 
-abbrev zeros_of : CounterSet → Tabled ℕ
-zeros_of s = zeros s.counters []
+some_put : (g : GrownSet) (w : Option SetCounters) → option_map (grown_to (Some g)) (or_else w (Some [])) ≡ Some g.counters
+some_put g None = refl
+some_put g (Some x) = refl
 
-pub named_same : {V : Type 0} (sets : List (List ℕ × V)) (name set : List ℕ) (b : Bool) → is_some (at_name sets name) ≡ b → text_eq name set ≡ true → is_some (at_name sets set) ≡ b
-named_same sets name set b e t = ap (λ (n : List ℕ). is_some (at_name sets n)) (sym (same_text name set (sym t))) ∙ e
+sets_by : (sets : PoolCounters) (k : List ℕ) (f : Option CounterSet) → ((u : CounterSet) → f ≡ Some u → u.name ≡ k)
+    → option_map (grown_to (option_map (grown_set sets) f)) (or_else (at_name sets k) (empty_if (is_some f))) ≡ of_set f (at_name sets k)
+sets_by sets k None named = none_put (at_name sets k)
+sets_by sets k (Some s) named =
+    some_put (grown_set sets s) (at_name sets k) ∙ ap (λ (n : List ℕ). Some (with_counters s.counters (or_empty (at_name sets n)))) (named s refl)
 
-set_by : (b : Bool) (s : CounterSet) (sets : Tabled (Tabled ℕ)) (set : List ℕ) → is_some (at_name sets s.name) ≡ b
-    → at_name (if b then sets else insert_entry text_cmp sets s.name (zeros_of s)) set ≡ or_else (at_name sets set) (found (text_eq s.name set) (zeros_of s) None)
-set_by true s sets set e = with_there (text_eq s.name set) (zeros_of s) (at_name sets set) (named_same sets s.name set true e)
-set_by false s sets set e =
-    insert_at s.name set (zeros_of s) sets ∙ with_new (text_eq s.name set) (zeros_of s) (at_name sets set) (named_same sets s.name set false e)
+sets_at : (ss : List CounterSet) (sets : PoolCounters) (k : List ℕ) → at_name (with_sets ss sets) k ≡ of_set (set_named ss k) (at_name sets k)
+sets_at ss sets k =
+    grown_at (grown_sets ss sets) (with_room (grown_sets ss sets) sets) k
+    ∙ ap (option_map (grown_to (find (grows k) (grown_sets ss sets)))) (room_at (grown_sets ss sets) sets k)
+    ∙ ap (λ (o : Option GrownSet). option_map (grown_to o) (or_else (at_name sets k) (empty_if (list_any (grows k) (grown_sets ss sets))))) (grown_found sets ss k)
+    ∙ ap (λ (b : Bool). option_map (grown_to (option_map (grown_set sets) (set_named ss k))) (or_else (at_name sets k) (empty_if b))) (grown_any sets ss k)
+    ∙ sets_by sets k (set_named ss k) (named_is ss k)
 
-join_step : (t : Bool) (s : CounterSet) (o : Option (Tabled ℕ)) (f : Option CounterSet)
-    → or_else (or_else o (found t (zeros_of s) None)) (option_map zeros_of f) ≡ or_else o (option_map zeros_of (cond t (Some s) f))
-join_step true s None f = refl
-join_step true s (Some x) f = refl
-join_step false s None f = refl
-join_step false s (Some x) f = refl
+abbrev new_in : List CounterSet → List ℕ → List ℕ → Option Counter
+new_in ss set k = option_map undrawn (option_and_then (λ (s : CounterSet). at_name s.counters k) (set_named ss set))
 
-sets_at : (ss : List CounterSet) (sets : Tabled (Tabled ℕ)) (set : List ℕ)
-    → at_name (zero_sets ss sets) set ≡ or_else (at_name sets set) (option_map zeros_of (find (λ s. text_eq s.name set) ss))
-sets_at [] sets set = or_none (at_name sets set)
-sets_at (s ∷ ss) sets set =
-    sets_at ss (with_set s sets) set
-    ∙ ap (λ (o : Option (Tabled ℕ)). or_else o (option_map zeros_of (find (λ (s : CounterSet). text_eq s.name set) ss))) (set_by (is_some (at_name sets s.name)) s sets set refl)
-    ∙ join_step (text_eq s.name set) s (at_name sets set) (find (λ (s : CounterSet). text_eq s.name set) ss)
+counter_by : (f : Option CounterSet) (w : Option SetCounters) (k : List ℕ)
+    → at_name (or_empty (of_set f w)) k ≡ or_else (at_name (or_empty w) k) (option_map undrawn (option_and_then (λ (s : CounterSet). at_name s.counters k) f))
+counter_by None w k = or_none (at_name (or_empty w) k)
+counter_by (Some s) w k = counters_at s.counters (or_empty w) k
+
+counters_added : (ss : List CounterSet) (sets : PoolCounters) (set k : List ℕ) → counter_in (with_sets ss sets) set k ≡ or_else (counter_in sets set k) (new_in ss set k)
+counters_added ss sets set k = ap (λ (o : Option SetCounters). at_name (or_empty o) k) (sets_at ss sets set) ∙ counter_by (set_named ss set) (at_name sets set) k
 
 -- ---- a slice
 
-abbrev to_zero : ℕ → ℕ
-to_zero n = 0
+abbrev pool_grown : Bool → ResourceSlice → PoolCounters → PoolCounters
+pool_grown b x sets = if b then with_sets x.counters sets else sets
 
-zero_value : (p : Option ℤ) → zero_if (is_some p) None ≡ option_map to_zero (option_map natural p)
-zero_value None = refl
-zero_value (Some z) = refl
+pool_step : (b : Bool) (x : ResourceSlice) (pools : Tabled PoolCounters) (pool : List ℕ)
+    → or_empty (at_name (if b then pools_with x.pool.name x.counters pools else pools) pool) ≡ pool_grown (b && text_eq x.pool.name pool) x (or_empty (at_name pools pool))
+pool_step true x pools pool = put_at x.pool.name pool (λ sets. with_sets x.counters sets) pools
+pool_step false x pools pool = refl
 
-value_by : (f : Option CounterSet) (k : List ℕ)
-    → at_name (or_empty (option_map zeros_of f)) k ≡ option_map to_zero (option_map natural (option_and_then (λ s. at_name s.counters k) f))
-value_by None k = refl
-value_by (Some s) k = zeros_at s.counters [] k ∙ zero_value (at_name s.counters k)
-
-values_at : (ss : List CounterSet) (set k : List ℕ) → counter_in (zero_sets ss []) set k ≡ option_map to_zero (value_in ss set k)
-values_at ss set k =
-    ap (λ (o : Option (Tabled ℕ)). at_name (or_empty o) k) (sets_at ss [] set) ∙ value_by (find (λ (s : CounterSet). text_eq s.name set) ss) k
-
-abbrev slice_at : Bool → Tabled (Tabled ℕ) → Option (Tabled (Tabled ℕ)) → CounterId → Option ℕ
-slice_at b sets o c = counter_in (or_empty (found b sets o)) c.set c.counter
-
-slice_added : (x : ResourceSlice) (kept : Tabled (Tabled (Tabled ℕ))) (c : CounterId)
-    → counter_at (with_slice x kept) c ≡ slice_at (text_eq x.name c.slice) (zero_sets (sets_for x) []) (at_name kept c.slice) c
+pool_with : (x : ResourceSlice) (kept : KeptCounters) (c : CounterId) → pool_in (with_slice x kept) c.driver c.pool ≡ pool_grown (is_of_pool x c) x (pool_in kept c.driver c.pool)
 unfolding with_slice
-slice_added x kept c = ap (λ (o : Option (Tabled (Tabled ℕ))). counter_in (or_empty o) c.set c.counter) (insert_at x.name c.slice (zero_sets (sets_for x) []) kept)
+pool_with x kept c =
+    ap (λ (pools : Tabled PoolCounters). or_empty (at_name pools c.pool)) (put_at x.driver c.driver (λ pools. pools_with x.pool.name x.counters pools) kept)
+    ∙ pool_step (text_eq x.driver c.driver) x (or_empty (at_name kept c.driver)) c.pool
 
-is_some_zero : (o p : Option ℕ) → o ≡ option_map to_zero p → is_some o ≡ is_some p
-is_some_zero o None e = ap is_some e
-is_some_zero o (Some n) e = ap is_some e
+abbrev new_of : Bool → ResourceSlice → CounterId → Option Counter
+new_of b x c = if b then new_in x.counters c.set c.counter else None
 
-or_zero_zero : (o p : Option ℕ) → o ≡ option_map to_zero p → or_zero o ≡ 0
-or_zero_zero o None e = ap or_zero e
-or_zero_zero o (Some n) e = ap or_zero e
+counter_if : (b : Bool) (x : ResourceSlice) (sets : PoolCounters) (c : CounterId) → counter_in (pool_grown b x sets) c.set c.counter ≡ or_else (counter_in sets c.set c.counter) (new_of b x c)
+counter_if true x sets c = counters_added x.counters sets c.set c.counter
+counter_if false x sets c = or_none (counter_in sets c.set c.counter)
 
-kept_by : (b : Bool) (sets : Tabled (Tabled ℕ)) (o : Option (Tabled (Tabled ℕ))) (c : CounterId) (v : Option ℕ) → counter_in sets c.set c.counter ≡ option_map to_zero v
-    → is_some (slice_at b sets o c) ≡ (if b then is_some (if b then v else None) else is_some (counter_in (or_empty o) c.set c.counter))
-kept_by true sets o c v e = is_some_zero (counter_in sets c.set c.counter) v e
-kept_by false sets o c v e = refl
+counter_with : (x : ResourceSlice) (kept : KeptCounters) (c : CounterId) → counter_at (with_slice x kept) c ≡ or_else (counter_at kept c) (new_of (is_of_pool x c) x c)
+counter_with x kept c =
+    ap (λ (sets : PoolCounters). counter_in sets c.set c.counter) (pool_with x kept c) ∙ counter_if (is_of_pool x c) x (pool_in kept c.driver c.pool) c
 
--- the counters of the slice are kept besides
-pub kept_more : (x : ResourceSlice) (kept : Tabled (Tabled (Tabled ℕ))) (c : CounterId)
-    → keeps (with_slice x kept) c ≡ (if text_eq x.name c.slice then is_some (counter_value x c) else keeps kept c)
-unfolding keeps counter_value
-kept_more x kept c =
-    ap is_some (slice_added x kept c)
-    ∙ kept_by (text_eq x.name c.slice) (zero_sets (sets_for x) []) (at_name kept c.slice) c (value_in (sets_for x) c.set c.counter) (values_at (sets_for x) c.set c.counter)
+value_new : (q : Option ℤ) → value_kept (option_map undrawn q) ≡ option_map natural q
+value_new None = refl
+value_new (Some z) = refl
 
-drawn_by_slice : (b : Bool) (sets : Tabled (Tabled ℕ)) (o : Option (Tabled (Tabled ℕ))) (c : CounterId) (v : Option ℕ) → counter_in sets c.set c.counter ≡ option_map to_zero v
-    → or_zero (slice_at b sets o c) ≡ (if b then 0 else or_zero (counter_in (or_empty o) c.set c.counter))
-drawn_by_slice true sets o c v e = or_zero_zero (counter_in sets c.set c.counter) v e
-drawn_by_slice false sets o c v e = refl
+value_if : (b : Bool) (q : Option ℤ) → value_kept (if b then option_map undrawn q else None) ≡ (if b then option_map natural q else None)
+value_if true q = value_new q
+value_if false q = refl
 
--- nothing is drawn from them
-pub none_drawn : (x : ResourceSlice) (kept : Tabled (Tabled (Tabled ℕ))) (c : CounterId)
-    → drawn_in (with_slice x kept) c ≡ (if text_eq x.name c.slice then 0 else drawn_in kept c)
+value_step : (o p : Option Counter) → value_kept (or_else o p) ≡ or_value (value_kept o) (value_kept p)
+value_step None p = refl
+value_step (Some k) p = refl
+
+-- the values of the slice's counters are kept besides
+pub value_more : (x : ResourceSlice) (kept : KeptCounters) (c : CounterId) → value_of (with_slice x kept) c ≡ or_value (value_of kept c) (counter_value x c)
+unfolding value_of counter_value
+value_more x kept c =
+    ap value_kept (counter_with x kept c)
+    ∙ value_step (counter_at kept c) (new_of (is_of_pool x c) x c)
+    ∙ ap (or_value (value_kept (counter_at kept c))) (value_if (is_of_pool x c) (option_and_then (λ s. at_name s.counters c.counter) (set_named x.counters c.set)))
+
+drawn_new : (b : Bool) (q : Option ℤ) → drawn_kept (if b then option_map undrawn q else None) ≡ 0
+drawn_new true None = refl
+drawn_new true (Some z) = refl
+drawn_new false q = refl
+
+drawn_step : (o p : Option Counter) → drawn_kept p ≡ 0 → drawn_kept (or_else o p) ≡ drawn_kept o
+drawn_step None p e = e
+drawn_step (Some k) p e = refl
+
+-- nothing more is drawn
+pub drawn_same : (x : ResourceSlice) (kept : KeptCounters) (c : CounterId) → drawn_in (with_slice x kept) c ≡ drawn_in kept c
 unfolding drawn_in
-none_drawn x kept c =
-    ap or_zero (slice_added x kept c)
-    ∙ drawn_by_slice (text_eq x.name c.slice) (zero_sets (sets_for x) []) (at_name kept c.slice) c (value_in (sets_for x) c.set c.counter) (values_at (sets_for x) c.set c.counter)
+drawn_same x kept c =
+    ap drawn_kept (counter_with x kept c)
+    ∙ drawn_step (counter_at kept c) (new_of (is_of_pool x c) x c) (drawn_new (is_of_pool x c) (option_and_then (λ s. at_name s.counters c.counter) (set_named x.counters c.set)))
 
-pub kept_after : (x : ResourceSlice) (old new : Tabled (Tabled (Tabled ℕ))) → new ≡ with_slice x old → (c : CounterId)
-    → keeps new c ≡ (if text_eq x.name c.slice then is_some (counter_value x c) else keeps old c)
-kept_after x old new e c = ap (λ (t : Tabled (Tabled (Tabled ℕ))). keeps t c) e ∙ kept_more x old c
+pub value_after : (x : ResourceSlice) (old new : KeptCounters) → new ≡ with_slice x old → (c : CounterId) → value_of new c ≡ or_value (value_of old c) (counter_value x c)
+value_after x old new e c = ap (λ (t : KeptCounters). value_of t c) e ∙ value_more x old c
 
-pub drawn_after : (x : ResourceSlice) (old new : Tabled (Tabled (Tabled ℕ))) → new ≡ with_slice x old → (c : CounterId)
-    → drawn_in new c ≡ (if text_eq x.name c.slice then 0 else drawn_in old c)
-drawn_after x old new e c = ap (λ (t : Tabled (Tabled (Tabled ℕ))). drawn_in t c) e ∙ none_drawn x old c
+pub drawn_after : (x : ResourceSlice) (old new : KeptCounters) → new ≡ with_slice x old → (c : CounterId) → drawn_in new c ≡ drawn_in old c
+drawn_after x old new e c = ap (λ (t : KeptCounters). drawn_in t c) e ∙ drawn_same x old c

@@ -1,8 +1,7 @@
 -- The claims that hold devices, and what the held ones draw.
 use Rattle.std.proofs.Common.{◌≡◌, ℕ, ◌+◌, ◌≤◌, ◌<◌, List, [], ◌∷◌, Bool, true, false, ◌&&◌, Option, None, Some, refl, sym, ap, ◌∙◌, if◌then◌else◌, cond, map, filter, arith}
-use Rattle.std.specs.BTreeMap.{insert_entry}
 use Rattle.std.specs.List.{sum_by}
-use Rattle.std.specs.Option.{is_some, option_map}
+use Rattle.std.specs.Option.{is_some}
 use Rattle.std.proofs.lemmas.List.Sums.{sum_by-cons}
 use Rattle.object_fields.specs.declared.key.DeviceId.{DeviceId}
 use Rattle.object_fields.specs.declared.key.Key.{Key}
@@ -11,41 +10,13 @@ use Rattle.api_slice.specs.declared.types.ResourceSlice.{ResourceSlice}
 use Rattle.pool_view.specs.Names.{at_name, device_eq, text_cmp, text_eq}
 use Rattle.pool_view.specs.Pools.{Offered, id_in, id_of, offered_by}
 use Rattle.counter_sets.specs.Draws.{CounterId, drawn_by, drawn_from}
-use Rattle.counter_sets.specs.Holding.{Holders, added_held, held_device, holder_in, offered_held, put_device, put_driver, put_in, put_pool}
-use Rattle.counter_sets.specs.Totals.{Tabled, changed_at, drawn_in, keeps, moved_by, or_empty, sum_most}
+use Rattle.counter_sets.specs.Holding.{Holders, added_held, held_device, holder_in, offered_held, put_device, put_driver, put_pool}
+use Rattle.counter_sets.specs.Totals.{KeptCounters, Tabled, drawn_in, keeps, moved_by, or_empty, sum_most, value_of}
 use Rattle.counter_sets.specs.declared.change.Change.TheVariants as change
-use Rattle.counter_sets.proofs.Fresh.{found, insert_at, named_same}
-use Rattle.counter_sets.proofs.Moves.{left_fits, same_counters, taken, together}
-use Rattle.counter_sets.proofs.Names.{moved_if, moved_name}
+use Rattle.counter_sets.proofs.Moves.{left_fits, same_value, taken, together}
+use Rattle.counter_sets.proofs.Putting.{insert_at, put_at}
 
 -- ---- one device more
-
-there_step : {V : Type 0} (b : Bool) (f : List (List ℕ × V) → List (List ℕ × V)) (o : Option (List (List ℕ × V))) → (b ≡ true → is_some o ≡ true)
-    → option_map (moved_if b f) o ≡ found b (f (or_empty o)) o
-there_step true f None h = absurd (let e = h refl in cc)
-there_step true f (Some t) h = refl
-there_step false f None h = refl
-there_step false f (Some t) h = refl
-
-new_step : {V : Type 0} (b : Bool) (f : List (List ℕ × V) → List (List ℕ × V)) (o : Option (List (List ℕ × V))) → (b ≡ true → is_some o ≡ false)
-    → found b (f []) o ≡ found b (f (or_empty o)) o
-new_step true f None h = refl
-new_step true f (Some t) h = absurd (let e = h refl in cc)
-new_step false f o h = refl
-
-put_by : {V : Type 0} (b : Bool) (n k : List ℕ) (f : List (List ℕ × V) → List (List ℕ × V)) (table : Tabled (List (List ℕ × V))) → is_some (at_name table n) ≡ b
-    → at_name (if b then changed_at n f table else insert_entry text_cmp table n (f [])) k ≡ found (text_eq n k) (f (or_empty (at_name table k))) (at_name table k)
-put_by true n k f table e = moved_name n k f table ∙ there_step (text_eq n k) f (at_name table k) (named_same table n k true e)
-put_by false n k f table e = insert_at n k (f []) table ∙ new_step (text_eq n k) f (at_name table k) (named_same table n k false e)
-
-or_found : {V : Type 0} (b : Bool) (v : List V) (o : Option (List V)) → or_empty (found b v o) ≡ (if b then v else or_empty o)
-or_found true v o = refl
-or_found false v o = refl
-
-put_at : {V : Type 0} (n k : List ℕ) (f : List (List ℕ × V) → List (List ℕ × V)) (table : Tabled (List (List ℕ × V)))
-    → or_empty (at_name (put_in n f table) k) ≡ (if text_eq n k then f (or_empty (at_name table k)) else or_empty (at_name table k))
-put_at n k f table =
-    ap or_empty (put_by (is_some (at_name table n)) n k f table refl) ∙ or_found (text_eq n k) (f (or_empty (at_name table k))) (at_name table k)
 
 pool_step : (b : Bool) (id q : DeviceId) (key : Key) (pools : Tabled (Tabled Key))
     → or_empty (at_name (if b then put_pool id key pools else pools) q.pool)
@@ -76,17 +47,17 @@ holder_after id key old new e q = ap (λ (h : Holders). holder_in h q) e ∙ hol
 
 -- ---- what the held devices draw
 
-one_kept : (b : Bool) (o : Offered) (kept : Tabled (Tabled (Tabled ℕ))) (c : CounterId) → keeps (if b then moved_by change.Draw o kept else kept) c ≡ keeps kept c
-one_kept true o kept c = same_counters change.Draw o kept c
-one_kept false o kept c = refl
+one_value : (b : Bool) (o : Offered) (kept : KeptCounters) (c : CounterId) → value_of (if b then moved_by change.Draw o kept else kept) c ≡ value_of kept c
+one_value true o kept c = same_value change.Draw o kept c
+one_value false o kept c = refl
 
-pub held_kept : (h : Holders) (x : ResourceSlice) (ds : List Device) (kept : Tabled (Tabled (Tabled ℕ))) (c : CounterId) → keeps (added_held h x ds kept) c ≡ keeps kept c
+pub held_value : (h : Holders) (x : ResourceSlice) (ds : List Device) (kept : KeptCounters) (c : CounterId) → value_of (added_held h x ds kept) c ≡ value_of kept c
 unfolding added_held
-held_kept h x [] kept c = refl
-held_kept h x (d ∷ ds) kept c =
-    held_kept h x ds (held_device h x d kept) c ∙ one_kept (is_some (holder_in h (id_of x d))) (offered_by x d) kept c
+held_value h x [] kept c = refl
+held_value h x (d ∷ ds) kept c =
+    held_value h x ds (held_device h x d kept) c ∙ one_value (is_some (holder_in h (id_of x d))) (offered_by x d) kept c
 
-one_drawn : (b : Bool) (o : Offered) (kept : Tabled (Tabled (Tabled ℕ))) (c : CounterId) → (keeps kept c ≡ false → (if b then drawn_from c o else 0) ≡ 0)
+one_drawn : (b : Bool) (o : Offered) (kept : KeptCounters) (c : CounterId) → (keeps kept c ≡ false → (if b then drawn_from c o else 0) ≡ 0)
     → (0 < (if b then drawn_from c o else 0) → drawn_in kept c + (if b then drawn_from c o else 0) ≤ sum_most)
     → drawn_in (if b then moved_by change.Draw o kept else kept) c ≡ drawn_in kept c + (if b then drawn_from c o else 0)
 one_drawn true o kept c none fits = taken o kept c none fits
@@ -106,7 +77,7 @@ no_rest a s e = omega arith
 part_fits : (n a s : ℕ) → (0 < a + s → n + (a + s) ≤ sum_most) → 0 < a → n + a ≤ sum_most
 part_fits n a s h p = omega (arith, h (omega arith))
 
-all_drawn : (h : Holders) (x : ResourceSlice) (c : CounterId) (ds : List Device) (kept : Tabled (Tabled (Tabled ℕ))) → (keeps kept c ≡ false → held_sum h x c ds ≡ 0)
+all_drawn : (h : Holders) (x : ResourceSlice) (c : CounterId) (ds : List Device) (kept : KeptCounters) → (keeps kept c ≡ false → held_sum h x c ds ≡ 0)
     → (0 < held_sum h x c ds → drawn_in kept c + held_sum h x c ds ≤ sum_most) → drawn_in (added_held h x ds kept) c ≡ drawn_in kept c + held_sum h x c ds
 unfolding added_held
 all_drawn h x c [] kept none fits = omega arith
@@ -116,7 +87,7 @@ all_drawn h x c (d ∷ ds) kept none fits =
     let s : ℕ = held_sum h x c ds in
     let step : drawn_in (held_device h x d kept) c ≡ drawn_in kept c + a =
     one_drawn b (offered_by x d) kept c (λ n. no_part a s (none n)) (part_fits (drawn_in kept c) a s fits) in
-    all_drawn h x c ds (held_device h x d kept) (λ n. no_rest a s (none (sym (one_kept b (offered_by x d) kept c) ∙ n)))
+    all_drawn h x c ds (held_device h x d kept) (λ n. no_rest a s (none (sym (ap is_some (one_value b (offered_by x d) kept c)) ∙ n)))
     (left_fits (drawn_in kept c) a s (drawn_in (held_device h x d kept) c) fits step)
     ∙ ap (λ (m : ℕ). m + s) step
     ∙ together (drawn_in kept c) a s
@@ -137,14 +108,14 @@ unfolding drawn_by offered_held
 held_is h x c = sum_is h x c x.devices
 
 -- what the held devices of a slice add
-held_drawn : (h : Holders) (x : ResourceSlice) (kept : Tabled (Tabled (Tabled ℕ))) (c : CounterId) → (keeps kept c ≡ false → drawn_by c (offered_held h x) ≡ 0)
+held_drawn : (h : Holders) (x : ResourceSlice) (kept : KeptCounters) (c : CounterId) → (keeps kept c ≡ false → drawn_by c (offered_held h x) ≡ 0)
     → (0 < drawn_by c (offered_held h x) → drawn_in kept c + drawn_by c (offered_held h x) ≤ sum_most)
     → drawn_in (added_held h x x.devices kept) c ≡ drawn_in kept c + drawn_by c (offered_held h x)
 held_drawn h x kept c none fits =
     let is = held_is h x c in
     all_drawn h x c x.devices kept (λ n. is ∙ none n) (rw (← is) at fits) ∙ ap (λ (s : ℕ). drawn_in kept c + s) is
 
-pub held_drawn_after : (h : Holders) (x : ResourceSlice) (old new : Tabled (Tabled (Tabled ℕ))) → new ≡ added_held h x x.devices old → (c : CounterId) → (keeps old c ≡ false → drawn_by c (offered_held h x) ≡ 0)
+pub held_drawn_after : (h : Holders) (x : ResourceSlice) (old new : KeptCounters) → new ≡ added_held h x x.devices old → (c : CounterId) → (keeps old c ≡ false → drawn_by c (offered_held h x) ≡ 0)
     → (0 < drawn_by c (offered_held h x) → drawn_in old c + drawn_by c (offered_held h x) ≤ sum_most)
     → drawn_in new c ≡ drawn_in old c + drawn_by c (offered_held h x)
-held_drawn_after h x old new e c none fits = ap (λ (t : Tabled (Tabled (Tabled ℕ))). drawn_in t c) e ∙ held_drawn h x old c none fits
+held_drawn_after h x old new e c none fits = ap (λ (t : KeptCounters). drawn_in t c) e ∙ held_drawn h x old c none fits

@@ -14,9 +14,9 @@ use Rattle.object_fields.specs.declared.key.Key.{Key}
 use Rattle.pool_view.specs.Names.{at_name, device_eq, text_cmp, text_eq}
 use Rattle.counter_sets.specs.Holding.{Holders, holder_in, left_device, left_driver, left_pool}
 use Rattle.counter_sets.specs.Totals.{Tabled, or_empty}
-use Rattle.counter_sets.proofs.Fresh.{at_is}
 use Rattle.counter_sets.proofs.Names.{moved_if, moved_name, same_from_at, set_at}
 use Rattle.counter_sets.proofs.Pairs.{same_from_device_eq}
+use Rattle.counter_sets.proofs.Putting.{at_is}
 
 -- ---- nothing is left at the name
 

@@ -4,4 +4,6 @@ pub mod Leaving
 pub mod Moves
 pub mod Names
 pub mod Pairs
+pub mod Putting
+pub mod Room
 pub mod Shortages

@@ -15,7 +15,7 @@ use Rattle.pool_view.specs.Names.{device_eq, text_eq}
 use Rattle.pool_view.specs.Pools.{Offered, id_in, offered_by}
 use Rattle.counter_sets.specs.Draws.{CounterId, drawn, drawn_by, drawn_from, held_devices, held_in, is_held}
 use Rattle.counter_sets.specs.Holding.{AreHeld, Holders, holder_in, offered_held, put_driver}
-use Rattle.counter_sets.specs.Totals.{Tabled, drawn_in}
+use Rattle.counter_sets.specs.Totals.{KeptCounters, drawn_in}
 use Rattle.counter_sets.proofs.Holding.{holder_after}
 
 -- ---- one pair more
@@ -88,7 +88,7 @@ drawn_more slices pairs x c =
     ap (sum_by (drawn_from c)) (flat_map-append (held_in pairs) slices (x ∷ []) ∙ ap (λ (os : List Offered). flat_map (held_in pairs) slices ++ os) (append-nil (held_in pairs x)))
     ∙ sum_by-append (drawn_from c) (flat_map (held_in pairs) slices) (held_in pairs x)
 
-pub totals_more : (h : Holders) (pairs : List (DeviceId × Key)) (slices : List ResourceSlice) (x : ResourceSlice) (old new : Tabled (Tabled (Tabled ℕ))) → AreHeld h pairs
+pub totals_more : (h : Holders) (pairs : List (DeviceId × Key)) (slices : List ResourceSlice) (x : ResourceSlice) (old new : KeptCounters) → AreHeld h pairs
     → ((c : CounterId) → drawn_in old c ≡ drawn slices pairs c) → ((c : CounterId) → drawn_in new c ≡ drawn_in old c + drawn_by c (offered_held h x))
     → (c : CounterId) → drawn_in new c ≡ drawn (slices ++ x ∷ []) pairs c
 totals_more h pairs slices x old new held before more c =

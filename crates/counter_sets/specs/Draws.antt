@@ -1,5 +1,5 @@
 -- What devices draw from the counters of counter sets (KEP 4815).
-use Rattle.std.specs.Prelude.{ℕ, ◌+◌, ℤ, pos, negsuc, List, Bool, false, not, ◌&&◌, Option, None, Some, option_map, map, filter, min, nat_le, if◌then◌else◌}
+use Rattle.std.specs.Prelude.{ℕ, ◌+◌, ℤ, pos, negsuc, List, [], ◌∷◌, Bool, false, not, ◌&&◌, Option, None, Some, option_map, map, filter, min, nat_le, if◌then◌else◌}
 use Rattle.std.specs.List.{find, flat_map, list_all, list_any, sum_by}
 use Rattle.std.specs.Option.{option_and_then}
 use Rattle.object_fields.specs.declared.key.DeviceId.{DeviceId}
@@ -9,7 +9,7 @@ use Rattle.api_slice.specs.declared.types.CounterConsumption.{CounterConsumption
 use Rattle.api_slice.specs.declared.types.CounterSet.{CounterSet}
 use Rattle.api_slice.specs.declared.types.ResourceSlice.{ResourceSlice}
 use Rattle.pool_view.specs.Names.{at_name, device_eq, text_eq}
-use Rattle.pool_view.specs.Pools.{Offered, id_in, offered_by}
+use Rattle.pool_view.specs.Pools.{Offered, id_in, offered_by, set_named}
 
 -- A quantity as an amount in 10^-9. Quantities are at most 2^63 - 1, and amounts aren't negative by the
 -- limits of slices.
@@ -17,23 +17,19 @@ abbrev pub natural : ℤ → ℕ
 natural (pos n) = min n most
 natural (negsuc n) = 0
 
--- a counter of a counter set: the slice that has the set, which no other slice of the cluster is
--- named as, the set and the counter
+-- a counter of a counter set of a pool
 pub record CounterId : Type 0 where
-  pub slice : List ℕ
+  pub driver : List ℕ
+  pub pool : List ℕ
   pub set : List ℕ
   pub counter : List ℕ
 
 abbrev pub counter_eq : CounterId → CounterId → Bool
-counter_eq a b = text_eq a.slice b.slice && (text_eq a.set b.set && text_eq a.counter b.counter)
+counter_eq a b = text_eq a.driver b.driver && (text_eq a.pool b.pool && (text_eq a.set b.set && text_eq a.counter b.counter))
 
--- the counter sets that the devices of a slice draw from
-abbrev pub sets_for : ResourceSlice → List CounterSet
-sets_for x = x.counters
-
--- a counter of the sets that the devices of a slice draw from
+-- a counter of a set of the slice's pool
 abbrev pub counter_for : ResourceSlice → List ℕ → List ℕ → CounterId
-counter_for x set name = record { slice = x.name; set = set; counter = name }
+counter_for x set name = record { driver = x.driver; pool = x.pool.name; set = set; counter = name }
 
 -- ---- what a device draws
 
@@ -64,28 +60,42 @@ drawn_by c os = sum_by (drawn_from c) os
 
 -- ---- what counters have
 
+-- the value of a counter of the set of that name, if it is there
 abbrev pub value_in : List CounterSet → List ℕ → List ℕ → Option ℕ
-value_in sets set name = option_map natural (option_and_then (λ s. at_name s.counters name) (find (λ s. text_eq s.name set) sets))
+value_in sets set name = option_map natural (option_and_then (λ s. at_name s.counters name) (set_named sets set))
 
--- the value of a counter, where a set that the slice's devices draw from has it
+-- the slice is one of the counter's pool
+abbrev pub is_of_pool : ResourceSlice → CounterId → Bool
+is_of_pool x c = text_eq x.driver c.driver && text_eq x.pool.name c.pool
+
+-- the value of a counter, where a set of the slice has it
 unfoldable pub counter_value : ResourceSlice → CounterId → Option ℕ
-counter_value x c = if text_eq x.name c.slice then value_in (sets_for x) c.set c.counter else None
+counter_value x c = if is_of_pool x c then value_in x.counters c.set c.counter else None
+
+abbrev pub or_value : Option ℕ → Option ℕ → Option ℕ
+or_value (Some n) later = Some n
+or_value None later = later
+
+-- the value of a counter, where a set of one of the slices has it: of the first that does
+abbrev pub value_among : List ResourceSlice → CounterId → Option ℕ
+value_among [] c = None
+value_among (x ∷ xs) c = or_value (counter_value x c) (value_among xs c)
 
 abbrev pub is_within : Option ℕ → ℕ → Bool
 is_within None n = false
 is_within (Some value) n = nat_le n value
 
 -- the counter has enough for what the device draws from it, `before` being what is drawn from each
-abbrev pub has_enough : (CounterId → ℕ) → Offered → CounterId → Bool
-has_enough before o c = is_within (counter_value o.slice c) (before c + drawn_from c o)
+abbrev pub has_enough : (CounterId → Option ℕ) → (CounterId → ℕ) → Offered → CounterId → Bool
+has_enough value before o c = is_within (value c) (before c + drawn_from c o)
 
 -- each counter on which the device draws has enough for it
-unfoldable pub is_covered : (CounterId → ℕ) → Offered → Bool
-is_covered before o = list_all (λ d. has_enough before o d.counter) (draws_of o)
+unfoldable pub is_covered : (CounterId → Option ℕ) → (CounterId → ℕ) → Offered → Bool
+is_covered value before o = list_all (λ d. has_enough value before o d.counter) (draws_of o)
 
 -- the first of the device's draws whose counter doesn't have enough for it
-unfoldable pub first_short : (CounterId → ℕ) → Offered → Option Draw
-first_short before o = find (λ d. not (has_enough before o d.counter)) (draws_of o)
+unfoldable pub first_short : (CounterId → Option ℕ) → (CounterId → ℕ) → Offered → Option Draw
+first_short value before o = find (λ d. not (has_enough value before o d.counter)) (draws_of o)
 
 -- ---- what is held
 

@@ -8,7 +8,7 @@ use Rattle.api_slice.specs.declared.types.Device.{Device}
 use Rattle.api_slice.specs.declared.types.ResourceSlice.{ResourceSlice}
 use Rattle.pool_view.specs.Names.{at_name, device_eq, text_cmp}
 use Rattle.pool_view.specs.Pools.{Offered, id_in, id_of, offered_by}
-use Rattle.counter_sets.specs.Totals.{Tabled, changed_at, moved_by, or_empty}
+use Rattle.counter_sets.specs.Totals.{KeptCounters, Tabled, changed_at, moved_by, or_empty, put_in}
 use Rattle.counter_sets.specs.declared.change.Change.TheVariants.{Draw}
 
 -- by driver, pool and device
@@ -32,10 +32,6 @@ pub record PoolHolders : Type 0 where
 -- they are these pairs of a device and its claim
 pub record AreHeld (h : Holders) (pairs : List (DeviceId × Key)) : Type 0 where
   pub holder : (id : DeviceId) → holder_in h id ≡ lookup (λ d. device_eq d id) pairs
-
--- with what f makes of the table at a name, or of an empty table if there is none
-abbrev pub put_in : {V : Type 0} → List ℕ → (List (List ℕ × V) → List (List ℕ × V)) → Tabled (List (List ℕ × V)) → Tabled (List (List ℕ × V))
-put_in name f table = if is_some (at_name table name) then changed_at name f table else insert_entry text_cmp table name (f [])
 
 abbrev pub put_device : List ℕ → Key → Tabled Key → Tabled Key
 put_device name key devices = insert_entry text_cmp devices name key
@@ -62,9 +58,9 @@ unfoldable pub offered_held : Holders → ResourceSlice → List Offered
 offered_held h x = filter (λ o. is_some (holder_in h (id_in o))) (map (offered_by x) x.devices)
 
 -- with what the held ones of a slice's devices draw
-abbrev pub held_device : Holders → ResourceSlice → Device → Tabled (Tabled (Tabled ℕ)) → Tabled (Tabled (Tabled ℕ))
+abbrev pub held_device : Holders → ResourceSlice → Device → KeptCounters → KeptCounters
 held_device h x d kept = if is_some (holder_in h (id_of x d)) then moved_by Draw (offered_by x d) kept else kept
 
-unfoldable pub added_held : Holders → ResourceSlice → List Device → Tabled (Tabled (Tabled ℕ)) → Tabled (Tabled (Tabled ℕ))
+unfoldable pub added_held : Holders → ResourceSlice → List Device → KeptCounters → KeptCounters
 added_held h x [] kept = kept
 added_held h x (d ∷ ds) kept = added_held h x ds (held_device h x d kept)

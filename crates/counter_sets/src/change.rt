@@ -4,7 +4,8 @@ ghost use Rattle.std.specs.Prelude.{◌≡◌};
 ghost use Rattle.counter_sets.specs.Totals as spec;
 
 use crate::amount::amount_of;
-use api_slice::CounterConsumption;
+use crate::counter::{DriverCounters, PoolCounters, SetCounters};
+use api_slice::{CounterConsumption, ResourceSlice};
 use dra_values::{Table, Text};
 use quantity::Quantity;
 
@@ -16,9 +17,6 @@ pub enum Change {
     /// They are subtracted.
     Return,
 }
-
-/// What is drawn, in 10^-9, from each counter of each counter set of a slice.
-pub type SetTotals = Table<Text, Table<Text, u128>>;
 
 fn moved(change: Change, drawn: u128, amount: u128) -> u128
     ensures { result ≡ spec.moved change drawn amount }
@@ -34,15 +32,15 @@ fn moved(change: Change, drawn: u128, amount: u128) -> u128
     }
 }
 
-fn move_counter(counters: &mut Table<Text, u128>, change: Change, name: &Text, amount: u128)
+fn move_counter(counters: &mut SetCounters, change: Change, name: &Text, amount: u128)
     ensures { counters.new ≡ spec.moved_counter change name.now amount counters.old }
 {
-    if let Some(drawn) = counters.get_mut(name) {
-        *drawn = moved(change, *drawn, amount);
+    if let Some(counter) = counters.get_mut(name) {
+        counter.drawn = moved(change, counter.drawn, amount);
     }
 }
 
-fn move_counters(counters: &mut Table<Text, u128>, change: Change, amounts: &Table<Text, Quantity>)
+fn move_counters(counters: &mut SetCounters, change: Change, amounts: &Table<Text, Quantity>)
     ensures { counters.new ≡ spec.moved_counters change amounts.now counters.old }
 {
     for (name, amount) in amounts.as_map() {
@@ -50,7 +48,7 @@ fn move_counters(counters: &mut Table<Text, u128>, change: Change, amounts: &Tab
     }
 }
 
-fn move_set(sets: &mut SetTotals, change: Change, consumption: &CounterConsumption)
+fn move_set(sets: &mut PoolCounters, change: Change, consumption: &CounterConsumption)
     ensures { sets.new ≡ spec.changed_at consumption.now.set (λ counters. spec.moved_counters change consumption.now.amounts counters) sets.old }
 {
     if let Some(counters) = sets.get_mut(&consumption.set) {
@@ -58,7 +56,7 @@ fn move_set(sets: &mut SetTotals, change: Change, consumption: &CounterConsumpti
     }
 }
 
-fn move_sets(sets: &mut SetTotals, change: Change, consumes: &[CounterConsumption])
+fn move_sets(sets: &mut PoolCounters, change: Change, consumes: &[CounterConsumption])
     ensures { sets.new ≡ spec.moved_sets change consumes.now sets.old }
 {
     for consumption in consumes {
@@ -66,16 +64,42 @@ fn move_sets(sets: &mut SetTotals, change: Change, consumes: &[CounterConsumptio
     }
 }
 
-/// Counts what a device draws from the sets of its slice, if that slice was added.
-pub fn move_slice(
-    slices: &mut Table<Text, SetTotals>,
+fn move_pool(
+    pools: &mut DriverCounters,
     change: Change,
-    slice: &Text,
+    pool: &Text,
     consumes: &[CounterConsumption],
 )
-    ensures { slices.new ≡ spec.changed_at slice.now (λ sets. spec.moved_sets change consumes.now sets) slices.old }
+    ensures { pools.new ≡ spec.moved_pools change pool.now consumes.now pools.old }
 {
-    if let Some(sets) = slices.get_mut(slice) {
+    if let Some(sets) = pools.get_mut(pool) {
         move_sets(sets, change, consumes);
     }
+}
+
+fn move_driver(
+    drivers: &mut Table<Text, DriverCounters>,
+    change: Change,
+    driver: &Text,
+    pool: &Text,
+    consumes: &[CounterConsumption],
+)
+    ensures { drivers.new ≡ spec.changed_at driver.now (λ pools. spec.moved_pools change pool.now consumes.now pools) drivers.old }
+{
+    if let Some(pools) = drivers.get_mut(driver) {
+        move_pool(pools, change, pool, consumes);
+    }
+}
+
+/// Counts what a device of the slice draws from the sets of its pool, as far as they were added.
+pub fn move_device(
+    drivers: &mut Table<Text, DriverCounters>,
+    change: Change,
+    slice: &ResourceSlice,
+    consumes: &[CounterConsumption],
+)
+    ensures { drivers.new ≡ spec.changed_at slice.now.driver (λ pools. spec.moved_pools change slice.now.pool.name consumes.now pools) drivers.old }
+{
+    let driver = slice.driver.as_text();
+    move_driver(drivers, change, driver, &slice.pool.name, consumes);
 }

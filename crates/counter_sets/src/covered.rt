@@ -1,126 +1,117 @@
 //! Whether counters have enough for what a device draws.
 
 ghost use Rattle.std.specs.Prelude.{◌≡◌, ◌+◌, Option, min, option_map, option_copied};
-ghost use Rattle.std.specs.List.{find};
-ghost use Rattle.std.specs.Option.{option_and_then};
-ghost use Rattle.pool_view.specs.Names.{at_name, text_eq};
-ghost use Rattle.counter_sets.specs.Draws.{is_within, natural, sets_for};
+ghost use Rattle.pool_view.specs.Names.{at_name};
 ghost use Rattle.counter_sets.specs.Totals as spec;
 
 use crate::amount::{amount_from, amount_of};
-use crate::change::SetTotals;
-use api_slice::{CounterConsumption, CounterSet, ResourceSlice};
+use crate::counter::{Counter, DriverCounters, PoolCounters, SetCounters};
+use api_slice::{CounterConsumption, ResourceSlice};
 use dra_values::{Table, Text};
 use pool_view::DeviceRef;
 
-/// What is drawn from the counters of a slice, if it was added.
-pub fn sets_of<'a>(
-    slices: &'a Table<Text, SetTotals>,
-    slice: &ResourceSlice,
-) -> Option<&'a SetTotals>
-    ensures { option_copied result ≡ at_name slices.now slice.now.name }
+/// The counters of a pool, if any were added.
+fn find_pool<'a>(
+    drivers: &'a Table<Text, DriverCounters>,
+    driver: &Text,
+    pool: &Text,
+) -> Option<&'a PoolCounters>
+    ensures { option_copied result ≡ at_name (spec.or_empty (at_name drivers.now driver.now)) pool.now }
 {
-    slices.get(&slice.name)
-}
-
-/// What is drawn from the counters of the set, if it exists.
-pub fn find_counters<'a>(totals: Option<&'a SetTotals>, set: &Text) -> Option<&'a Table<Text, u128>>
-    ensures { option_copied result ≡ at_name (spec.or_empty (option_copied totals.entry)) set.now }
-{
-    match totals {
+    match drivers.get(driver) {
         None => None,
-        Some(totals) => totals.get(set),
+        Some(pools) => pools.get(pool),
     }
 }
 
-/// What is drawn from the counter; 0 if it is missing.
-pub fn drawn_from(counters: Option<&Table<Text, u128>>, name: &Text) -> u128
-    ensures { result ≡ spec.or_zero (at_name (spec.or_empty (option_copied counters.entry)) name.now) }
+/// The counters of the slice's pool, if any were added.
+pub fn pool_of<'a>(
+    drivers: &'a Table<Text, DriverCounters>,
+    slice: &ResourceSlice,
+) -> Option<&'a PoolCounters>
+    ensures { option_copied result ≡ at_name (spec.or_empty (at_name drivers.now slice.now.driver)) slice.now.pool.name }
+{
+    find_pool(drivers, slice.driver.as_text(), &slice.pool.name)
+}
+
+/// The counters of a set, if it exists.
+pub fn find_set<'a>(sets: Option<&'a PoolCounters>, set: &Text) -> Option<&'a SetCounters>
+    ensures { option_copied result ≡ at_name (spec.or_empty (option_copied sets.entry)) set.now }
+{
+    match sets {
+        None => None,
+        Some(sets) => sets.get(set),
+    }
+}
+
+/// The counter of that name, if it exists.
+pub fn find_counter<'a>(counters: Option<&'a SetCounters>, name: &Text) -> Option<&'a Counter>
+    ensures { option_copied result ≡ at_name (spec.or_empty (option_copied counters.entry)) name.now }
 {
     match counters {
-        None => 0,
-        Some(counters) => match counters.get(name) {
-            None => 0,
-            Some(drawn) => *drawn,
-        },
-    }
-}
-
-/// The counter set of that name.
-pub fn find_set<'a>(sets: &'a [CounterSet], set: &Text) -> Option<&'a CounterSet>
-    ensures { option_copied result ≡ find (λ s. text_eq s.name set.now) sets.now }
-{
-    for other in sets {
-        if other.name == *set {
-            return Some(other);
-        }
-    }
-    None
-}
-
-/// The value of a counter of the set, if it exists.
-pub fn value_of(set: Option<&CounterSet>, name: &Text) -> Option<u128>
-    ensures { result ≡ option_map natural (option_and_then (λ s. at_name s.counters name.now) (option_copied set.entry)) }
-{
-    match set {
         None => None,
-        Some(set) => match set.counters.get(name) {
-            None => None,
-            Some(value) => Some(amount_of(value)),
-        },
+        Some(counters) => counters.get(name),
     }
 }
 
-/// Whether there is a value and drawing this much more stays within it.
-fn is_within(value: Option<u128>, drawn: u128, amount: u128) -> bool
-    ensures { result ≡ is_within value (min (drawn + amount) spec.sum_most) }
+/// Whether the counter exists, and drawing this much more stays within its value.
+fn has_room(counter: Option<&Counter>, amount: u128) -> bool
+    ensures { result ≡ spec.has_room (option_copied counter.entry) amount }
 {
-    match value {
+    match counter {
         None => false,
-        Some(value) => drawn.saturating_add(amount) <= value,
+        Some(counter) => counter.drawn.saturating_add(amount) <= amount_of(&counter.value),
     }
 }
 
-/// Whether a counter has enough for all that the device draws from it.
+/// Whether a counter of a set has enough for all that the device draws from it.
 #[tactic(auto, unfolding(crate::specs::Totals::covers_counter))]
 pub fn covers_counter(
-    totals: Option<&SetTotals>,
+    counters: Option<&SetCounters>,
     device: &DeviceRef<'_>,
     set: &Text,
     name: &Text,
 ) -> bool
-    ensures { result ≡ spec.covers_counter (spec.or_empty (option_copied totals.entry)) device.now set.now name.now }
+    ensures { result ≡ spec.covers_counter (spec.or_empty (option_copied counters.entry)) device.now set.now name.now }
 {
-    let drawn = drawn_from(find_counters(totals, set), name);
     let amount = amount_from(device.device().consumes.as_slice(), set, name);
-    let value = value_of(find_set(device.slice().counters.as_slice(), set), name);
-    is_within(value, drawn, amount)
+    has_room(find_counter(counters, name), amount)
 }
 
 /// Whether the counters of a set have enough for all that the device draws from them.
 #[tactic(auto, unfolding(crate::specs::Totals::covers_all))]
-fn covers_consumption(
-    totals: Option<&SetTotals>,
+fn covers_all(
+    counters: Option<&SetCounters>,
     device: &DeviceRef<'_>,
     consumption: &CounterConsumption,
 ) -> bool
-    ensures { result ≡ spec.covers_all (spec.or_empty (option_copied totals.entry)) device.now consumption.now.set consumption.now.amounts }
+    ensures { result ≡ spec.covers_all (spec.or_empty (option_copied counters.entry)) device.now consumption.now.set consumption.now.amounts }
 {
     for (name, _) in consumption.amounts.as_map() {
-        if !covers_counter(totals, device, &consumption.set, name) {
+        if !covers_counter(counters, device, &consumption.set, name) {
             return false;
         }
     }
     true
 }
 
-/// Whether each counter on which the device draws has enough, from what is drawn from its slice's.
+fn covers_set(
+    sets: Option<&PoolCounters>,
+    device: &DeviceRef<'_>,
+    consumption: &CounterConsumption,
+) -> bool
+    ensures { result ≡ spec.covers_all (spec.or_empty (at_name (spec.or_empty (option_copied sets.entry)) consumption.now.set)) device.now consumption.now.set consumption.now.amounts }
+{
+    covers_all(find_set(sets, &consumption.set), device, consumption)
+}
+
+/// Whether each counter on which the device draws has enough, from the counters of its pool.
 #[tactic(auto, unfolding(crate::specs::Totals::covers_sets))]
-pub fn covers(totals: Option<&SetTotals>, device: &DeviceRef<'_>) -> bool
-    ensures { result ≡ spec.covers_sets (spec.or_empty (option_copied totals.entry)) device.now }
+pub fn covers(sets: Option<&PoolCounters>, device: &DeviceRef<'_>) -> bool
+    ensures { result ≡ spec.covers_sets (spec.or_empty (option_copied sets.entry)) device.now }
 {
     for consumption in device.device().consumes.as_slice() {
-        if !covers_consumption(totals, device, consumption) {
+        if !covers_set(sets, device, consumption) {
             return false;
         }
     }

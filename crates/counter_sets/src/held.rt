@@ -6,7 +6,8 @@ ghost use Rattle.counter_sets.specs.Holding as spec;
 ghost use Rattle.object_fields.specs.declared.key.Key.{Key};
 ghost use Rattle.counter_sets.specs.Holding.{AreHeld, holder_in};
 
-use crate::change::{Change, SetTotals, move_slice};
+use crate::change::{Change, move_device};
+use crate::counter::DriverCounters;
 use api_slice::{Device, ResourceSlice};
 use dra_values::{Duplicate, Table, Text};
 use object_fields::{DeviceId, Key};
@@ -275,32 +276,27 @@ fn take_driver(drivers: &mut Table<Text, Pools>, device: &DeviceId)
 
 /// Draws what a device draws, where it is held.
 fn draw_device(
-    slices: &mut Table<Text, SetTotals>,
+    drivers: &mut Table<Text, DriverCounters>,
     slice: &ResourceSlice,
     device: &Device,
     held: &Held,
 )
-    ensures { slices.new ≡ spec.held_device held.now slice.now device.now slices.old }
+    ensures { drivers.new ≡ spec.held_device held.now slice.now device.now drivers.old }
 {
     if held
         .at(slice.driver.as_text(), &slice.pool.name, &device.name)
         .is_some()
     {
-        move_slice(
-            slices,
-            Change::Draw,
-            &slice.name,
-            device.consumes.as_slice(),
-        );
+        move_device(drivers, Change::Draw, slice, device.consumes.as_slice());
     }
 }
 
 /// Draws what the held devices of a slice draw.
 #[tactic(auto, unfolding(crate::specs::Holding::added_held))]
-pub fn draw_devices(slices: &mut Table<Text, SetTotals>, slice: &ResourceSlice, held: &Held)
-    ensures { slices.new ≡ spec.added_held held.now slice.now slice.now.devices slices.old }
+pub fn draw_devices(drivers: &mut Table<Text, DriverCounters>, slice: &ResourceSlice, held: &Held)
+    ensures { drivers.new ≡ spec.added_held held.now slice.now slice.now.devices drivers.old }
 {
     for device in slice.devices.as_slice() {
-        draw_device(slices, slice, device, held);
+        draw_device(drivers, slice, device, held);
     }
 }

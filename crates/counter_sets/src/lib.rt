@@ -4,6 +4,7 @@
 mod added;
 mod amount;
 mod change;
+mod counter;
 mod covered;
 mod held;
 mod short;

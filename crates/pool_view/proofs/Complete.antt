@@ -3,7 +3,7 @@ use Rattle.std.proofs.Common.{ℕ, ◌≡◌, ◌∙◌, List, [], ◌∷◌, Bo
 use Rattle.std.specs.List.{flat_map, list_any, list_all}
 use Rattle.std.proofs.lemmas.Bool.{and_parts, eqb-true, eq-eqb}
 use Rattle.api_slice.specs.declared.types.ResourceSlice.{ResourceSlice}
-use Rattle.pool_view.specs.Pools.{counts_of, counts_differ, device_names, has_twice, is_complete, is_usable}
+use Rattle.pool_view.specs.Pools.{counts_of, counts_differ, device_names, draws_are_there, has_twice, is_complete, is_usable, set_names, sets_of}
 
 agrees_with : (k n : ℕ) (ms : List ℕ) → list_all (λ m. eqb m k) ms ≡ true → n ≡ k → list_any (λ m. not (eqb n m)) ms ≡ false
 agrees_with k n [] h e = refl
@@ -22,14 +22,18 @@ agree k all (n ∷ ns) h g =
 complete_agrees : (counts : List ℕ) → is_complete counts ≡ true → counts_differ counts ≡ false
 complete_agrees counts h = agree (length counts) counts counts h h
 
-usable_if : (c d t : Bool) → (c ≡ true → d ≡ false) → (c && not t) ≡ (c && not (d || t))
-usable_if true d t h = ap (λ b. not (b || t)) (sym (h refl))
-usable_if false d t h = refl
+usable_if : (c d t s w : Bool) → (c ≡ true → d ≡ false) → ((c && not t) && (not s && w)) ≡ (c && not (d || (t || (s || not w))))
+usable_if true d true s w h = sym (ap (λ b. not (b || true)) (h refl))
+usable_if true d false true w h = sym (ap (λ b. not (b || true)) (h refl))
+usable_if true d false false true h = sym (ap (λ b. not (b || false)) (h refl))
+usable_if true d false false false h = sym (ap (λ b. not (b || true)) (h refl))
+usable_if false d t s w h = refl
 
--- a pool's slices by their counts and by their devices' names
-pub is_usable_by : (xs : List ResourceSlice) (counts : List ℕ) (names : List (List ℕ)) (b : Bool) → counts ≡ counts_of xs → names ≡ flat_map device_names xs
-    → b ≡ (is_complete counts && not (has_twice names)) → b ≡ is_usable xs
+-- a pool's slices by their counts, by their devices' names, and by their counter sets
+pub is_usable_by : (xs : List ResourceSlice) (b : Bool)
+    → b ≡ ((is_complete (counts_of xs) && not (has_twice (flat_map device_names xs))) && (not (has_twice (set_names (sets_of xs))) && draws_are_there (sets_of xs) xs)) → b ≡ is_usable xs
 unfolding is_usable
-is_usable_by xs counts names b e f g =
-    g ∙ ap (λ ns. is_complete ns && not (has_twice names)) e ∙ ap (λ ns. is_complete (counts_of xs) && not (has_twice ns)) f
-    ∙ usable_if (is_complete (counts_of xs)) (counts_differ (counts_of xs)) (has_twice (flat_map device_names xs)) (complete_agrees (counts_of xs))
+is_usable_by xs b e =
+    e
+    ∙ usable_if (is_complete (counts_of xs)) (counts_differ (counts_of xs)) (has_twice (flat_map device_names xs)) (has_twice (set_names (sets_of xs))) (draws_are_there (sets_of xs) xs)
+    (complete_agrees (counts_of xs))

@@ -26,7 +26,7 @@ use Rattle.pool_view.specs.Differing.{IsAtItsName, offers, usable_devices}
 use Rattle.pool_view.specs.Groups.{objects}
 use Rattle.pool_view.specs.Inventory.{AtOwnNames, Named}
 use Rattle.pool_view.specs.Names.{at_name, text_cmp, text_eq}
-use Rattle.pool_view.specs.Pools.{Offered, counts_of, counts_differ, device_names, has_twice, id_in, id_of, is_complete, is_usable, offered_by, place_cmp, place_of, pool_of, slices_of}
+use Rattle.pool_view.specs.Pools.{Offered, counts_of, counts_differ, device_names, has_twice, id_in, id_of, is_complete, is_invalid, is_usable, offered_by, place_cmp, place_of, pool_of, slices_of}
 use Rattle.pool_view.specs.Usable.{devices_for, if_usable, node_devices, pool_cmp, pool_named, pools, pools_with, usable_slices}
 use Rattle.pool_view.specs.Visibility.{offered_to, sees_device}
 use Rattle.pool_view.proofs.Pairs.{Pairwise, all_at, all_both, all_filter, all_flat, all_flat_by, all_imply, all_in, all_map, all_pairs_by, pairs_filter, pairs_flat, pairs_imply, pairs_imply_by, pairs_map, pairs_sorted, pairs_unmap, same_place, same_some, sorted_pairs}
@@ -41,11 +41,11 @@ driver_of p = p.driver
 pool_in : PoolName → List ℕ
 pool_in p = p.pool
 
-pool_total : IsTotalOrder pool_cmp
+pub pool_total : IsTotalOrder pool_cmp
 unfolding driver_of pool_in
 pool_total = then_total (on_total driver_of nat_list_cmp_total) (on_total pool_in nat_list_cmp_total)
 
-abbrev Before : PoolName → PoolName → Type 0
+abbrev pub Before : PoolName → PoolName → Type 0
 Before p q = pool_cmp p q ≡ Less
 
 all_put_by : (o : Ordering) (k x : PoolName) (P : PoolName → Type 0) (xs more : List PoolName) → P k → AllByRecursion P (x ∷ xs) → AllByRecursion P more → AllByRecursion P (match_ordering o (k ∷ x ∷ xs) (x ∷ xs) (x ∷ more))
@@ -66,20 +66,20 @@ put : (xs : List PoolName) (k : PoolName) → Pairwise Before xs → Pairwise Be
 put [] k h = (tt, tt)
 put (x ∷ xs) k h = put_by (pool_cmp k x) k x xs refl h (put xs k h.1)
 
-pools_rise : (es : Named ResourceSlice) (ps : List PoolName) → Pairwise Before ps → Pairwise Before (pools_with ps es)
+pub pools_rise : (es : Named ResourceSlice) (ps : List PoolName) → Pairwise Before ps → Pairwise Before (pools_with ps es)
 pools_rise [] ps h = h
 pools_rise (e ∷ es) ps h = pools_rise es (insert_key pool_cmp ps (pool_named e.1.object)) (put ps (pool_named e.1.object) h)
 
 -- ---- the slices of one pool
 
-abbrev block : Named ResourceSlice → PoolName → List ResourceSlice
+abbrev pub block : Named ResourceSlice → PoolName → List ResourceSlice
 block all p = if_usable (pool_of all p.driver p.pool)
 
 all_if : (b : Bool) (P : ResourceSlice → Type 0) (xs : List ResourceSlice) → AllByRecursion P xs → AllByRecursion P (cond b xs [])
 all_if true P xs h = h
 all_if false P xs h = tt
 
-all_block : (P : ResourceSlice → Type 0) (all : Named ResourceSlice) (p : PoolName) → AllByRecursion P (slices_of p.driver p.pool all) → AllByRecursion P (block all p)
+pub all_block : (P : ResourceSlice → Type 0) (all : Named ResourceSlice) (p : PoolName) → AllByRecursion P (slices_of p.driver p.pool all) → AllByRecursion P (block all p)
 unfolding pool_of
 all_block P all p h =
     all_if (is_usable (pool_of all p.driver p.pool)) P (pool_of all p.driver p.pool) (all_filter P _ (slices_of p.driver p.pool all) h)
@@ -99,14 +99,14 @@ is_pool x p e =
     let both = and_parts (text_eq x.driver p.driver) (text_eq x.pool.name p.pool) e in
     same_parts x.driver p.driver x.pool.name p.pool (same_text x.driver p.driver (sym both.0)) (same_text x.pool.name p.pool (sym both.1))
 
-abbrev OfPool : PoolName → ResourceSlice → Type 0
+abbrev pub OfPool : PoolName → ResourceSlice → Type 0
 OfPool p x = pool_named x ≡ p
 
 of_pool_by : (b : Bool) (p : PoolName) (x : ResourceSlice) (xs : List ResourceSlice) → (b ≡ true → OfPool p x) → AllByRecursion (OfPool p) xs → AllByRecursion (OfPool p) (cond b (x ∷ xs) xs)
 of_pool_by true p x xs f h = (f refl, h)
 of_pool_by false p x xs f h = h
 
-all_of_pool : (p : PoolName) (all : Named ResourceSlice) → AllByRecursion (OfPool p) (slices_of p.driver p.pool all)
+pub all_of_pool : (p : PoolName) (all : Named ResourceSlice) → AllByRecursion (OfPool p) (slices_of p.driver p.pool all)
 all_of_pool p [] = tt
 all_of_pool p (e ∷ es) =
     of_pool_by (text_eq e.1.object.driver p.driver && text_eq e.1.object.pool.name p.pool) p e.1.object (slices_of p.driver p.pool es) (is_pool e.1.object p) (all_of_pool p es)
@@ -144,8 +144,9 @@ not_so false e = refl
 usable_once : (xs : List ResourceSlice) → is_usable xs ≡ true → has_twice (flat_map device_names xs) ≡ false
 unfolding is_usable
 usable_once xs e =
-    let valid = and_parts (is_complete (counts_of xs)) (not (counts_differ (counts_of xs) || has_twice (flat_map device_names xs))) e in
-    (or_parts (counts_differ (counts_of xs)) (has_twice (flat_map device_names xs)) (not_so _ valid.1)).1
+    let valid = and_parts (is_complete (counts_of xs)) (not (is_invalid xs)) e in
+    let named = or_parts (counts_differ (counts_of xs)) _ (not_so _ valid.1) in
+    (or_parts (has_twice (flat_map device_names xs)) _ named.1).0
 
 names_one : (x : ResourceSlice) (ds : List Device) → map name_in (map (offered_by x) ds) ≡ map (λ d. d.name) ds
 names_one x [] = refl
@@ -295,7 +296,7 @@ all_named : (all : Named ResourceSlice) → AtOwnNames all → IsStrictlySortedB
 all_named all own h =
     all_map (IsAtItsName all) (λ e. e.1.object) all (all_both (λ e. e.0 ≡ e.1.object.name) (λ e. at_name all e.0 ≡ Some e.1) (λ e. IsAtItsName all e.1.object) all (at_its_name all) own (found all (entries_rise all h)))
 
-of_all : {X : Type 0} (P : X → Type 0) (xs : List X) (x : X) → AllByRecursion P xs → Contains xs x → P x
+pub of_all : {X : Type 0} (P : X → Type 0) (xs : List X) (x : X) → AllByRecursion P xs → Contains xs x → P x
 of_all P [] x h c = absurd (none_in x c)
 of_all P (y ∷ ys) x h c = ⊎_elim (λ (e : y ≡ x). subst P e h.0) (λ (g : Contains ys x). of_all P ys x h.1 g) (head_or y x ys c)
 
@@ -369,7 +370,7 @@ in_map f [] x h = absurd (none_in x h)
 in_map f (y ∷ ys) x h =
     ⊎_elim (λ (e : y ≡ x). subst (λ z. Contains (map f (y ∷ ys)) (f z)) e (in_head (f y) (map f ys))) (λ (g : Contains ys x). in_tail (f y) (f x) (map f ys) (in_map f ys x g)) (head_or y x ys h)
 
-in_flat : {X Y : Type 0} (f : X → List Y) (xs : List X) (x : X) (y : Y) → Contains xs x → Contains (f x) y → Contains (flat_map f xs) y
+pub in_flat : {X Y : Type 0} (f : X → List Y) (xs : List X) (x : X) (y : Y) → Contains xs x → Contains (f x) y → Contains (flat_map f xs) y
 in_flat f [] x y h g = absurd (none_in x h)
 in_flat f (z ∷ zs) x y h g =
     ⊎_elim (λ (e : z ≡ x). Contains-append_left (f z) (flat_map f zs) y (subst (λ w. Contains (f w) y) (sym e) g)) (λ (k : Contains zs x). Contains-append_right (f z) (flat_map f zs) y (in_flat f zs x y k g))

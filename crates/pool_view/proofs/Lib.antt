@@ -10,6 +10,9 @@ pub mod Indexed
 pub mod Pairs
 pub mod Differ
 pub mod OfNode
+pub mod NamedSets
+pub mod Drawn
+pub mod Few
 mod SameSlices
 mod SliceFields
 mod NodeSees

@@ -42,7 +42,7 @@ has_put : (xs : List (List ℕ)) (k n : List ℕ) → has (insert_key text_cmp x
 has_put [] k n = refl
 has_put (x ∷ xs) k n = put_by (text_cmp k x) k x n xs (insert_key text_cmp xs k) refl (has_put xs k n)
 
-split : (a b c d : Bool) → ((a || b) || (c || d)) ≡ ((a || c) || (b || d))
+pub split : (a b c d : Bool) → ((a || b) || (c || d)) ≡ ((a || c) || (b || d))
 split true b c d = refl
 split false true true d = refl
 split false true false d = refl
@@ -54,7 +54,7 @@ any_put seen (n ∷ ns) k =
     ap (λ (b : Bool). b || list_any (has (insert_key text_cmp seen k)) ns) (has_put seen k n ∙ ap (λ (b : Bool). b || has seen n) (sym (texts_ties n k)))
     ∙ ap (λ (b : Bool). (text_eq n k || has seen n) || b) (any_put seen ns k) ∙ split (text_eq n k) (has seen n) (list_any (λ m. text_eq m k) ns) (list_any (has seen) ns)
 
-arrange : (a b c d : Bool) → (a || ((b || c) || d)) ≡ ((a || c) || (b || d))
+pub arrange : (a b c d : Bool) → (a || ((b || c) || d)) ≡ ((a || c) || (b || d))
 arrange true b c d = refl
 arrange false true true d = refl
 arrange false true false d = refl

@@ -10,3 +10,4 @@ pub mod Differing
 pub mod NodeIndexes
 pub mod Sorted
 pub mod Known
+pub mod Sets

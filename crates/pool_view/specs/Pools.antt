@@ -1,14 +1,16 @@
 -- Pools, and the devices of a node.
-use Rattle.std.specs.Prelude.{ℕ, ◌==◌, List, [], ◌∷◌, Bool, false, not, ◌&&◌, ◌||◌, map, filter, length, max, if◌then◌else◌}
+use Rattle.std.specs.Prelude.{ℕ, ℤ, ◌==◌, List, [], ◌∷◌, Bool, false, not, ◌&&◌, ◌||◌, Option, None, Some, is_some, map, filter, find, length, max, if◌then◌else◌}
 use Rattle.std.specs.List.{flat_map, list_any, list_all}
 use Rattle.std.specs.Ordering.{ordering_then}
 use Rattle.std.specs.declared.cmp.Ordering.{Ordering}
 use Rattle.object_fields.specs.declared.key.DeviceId.{DeviceId}
+use Rattle.api_slice.specs.declared.types.CounterConsumption.{CounterConsumption}
+use Rattle.api_slice.specs.declared.types.CounterSet.{CounterSet}
 use Rattle.api_slice.specs.declared.types.ResourceSlice.{ResourceSlice}
 use Rattle.api_slice.specs.declared.types.Device.{Device}
 use Rattle.pool_view.specs.declared.order.SlicePlace.{SlicePlace}
 use Rattle.pool_view.specs.Inventory.{Named}
-use Rattle.pool_view.specs.Names.{text_cmp, text_eq}
+use Rattle.pool_view.specs.Names.{at_name, text_cmp, text_eq}
 
 -- the slices of a pool
 abbrev pub slices_of : List ℕ → List ℕ → Named ResourceSlice → List ResourceSlice
@@ -52,9 +54,37 @@ abbrev pub has_twice : List (List ℕ) → Bool
 has_twice [] = false
 has_twice (n ∷ ns) = list_any (λ m. text_eq m n) ns || has_twice ns
 
--- two disagree on the count, or a device name appears twice
+-- the counter sets of slices
+abbrev pub sets_of : List ResourceSlice → List CounterSet
+sets_of xs = flat_map (λ x. x.counters) xs
+
+abbrev pub set_names : List CounterSet → List (List ℕ)
+set_names sets = map (λ s. s.name) sets
+
+abbrev pub set_named : List CounterSet → List ℕ → Option CounterSet
+set_named sets name = find (λ s. text_eq s.name name) sets
+
+-- there is a set, and it has each of the counters
+abbrev pub has_each : Option CounterSet → List (List ℕ × ℤ) → Bool
+has_each None amounts = false
+has_each (Some s) amounts = list_all (λ e. is_some (at_name s.counters e.0)) amounts
+
+-- one of the sets has the name, and it has each of the counters
+abbrev pub is_there : List CounterSet → CounterConsumption → Bool
+is_there sets c = has_each (set_named sets c.set) c.amounts
+
+-- the sets and the counters from which the devices of slices draw are those of these sets
+abbrev pub draws_are_there : List CounterSet → List ResourceSlice → Bool
+draws_are_there sets xs = list_all (λ x. list_all (λ d. list_all (is_there sets) d.consumes) x.devices) xs
+
+-- two disagree on the count, a device name or a set name appears twice, or a device draws from a set or a counter
+-- that none of them has
 abbrev pub is_invalid : List ResourceSlice → Bool
-is_invalid xs = counts_differ (counts_of xs) || has_twice (flat_map device_names xs)
+is_invalid xs =
+    counts_differ (counts_of xs)
+    || (has_twice (flat_map device_names xs)
+    || (has_twice (set_names (sets_of xs))
+    || not (draws_are_there (sets_of xs) xs)))
 
 unfoldable pub is_usable : List ResourceSlice → Bool
 is_usable xs = is_complete (counts_of xs) && not (is_invalid xs)

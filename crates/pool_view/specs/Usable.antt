@@ -1,10 +1,12 @@
 -- The slices of usable pools and of broken ones, and what a node sees of them.
-use Rattle.std.specs.Prelude.{ℕ, List, [], ◌∷◌, Bool, false, Option, None, Some, if◌then◌else◌}
+use Rattle.std.specs.Prelude.{ℕ, List, [], ◌∷◌, Bool, true, false, ◌||◌, Option, None, Some, filter, if◌then◌else◌}
 use Rattle.std.specs.List.{flat_map, list_any}
 use Rattle.std.specs.Ordering.{ordering_then}
 use Rattle.std.specs.declared.cmp.Ordering.{Ordering}
 use Rattle.std.specs.BTreeSet.{insert_key}
 use Rattle.api_cluster.specs.declared.types.Node.{Node}
+use Rattle.api_slice.specs.declared.types.CounterConsumption.{CounterConsumption}
+use Rattle.api_slice.specs.declared.types.CounterSet.{CounterSet}
 use Rattle.api_slice.specs.declared.types.ResourceSlice.{ResourceSlice}
 use Rattle.pool_view.specs.declared.names.PoolName.{PoolName}
 use Rattle.pool_view.specs.declared.inventory.Inventory.{Inventory}
@@ -43,6 +45,22 @@ usable_slices i = flat_map (λ p. if_usable (pool_of i.slices p.driver p.pool)) 
 -- those of incomplete and of invalid pools
 unfoldable pub broken_slices : Inventory → List ResourceSlice
 broken_slices i = flat_map (λ p. if_broken (pool_of i.slices p.driver p.pool)) (pools i.slices)
+
+abbrev pub has_sets : List CounterSet → Bool
+has_sets [] = false
+has_sets (s ∷ ss) = true
+
+abbrev pub draws_any : List CounterConsumption → Bool
+draws_any [] = false
+draws_any (c ∷ cs) = true
+
+-- the slice has counter sets, or one of its devices draws from some
+abbrev pub is_counted : ResourceSlice → Bool
+is_counted x = has_sets x.counters || list_any (λ d. draws_any d.consumes) x.devices
+
+-- those of usable pools that counters are about
+unfoldable pub counted_slices : Inventory → List ResourceSlice
+counted_slices i = filter is_counted (usable_slices i)
 
 abbrev pub devices_for : Option (Stored Node) → List ResourceSlice → List Offered
 devices_for None xs = []

@@ -80,9 +80,11 @@ fn share_all(
 }
 
 /// The slices of the highest generation of each pool, those of usable pools apart from those of broken
-/// ones, each in the order of driver, pool and slice.
+/// ones, each in the order of driver, pool and slice; and those of usable pools that have counter sets, or
+/// whose devices draw from some.
 #[derive(Drop)]
 pub struct SortedSlices {
     pub usable: IndexedSlices,
     pub broken: IndexedSlices,
+    pub counted: Seq<Shared<ResourceSlice>>,
 }

@@ -1,14 +1,18 @@
-ghost use Rattle.std.specs.Prelude.{◌≡◌, List, ℕ, Some, Contains, map, slice_get};
+ghost use Rattle.std.specs.Prelude.{◌≡◌, ◌≤◌, List, ℕ, ℤ, Some, Contains, length, map, slice_get};
+ghost use Rattle.std.specs.List.{sum_by};
 ghost use Rattle.std.specs.List.Sorted.{IsStrictlySortedBy};
 ghost use Rattle.std.specs.Map.{keys_of};
+ghost use Rattle.api_slice.specs.declared.types.CounterConsumption.{CounterConsumption};
 ghost use Rattle.api_slice.specs.declared.types.Device.{Device};
 ghost use Rattle.api_slice.specs.declared.types.ResourceSlice.{ResourceSlice};
 ghost use Rattle.pool_view.specs.declared.inventory.Inventory.{Inventory};
-ghost use Rattle.pool_view.specs.Differing.{IsAtItsName, usable_devices};
-ghost use Rattle.pool_view.specs.Inventory.{AtOwnNames};
+ghost use Rattle.pool_view.specs.Differing.{HasCounter, IsAtItsName, usable_devices};
+ghost use Rattle.pool_view.specs.Inventory.{AtOwnNames, devices_most};
 ghost use Rattle.pool_view.specs.Names.{text_cmp};
 ghost use Rattle.pool_view.specs.Pools.{Offered, id_in, id_of, place_cmp, place_of};
 ghost use Rattle.pool_view.specs.Usable.{node_devices, usable_slices};
+
+use crate::Inventory;
 
 /// No two devices that a node sees have one id, so a device's id determines its position. Each has its
 /// slice among the slices of usable pools, and is among the devices of that slice. Slices of one
@@ -34,3 +38,17 @@ pub fn usable_slices_differ()
     ensures devices { (i : Inventory) (x y : ResourceSlice) (d e : Device) → Contains (usable_slices i) x → Contains x.devices d → Contains (usable_slices i) y → Contains y.devices e → id_of x d ≡ id_of y e → (x ≡ y) × (d ≡ e) }
     ensures ids { (i : Inventory) (n m : ℕ) (o p : Offered) → slice_get (usable_devices i) n ≡ Some o → slice_get (usable_devices i) m ≡ Some p → id_in o ≡ id_in p → n ≡ m }
 {}
+
+/// If a device of a usable pool draws from a counter of a set, a slice of the same pool has a set of that
+/// name with that counter.
+pub fn usable_counters_are_there()
+    ensures { (i : Inventory) (x : ResourceSlice) (d : Device) (c : CounterConsumption) (e : List ℕ × ℤ) → Contains (usable_slices i) x → Contains x.devices d → Contains d.consumes c → Contains c.amounts e → HasCounter i x c.set e.0 }
+{}
+
+/// The slices of usable pools have at most 65,536 devices in all.
+#[tactic(auto, using(crate::proofs::Few::usable_few))]
+pub fn usable_devices_are_few(inventory: &Inventory)
+    ensures { sum_by (λ x. length x.devices) (usable_slices inventory.now) ≤ devices_most }
+{
+    inventory.keeps_limit();
+}

@@ -2,6 +2,7 @@
 #![tactic(auto)]
 
 mod device;
+mod draws;
 mod groups;
 mod inventory;
 mod kept;
@@ -13,6 +14,7 @@ mod node_index;
 mod nodes;
 mod order;
 mod seen;
+mod set_ref;
 mod slice_ref;
 mod sorting;
 mod stored;
@@ -22,11 +24,14 @@ mod visible;
 pub use device::DeviceRef;
 pub use inventory::{Inventory, MAX_DEVICES_TOTAL, Slices};
 pub use known::{KnownList, KnownSlices, MAX_KNOWN_LISTS};
-pub use laws::{devices_of_a_view_differ, usable_slices_differ};
+pub use laws::{
+    devices_of_a_view_differ, usable_counters_are_there, usable_devices_are_few,
+    usable_slices_differ,
+};
 pub use names::PoolName;
 pub use nodes::named_node;
 pub use order::SlicePlace;
-pub use sorting::usable;
+pub use sorting::{counted, usable};
 pub use stored::{Stored, put_named};
 pub use view::{PoolView, Pools};
 pub use visible::sees_slice;

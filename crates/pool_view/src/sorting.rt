@@ -1,11 +1,12 @@
-ghost use Rattle.std.specs.Prelude.{◌≡◌, ◌++◌, [], IfOk, map, if◌then◌else◌};
+ghost use Rattle.std.specs.Prelude.{◌≡◌, ◌++◌, ◌&&◌, [], IfOk, not, filter, map, if◌then◌else◌};
 ghost use Rattle.std.specs.List.{flat_map};
 ghost use Rattle.pool_view.specs.Groups.{group_at};
 ghost use Rattle.pool_view.specs.Pools.{counts_of, device_names, has_twice, highest, is_complete, is_usable, newest, of_generation};
 ghost use Rattle.pool_view.specs.Sorted.{AreSorted};
-ghost use Rattle.pool_view.specs.Usable.{broken_slices, if_broken, if_usable, pool_cmp, usable_slices};
+ghost use Rattle.pool_view.specs.Usable.{broken_slices, counted_slices, if_broken, if_usable, is_counted, pool_cmp, usable_slices};
 
 use crate::Inventory;
+use crate::draws::{are_drawable, counted_of, is_counted};
 use crate::groups::{by_pool, pool_names};
 use crate::kept::{IndexedSlices, SortedSlices};
 use crate::names::{NameRef, PoolName};
@@ -104,14 +105,23 @@ fn has_twice(alloc: Global, names: Vec<NameRef<'_>>) -> Result<bool, AllocError>
     Ok(false)
 }
 
+/// Whether the number of slices equals the count in each, and no device name appears twice in them.
+fn are_whole(alloc: Global, slices: &[SliceRef<'_>]) -> Result<bool, AllocError>
+    ensures { IfOk result (λ whole. whole ≡ (is_complete (counts_of slices.now) && not (has_twice (flat_map device_names slices.now)))) }
+{
+    let complete = are_complete(slices);
+    let twice = has_twice(alloc, names_of(alloc, slices)?)?;
+    Ok(complete && !twice)
+}
+
 /// Whether the slices of a pool's highest generation make it usable.
 #[tactic(auto, using(crate::proofs::Complete::is_usable_by))]
 fn is_usable(alloc: Global, slices: &[SliceRef<'_>]) -> Result<bool, AllocError>
     ensures { IfOk result (λ usable. usable ≡ is_usable slices.now) }
 {
-    let complete = are_complete(slices);
-    let twice = has_twice(alloc, names_of(alloc, slices)?)?;
-    Ok(complete && !twice)
+    let whole = are_whole(alloc, slices)?;
+    let drawable = are_drawable(alloc, slices)?;
+    Ok(whole && drawable)
 }
 
 /// The slices of usable pools' highest generations, and those of broken pools'.
@@ -175,19 +185,24 @@ pub fn sort_all<'a>(alloc: Global, inventory: &'a Inventory) -> Result<Sorted<'a
 }
 
 /// The slices of the inventory, sorted, to be kept.
-#[tactic(auto, using(crate::proofs::SameSlices::usable_of, crate::proofs::SameSlices::broken_of))]
 pub fn sorted_slices(alloc: Global, inventory: &Inventory) -> Result<SortedSlices, AllocError>
     ensures { IfOk result (λ sorted. AreSorted inventory.now.slices sorted) }
 {
     let sorted = sort_all(alloc, inventory)?;
     let usable = IndexedSlices::of(alloc, sorted.usable.as_slice())?;
     let broken = IndexedSlices::of(alloc, sorted.broken.as_slice())?;
-    Ok(SortedSlices { usable, broken })
+    let counted = counted_of(alloc, sorted.usable.as_slice())?;
+    Ok(SortedSlices {
+        usable,
+        broken,
+        counted,
+    })
 }
 
 /// The slices of the usable pools, those of each pool's highest generation, over all nodes: in the
 /// order of driver, pool and slice. A pool is usable if it has as many slices of its highest
-/// generation as each of them says (`resourceSliceCount`), and no device name appears twice in them.
+/// generation as each of them says (`resourceSliceCount`), no device name and no name of a counter set
+/// appears twice in them, and their devices draw from counters that these sets have.
 /// `AllocError` is returned only if memory runs out.
 pub fn usable(alloc: Global, inventory: &Inventory) -> Result<Vec<&ResourceSlice>, AllocError>
     ensures { IfOk result (λ slices. map (λ s. s.now) slices.items ≡ usable_slices inventory.now) }
@@ -196,6 +211,33 @@ pub fn usable(alloc: Global, inventory: &Inventory) -> Result<Vec<&ResourceSlice
         Some(kept) => values_of(alloc, kept.value().usable.slices()),
         None => borrowed(alloc, sort_all(alloc, inventory)?.usable.as_slice()),
     }
+}
+
+/// Those of the slices of the usable pools that have counter sets, or whose devices draw from some, in
+/// the same order. `AllocError` is returned only if memory runs out.
+#[tactic(auto, unfolding(crate::specs::Usable::counted_slices))]
+pub fn counted(alloc: Global, inventory: &Inventory) -> Result<Vec<&ResourceSlice>, AllocError>
+    ensures { IfOk result (λ slices. map (λ s. s.now) slices.items ≡ counted_slices inventory.now) }
+{
+    match inventory.sorted() {
+        Some(kept) => values_of(alloc, kept.value().counted.as_slice()),
+        None => counted_among(alloc, sort_all(alloc, inventory)?.usable.as_slice()),
+    }
+}
+
+fn counted_among<'a>(
+    alloc: Global,
+    slices: &[SliceRef<'a>],
+) -> Result<Vec<&'a ResourceSlice>, AllocError>
+    ensures { IfOk result (λ out. map (λ s. s.now) out.items ≡ filter is_counted slices.now) }
+{
+    let mut out = Vec::new(alloc);
+    for slice in slices {
+        if is_counted(slice.get()) {
+            out.push(slice.get())?;
+        }
+    }
+    Ok(out)
 }
 
 fn values_of(

@@ -1,7 +1,7 @@
 ghost use Rattle.std.specs.Prelude.{◌≡◌, [], IfOk, IsSome};
 ghost use Rattle.pool_view.specs.Names.{at_name};
 ghost use Rattle.pool_view.specs.Sorted.{AreSorted};
-ghost use Rattle.pool_view.specs.Usable.{has_broken, node_devices};
+ghost use Rattle.pool_view.specs.Usable.{counted_slices, has_broken, node_devices};
 ghost use Rattle.pool_view.specs.Views.{places_from, position_of, with_place};
 
 use crate::Inventory;
@@ -9,6 +9,7 @@ use crate::device::DeviceRef;
 use crate::kept::SortedSlices;
 use crate::seen::{are_seen, devices_seen};
 use crate::sorting::{sort_all, sorted_slices};
+use api_slice::ResourceSlice;
 use dra_values::{Seq, Shared, Table, Text};
 use object_fields::DeviceId;
 use std::alloc::{AllocError, Global};
@@ -97,14 +98,12 @@ impl<'a> Pools<'a> {
         }
     }
 
-    /// What a node of the inventory sees. `AllocError` is returned only if memory runs out.
-    pub fn view(&self, alloc: Global, node: &Text) -> Result<PoolView<'_>, AllocError>
-        requires { IsSome (at_name self.now.nodes node.now) }
-        ensures inventory { IfOk result (λ view. view.inventory ≡ self.now) }
-        ensures devices { IfOk result (λ view. view.devices ≡ node_devices self.now node.now) }
-        ensures broken { IfOk result (λ view. view.has_broken ≡ has_broken self.now node.now) }
+    /// Those of the slices of usable pools that have counter sets, or whose devices draw from some, in the
+    /// order of driver, pool and slice. Allocates nothing.
+    pub fn counted(&self) -> &[Shared<ResourceSlice>]
+        ensures { result.now ≡ counted_slices self.now }
     {
-        view_by(alloc, self.inventory, self.sorted.value(), node)
+        self.sorted.value().counted.as_slice()
     }
 }
 

@@ -5,5 +5,5 @@ use Rattle.counter_sets.proofs.short.first_short.Given as goal
 
 abbrev pub invariant-loop-consumption : goal.invariant-loop-consumption
 invariant-loop-consumption l =
-    spec.short_in (spec.or_empty (option_copied l.totals)) l.device (drop l.consumption-index l.device.device.consumes)
-    ≡ spec.short_in (spec.or_empty (option_copied l.totals)) l.device l.device.device.consumes
+    spec.short_in (spec.or_empty (option_copied l.sets)) l.device (drop l.consumption-index l.device.device.consumes)
+    ≡ spec.short_in (spec.or_empty (option_copied l.sets)) l.device l.device.device.consumes

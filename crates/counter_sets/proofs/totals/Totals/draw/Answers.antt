@@ -1,8 +1,8 @@
 use Rattle.std.proofs.Common.{ap, ◌∙◌}
-use Rattle.counter_sets.specs.Totals.{keeps}
+use Rattle.counter_sets.specs.Totals.{value_of}
 use Rattle.counter_sets.specs.declared.change.Change.TheVariants as change
-use Rattle.counter_sets.proofs.Moves.{same_counters}
+use Rattle.counter_sets.proofs.Moves.{same_value}
 use Rattle.counter_sets.proofs.totals.Totals.draw.Goals as goal
 
-pub returns-clause-same : goal.returns-clause-same
-returns-clause-same c = λ k. ap (λ t. keeps t k) c.change.ensures ∙ same_counters change.Draw c.args.device.now c.args.self.now k
+pub returns-clause-value : goal.returns-clause-value
+returns-clause-value c = λ k. ap (λ t. value_of t k) c.change.ensures ∙ same_value change.Draw c.args.device.now c.args.self.now k

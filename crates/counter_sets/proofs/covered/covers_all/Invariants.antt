@@ -1,0 +1,9 @@
+use Rattle.std.proofs.Common.{◌≡◌}
+use Rattle.std.specs.Option.{option_copied}
+use Rattle.counter_sets.specs.Totals as spec
+use Rattle.counter_sets.proofs.covered.covers_all.Given as goal
+
+abbrev pub invariant-loop-name : goal.invariant-loop-name
+invariant-loop-name l =
+    spec.covers_all (spec.or_empty (option_copied l.counters)) l.device l.consumption.set l.name-iterator
+    ≡ spec.covers_all (spec.or_empty (option_copied l.counters)) l.device l.consumption.set l.consumption.amounts

@@ -1,9 +1,0 @@
-use Rattle.std.proofs.Common.{◌≡◌}
-use Rattle.std.specs.Option.{option_copied}
-use Rattle.counter_sets.specs.Totals as spec
-use Rattle.counter_sets.proofs.covered.covers_consumption.Given as goal
-
-abbrev pub invariant-loop-name : goal.invariant-loop-name
-invariant-loop-name l =
-    spec.covers_all (spec.or_empty (option_copied l.totals)) l.device l.consumption.set l.name-iterator
-    ≡ spec.covers_all (spec.or_empty (option_copied l.totals)) l.device l.consumption.set l.consumption.amounts
