@@ -1,11 +1,10 @@
 -- The input of a search of a node, in a state, and what the search returns.
-use Rattle.std.specs.Prelude.{ℕ, List, Option, map}
+use Rattle.std.specs.Prelude.{ℕ, List, map}
 use Rattle.api_claim.specs.declared.types.ResourceClaim.{ResourceClaim}
 use Rattle.api_cluster.specs.declared.types.Pod.{Pod}
-use Rattle.api_slice.specs.declared.types.ResourceSlice.{ResourceSlice}
 use Rattle.walk.specs.Walk.{Item, walk}
 use Rattle.walk.specs.Outcome.{Outcome, outcome}
-use Rattle.counter_sets.specs.Draws.{CounterId, counter_value, drawn}
+use Rattle.counter_sets.specs.Draws.{drawn, value_among}
 use Rattle.pool_view.specs.Usable.{has_broken, node_devices, usable_slices}
 use Rattle.cluster.specs.declared.plan.DeviceResult.{DeviceResult}
 use Rattle.cluster.specs.declared.plan.Grant.{Grant}
@@ -16,14 +15,9 @@ use Rattle.request_rules.specs.Allocation.{Result, results_of}
 use Rattle.request_rules.specs.Faults.{FaultPlace}
 use Rattle.request_rules.specs.Grants.{ClaimResults, NamedResult, grants_of}
 use Rattle.request_rules.specs.Input.{SearchInput}
-use Rattle.request_rules.specs.Lists.{first_some}
 use Rattle.request_rules.specs.Problem.{problem_of}
 use Rattle.request_rows.specs.Match.{matched_by}
 use Rattle.allocations.specs.Claims.{wanted}
-
--- the value of a counter, if a slice has it
-abbrev pub value_among : List ResourceSlice → CounterId → Option ℕ
-value_among xs c = first_some (λ x. counter_value x c) xs
 
 unfoldable pub input_of : State → List ResourceClaim → List ℕ → SearchInput
 input_of s claims node = record {

@@ -1,5 +1,5 @@
 -- What the end of a walk implies for a board, and what is returned.
-use Rattle.std.proofs.Common.{ℕ, zero, suc, ◌<◌, ◌≡◌, ◌⊎◌, List, [], ◌∷◌, length, take, get_or, Some, refl, sym, ap, ◌∙◌, subst, inl, inr, arith}
+use Rattle.std.proofs.Common.{ℕ, zero, suc, ◌<◌, ◌≡◌, ◌⊎◌, List, [], ◌∷◌, length, take, get_or, Option, Some, refl, sym, ap, ◌∙◌, subst, inl, inr, arith}
 use Rattle.std.specs.List.{Contains}
 use Rattle.walk.specs.Walk.{Faulty, Fault, Full, Hopeless, IsAllocation, IsItem, Item, MayBe, Open, Part, Problem, Shape, walk}
 use Rattle.walk.specs.Outcome.{Ended, outcome}
@@ -24,7 +24,6 @@ use Rattle.allocator.specs.Agreeing.{AreAgreed}
 use Rattle.allocator.specs.Answered.{answer_by, answer_of}
 use Rattle.allocator.specs.Holding.{Holders, held_among}
 use Rattle.allocator.specs.Input.{with_counters}
-use Rattle.allocator.specs.Kept.{Setting}
 use Rattle.allocator.proofs.Alike.{same_answer}
 
 -- ---- where a search ends
@@ -53,31 +52,31 @@ WithinLaw = (p : Problem) (b : ℕ) (x : Item) → outcome b (walk p) ≡ Ended 
 abbrev pub OnlyLaw : Type 0
 OnlyLaw = (p : Problem) (x : Item) → Contains (walk p) x → IsItem p x
 
-pub full_shape : (old new : Setting) (b : ℕ) (a : Answer) (c l : List ℕ) → FoundLaw → new ≡ old → outcome b (walk (problem_of old.input)) ≡ told a c l → a ≡ ended.Full → shape_of new.input c ≡ Open (length l)
+pub full_shape : (old new : SearchInput) (b : ℕ) (a : Answer) (c l : List ℕ) → FoundLaw → new ≡ old → outcome b (walk (problem_of old)) ≡ told a c l → a ≡ ended.Full → shape_of new c ≡ Open (length l)
 full_shape old new b a c l law e f g =
-    ap (λ (s : Setting). shape_of s.input c) e
-    ∙ (law (problem_of old.input) b (record { choice = c; positions = l; mark = Full }) (f ∙ ap (λ (z : Answer). told z c l) g) refl).whole
+    ap (λ (s : SearchInput). shape_of s c) e
+    ∙ (law (problem_of old) b (record { choice = c; positions = l; mark = Full }) (f ∙ ap (λ (z : Answer). told z c l) g) refl).whole
 
-pub fault_shape : (old new : Setting) (b : ℕ) (a : Answer) (c l : List ℕ) → WithinLaw → OnlyLaw → new ≡ old → outcome b (walk (problem_of old.input)) ≡ told a c l → a ≡ ended.Fault → shape_of new.input c ≡ Faulty
+pub fault_shape : (old new : SearchInput) (b : ℕ) (a : Answer) (c l : List ℕ) → WithinLaw → OnlyLaw → new ≡ old → outcome b (walk (problem_of old)) ≡ told a c l → a ≡ ended.Fault → shape_of new c ≡ Faulty
 fault_shape old new b a c l within only e f g =
-    let p : Problem = problem_of old.input in
+    let p : Problem = problem_of old in
     let x : Item = record { choice = c; positions = []; mark = Fault } in
     let i = within p b x (f ∙ ap (λ (z : Answer). told z c l) g) in
-    ap (λ (s : Setting). shape_of s.input c) e
-    ∙ faulty_by p c (shape_of old.input c) (only p x (in_prefix b (walk p) x i.0 i.1 i.2)).kind
+    ap (λ (s : SearchInput). shape_of s c) e
+    ∙ faulty_by p c (shape_of old c) (only p x (in_prefix b (walk p) x i.0 i.1 i.2)).kind
 
-pub answered : (old new : Setting) (b : ℕ) (a : Answer) (c l : List ℕ) (found : outcomes.Outcome) → new ≡ old → outcome b (walk (problem_of old.input)) ≡ told a c l → answer_by new.input (told a c l) ≡ Some found → answer_of old.input b ≡ Some found
+pub answered : (old new : SearchInput) (b : ℕ) (a : Answer) (c l : List ℕ) (found : outcomes.Outcome) → new ≡ old → outcome b (walk (problem_of old)) ≡ told a c l → answer_by new (told a c l) ≡ Some found → answer_of old b ≡ Some found
 unfolding answer_of
 answered old new b a c l found e f g =
-    ap (answer_by old.input) f ∙ sym (ap (λ (s : Setting). answer_by s.input (told a c l)) e) ∙ g
+    ap (answer_by old) f ∙ sym (ap (λ (s : SearchInput). answer_by s (told a c l)) e) ∙ g
 
 -- ---- the held devices
 
-pub held_answer : (v : SearchInput) (h : holding.Holders) (held : Holders) (devices : List Offered) (drawn : CounterId → ℕ) (b : ℕ) (found : outcomes.Outcome) → held ≡ record { devices = devices; held = held_among h devices } → devices ≡ v.devices
-    → answer_of (with_counters v held.held drawn) b ≡ Some found → (pairs : List (DeviceId × Key)) → AreHeld h pairs → answer_of (with_counters v pairs drawn) b ≡ Some found
-held_answer v h held devices drawn b found e f g pairs a =
-    same_answer v h pairs drawn b a
-    ∙ sym (ap (λ (l : List (DeviceId × Key)). answer_of (with_counters v l drawn) b) (ap (λ (z : Holders). z.held) e ∙ ap (held_among h) f))
+pub held_answer : (v : SearchInput) (h : holding.Holders) (held : Holders) (devices : List Offered) (value : CounterId → Option ℕ) (drawn : CounterId → ℕ) (b : ℕ) (found : outcomes.Outcome) → held ≡ record { devices = devices; held = held_among h devices } → devices ≡ v.devices
+    → answer_of (with_counters v held.held value drawn) b ≡ Some found → (pairs : List (DeviceId × Key)) → AreHeld h pairs → answer_of (with_counters v pairs value drawn) b ≡ Some found
+held_answer v h held devices value drawn b found e f g pairs a =
+    same_answer v h pairs value drawn b a
+    ∙ sym (ap (λ (l : List (DeviceId × Key)). answer_of (with_counters v l value drawn) b) (ap (λ (z : Holders). z.held) e ∙ ap (held_among h) f))
     ∙ g
 
 -- ---- the constraints of what is wanted

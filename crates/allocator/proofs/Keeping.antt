@@ -3,12 +3,10 @@ use Rattle.std.proofs.Common.{eqb, get_or, ℕ, zero, suc, ◌+◌, ◌-◌, ◌
 use Rattle.std.specs.List.{list_all, slice_get}
 use Rattle.std.specs.Option.{option_to_list}
 use Rattle.std.proofs.lemmas.List.{length-append}
-use Rattle.std.proofs.Math.Path.{fun_ext}
 use Rattle.object_fields.specs.declared.key.DeviceId.{DeviceId}
 use Rattle.object_fields.specs.declared.key.Key.{Key}
-use Rattle.pool_view.specs.Pools.{Offered}
 use Rattle.counter_sets.specs.Draws.{CounterId}
-use Rattle.counter_sets.specs.Totals.{Tabled, drawn_in, keeps}
+use Rattle.counter_sets.specs.Totals.{KeptCounters, drawn_in, value_of}
 use Rattle.constraints.specs.Agreeing as constraints
 use Rattle.request_rules.specs.Lists.{Each}
 use Rattle.request_rules.specs.Input.{SearchInput}
@@ -24,8 +22,7 @@ use Rattle.allocator.specs.declared.agreements.ClaimAgreement.{ClaimAgreement}
 use Rattle.allocator.specs.declared.pick.Pick.{Pick}
 use Rattle.allocator.specs.declared.run.Run.{Run}
 use Rattle.allocator.specs.Agreeing.{AreAgreed, EachLeft, EachTook, result_at}
-use Rattle.allocator.specs.Input.{AreKept}
-use Rattle.allocator.specs.Kept.{IsRun, Setting, setting_of}
+use Rattle.allocator.specs.Kept.{IsRun, setting_of}
 use Rattle.allocator.specs.Placing.{IsNext, IsPlacing, pick_seen, placed, placed_draws}
 use Rattle.allocator.proofs.Constraining.{agreed_less, agreed_more, room_in}
 use Rattle.allocator.proofs.Inputs as inputs
@@ -63,39 +60,31 @@ more_placing v ss tt l m p a n h e f = record {
   positions = subst (λ (z : List ℕ). Each (λ x. x < length v.devices) z) (sym f) (each_push (λ x. x < length v.devices) l p.position a.positions h);
 }
 
-same_kept : (old new : Tabled (Tabled (Tabled ℕ))) (ds : List Offered) → AreKept old ds → ((c : CounterId) → keeps new c ≡ keeps old c) → AreKept new ds
-same_kept old new ds a h i o e c f = a i o e c (sym (h c) ∙ f)
-
-same_setting : (a b : SearchInput) (f g : CounterId → Bool) → a ≡ b → ((c : CounterId) → f c ≡ g c) → ◌≡◌ {A = Setting} (record { input = a; keeps = f }) (record { input = b; keeps = g })
-same_setting a b f g e h = ap (λ (z : SearchInput). record { input = z; keeps = f }) e ∙ ap (λ (z : CounterId → Bool). record { input = b; keeps = z }) (fun_ext h)
-
 -- ---- one more
 
 pub run_more : (v : SearchInput) (old new : Run) (p : Pick) (claim : ℕ) (picked : constraints.Pick) → IsRun v old → IsNext old.slots.items (length old.positions.items) p.position p → p.position < length v.devices
     → new.chosen.items ≡ old.chosen.items → new.slots.items ≡ old.slots.items → new.positions.items ≡ old.positions.items ++ p.position ∷ []
-    → ((k : CounterId) → drawn_in new.totals k ≡ drawn_in old.totals k + amount k (draws v (pick_seen v p))) → ((c : CounterId) → keeps new.totals c ≡ keeps old.totals c)
+    → ((k : CounterId) → drawn_in new.totals k ≡ drawn_in old.totals k + amount k (draws v (pick_seen v p)))
     → EachTook claim picked old.agreements.items new.agreements.items → (pick_seen v p).label.claim ≡ claim → result_at v (pick_seen v p) ≡ picked ∷ []
     → list_all (λ r. agrees v r (placed v old.slots.items old.positions.items) (pick_seen v p)) (rules_of v) ≡ true → IsRun v new
-run_more v old new p claim picked a n h c s l d k t own seen ok =
+run_more v old new p claim picked a n h c s l d t own seen ok =
     let ss = old.slots.items in
     let ps = placed v ss old.positions.items in
     record {
       slots_are = ap (map (slot_seen v)) s ∙ a.slots_are ∙ ap (open_slots v) (sym c);
       placing = more_placing v ss new.slots.items old.positions.items new.positions.items p a.placing n h s l;
       drawn = λ x. let e = more_drawn v ss new.slots.items old.positions.items new.positions.items p x n s l in let f = d x in let g = a.drawn x in omega (arith, e, f, g);
-      kept = same_kept old.totals new.totals v.devices a.kept k;
       agreed = subst (λ (qs : List rules.Pick). AreAgreed v qs (rules_of v) new.agreements.items) (sym (next_placed v ss new.slots.items old.positions.items new.positions.items p n s l))
           (agreed_more v ps (rules_of v) old.agreements.items new.agreements.items (pick_seen v p) claim picked a.agreed t own seen (positions_known v ss old.positions.items a.placing) ok);
     }
 
 pub input_more : (v : SearchInput) (held : List (DeviceId × Key)) (old new : Run) (p : Pick) → IsNext old.slots.items (length old.positions.items) p.position p
     → new.slots.items ≡ old.slots.items → new.positions.items ≡ old.positions.items ++ p.position ∷ []
-    → ((k : CounterId) → drawn_in new.totals k ≡ drawn_in old.totals k + amount k (draws v (pick_seen v p))) → ((c : CounterId) → keeps new.totals c ≡ keeps old.totals c) → setting_of v held new ≡ setting_of v held old
+    → ((k : CounterId) → drawn_in new.totals k ≡ drawn_in old.totals k + amount k (draws v (pick_seen v p))) → ((k : CounterId) → value_of new.totals k ≡ value_of old.totals k) → setting_of v held new ≡ setting_of v held old
 input_more v held old new p n s l d kp =
-    same_setting _ _ (λ c. keeps new.totals c) (λ c. keeps old.totals c)
-    (inputs.same_input v held (λ k. drawn_in old.totals k - placed_draws v (placed v old.slots.items old.positions.items) k) (λ k. drawn_in new.totals k - placed_draws v (placed v new.slots.items new.positions.items) k)
-    (λ k. let e = more_drawn v old.slots.items new.slots.items old.positions.items new.positions.items p k n s l in let f = d k in omega (arith, e, f)))
-    (kp)
+    inputs.same_input v held (value_of old.totals) (value_of new.totals) (λ k. drawn_in old.totals k - placed_draws v (placed v old.slots.items old.positions.items) k) (λ k. drawn_in new.totals k - placed_draws v (placed v new.slots.items new.positions.items) k)
+    kp
+    (λ k. let e = more_drawn v old.slots.items new.slots.items old.positions.items new.positions.items p k n s l in let f = d k in omega (arith, e, f))
 
 -- ---- room
 
@@ -149,28 +138,26 @@ last_next v ss l m n s x a e f g = record {
 
 pub run_less : (v : SearchInput) (old new : Run) (p : Pick) (claim : ℕ) (picked : constraints.Pick) → IsRun v old → IsNext new.slots.items (length new.positions.items) p.position p
     → new.chosen.items ≡ old.chosen.items → new.slots.items ≡ old.slots.items → old.positions.items ≡ new.positions.items ++ p.position ∷ []
-    → ((k : CounterId) → drawn_in new.totals k ≡ drawn_in old.totals k - amount k (draws v (pick_seen v p))) → ((c : CounterId) → keeps new.totals c ≡ keeps old.totals c)
+    → ((k : CounterId) → drawn_in new.totals k ≡ drawn_in old.totals k - amount k (draws v (pick_seen v p)))
     → EachLeft claim picked old.agreements.items new.agreements.items → (pick_seen v p).label.claim ≡ claim → result_at v (pick_seen v p) ≡ picked ∷ [] → IsRun v new
-run_less v old new p claim picked a n c s l d k t own seen =
+run_less v old new p claim picked a n c s l d t own seen =
     let ss = new.slots.items in
     let ps = placed v ss new.positions.items in
     record {
       slots_are = ap (map (slot_seen v)) s ∙ a.slots_are ∙ ap (open_slots v) (sym c);
       placing = less_placing v old.slots.items ss old.positions.items new.positions.items p.position a.placing s l;
       drawn = λ x. let e = more_drawn v ss old.slots.items new.positions.items old.positions.items p x n (sym s) l in let f = d x in let g = a.drawn x in omega (arith, e, f, g);
-      kept = same_kept old.totals new.totals v.devices a.kept k;
       agreed = agreed_less v ps (rules_of v) old.agreements.items new.agreements.items (pick_seen v p) claim picked
           (subst (λ (qs : List rules.Pick). AreAgreed v qs (rules_of v) old.agreements.items) (next_placed v ss old.slots.items new.positions.items old.positions.items p n (sym s) l) a.agreed) t own seen;
     }
 
 pub input_less : (v : SearchInput) (held : List (DeviceId × Key)) (old new : Run) (p : Pick) → IsRun v old → IsNext new.slots.items (length new.positions.items) p.position p
     → new.slots.items ≡ old.slots.items → old.positions.items ≡ new.positions.items ++ p.position ∷ []
-    → ((k : CounterId) → drawn_in new.totals k ≡ drawn_in old.totals k - amount k (draws v (pick_seen v p))) → ((c : CounterId) → keeps new.totals c ≡ keeps old.totals c) → setting_of v held new ≡ setting_of v held old
+    → ((k : CounterId) → drawn_in new.totals k ≡ drawn_in old.totals k - amount k (draws v (pick_seen v p))) → ((k : CounterId) → value_of new.totals k ≡ value_of old.totals k) → setting_of v held new ≡ setting_of v held old
 input_less v held old new p a n s l d kp =
-    same_setting _ _ (λ c. keeps new.totals c) (λ c. keeps old.totals c)
-    (inputs.same_input v held (λ k. drawn_in old.totals k - placed_draws v (placed v old.slots.items old.positions.items) k) (λ k. drawn_in new.totals k - placed_draws v (placed v new.slots.items new.positions.items) k)
-    (λ k. let e = more_drawn v new.slots.items old.slots.items new.positions.items old.positions.items p k n (sym s) l in let f = d k in let g = a.drawn k in omega (arith, e, f, g)))
-    (kp)
+    inputs.same_input v held (value_of old.totals) (value_of new.totals) (λ k. drawn_in old.totals k - placed_draws v (placed v old.slots.items old.positions.items) k) (λ k. drawn_in new.totals k - placed_draws v (placed v new.slots.items new.positions.items) k)
+    kp
+    (λ k. let e = more_drawn v new.slots.items old.slots.items new.positions.items old.positions.items p k n (sym s) l in let f = d k in let g = a.drawn k in omega (arith, e, f, g))
 
 -- ---- taking all back
 
@@ -203,7 +190,6 @@ run_none v old new a s rows e f t g = record {
     positions = subst (λ (z : List ℕ). Each (λ x. x < length v.devices) z) (sym f) (λ i x e. absurd (cc));
   };
   drawn = λ k. let i = ap (λ (z : List ℕ). placed_draws v (placed v new.slots.items z) k) f in let j = ap (λ (z : List rules.Pick). placed_draws v z k) (nothing_placed v new.slots.items) in omega (arith, i, j);
-  kept = subst (λ (z : Tabled (Tabled (Tabled ℕ))). AreKept z v.devices) (sym t) a.kept;
   agreed = subst (λ (qs : List rules.Pick). AreAgreed v qs (rules_of v) new.agreements.items)
       (ap (placed v old.slots.items) e ∙ nothing_placed v old.slots.items ∙ sym (ap (placed v new.slots.items) f ∙ nothing_placed v new.slots.items))
       (subst (λ (gs : List ClaimAgreement). AreAgreed v (placed v old.slots.items old.positions.items) (rules_of v) gs) (sym g) a.agreed);
@@ -211,9 +197,8 @@ run_none v old new a s rows e f t g = record {
 
 pub input_none : (v : SearchInput) (held : List (DeviceId × Key)) (old new : Run) → old.positions.items ≡ [] → new.positions.items ≡ [] → new.totals ≡ old.totals → setting_of v held new ≡ setting_of v held old
 input_none v held old new e f t =
-    same_setting _ _ (λ c. keeps new.totals c) (λ c. keeps old.totals c)
-    (inputs.same_input v held (λ k. drawn_in old.totals k - placed_draws v (placed v old.slots.items old.positions.items) k) (λ k. drawn_in new.totals k - placed_draws v (placed v new.slots.items new.positions.items) k)
-    (λ k. ap (λ (z : Tabled (Tabled (Tabled ℕ))). drawn_in z k - placed_draws v (placed v new.slots.items new.positions.items) k) t
+    inputs.same_input v held (value_of old.totals) (value_of new.totals) (λ k. drawn_in old.totals k - placed_draws v (placed v old.slots.items old.positions.items) k) (λ k. drawn_in new.totals k - placed_draws v (placed v new.slots.items new.positions.items) k)
+    (λ k. ap (λ (z : KeptCounters). value_of z k) t)
+    (λ k. ap (λ (z : KeptCounters). drawn_in z k - placed_draws v (placed v new.slots.items new.positions.items) k) t
     ∙ ap (λ (qs : List rules.Pick). drawn_in old.totals k - placed_draws v qs k)
-    (ap (placed v new.slots.items) f ∙ nothing_placed v new.slots.items ∙ sym (ap (placed v old.slots.items) e ∙ nothing_placed v old.slots.items))))
-    (λ c. ap (λ (z : Tabled (Tabled (Tabled ℕ))). keeps z c) t)
+    (ap (placed v new.slots.items) f ∙ nothing_placed v new.slots.items ∙ sym (ap (placed v old.slots.items) e ∙ nothing_placed v old.slots.items)))

@@ -1,9 +1,9 @@
 -- What a board keeps.
-use Rattle.std.specs.Prelude.{ℕ, ◌≤◌, ◌≡◌, List, Bool, map}
+use Rattle.std.specs.Prelude.{ℕ, ◌≤◌, ◌≡◌, List, map}
 use Rattle.object_fields.specs.declared.key.DeviceId.{DeviceId}
 use Rattle.object_fields.specs.declared.key.Key.{Key}
 use Rattle.counter_sets.specs.Draws.{CounterId}
-use Rattle.counter_sets.specs.Totals.{Tabled, drawn_in, keeps}
+use Rattle.counter_sets.specs.Totals.{KeptCounters, drawn_in}
 use Rattle.request_rules.specs.Input.{SearchInput}
 use Rattle.request_rules.specs.Asked.{rules_of}
 use Rattle.request_rules.specs.Problem.{open_slots}
@@ -12,7 +12,7 @@ use Rattle.request_rows.specs.Seen.{slot_seen}
 use Rattle.request_rows.specs.Wanted.{RowsFields, input_of}
 use Rattle.allocator.specs.declared.run.Run.{Run}
 use Rattle.allocator.specs.Holding.{Holders}
-use Rattle.allocator.specs.Input.{AreApart, AreKept}
+use Rattle.allocator.specs.Input.{AreApart}
 use Rattle.allocator.specs.Placing.{IsPlacing, input_at, placed, placed_draws}
 use Rattle.allocator.specs.Agreeing.{AreAgreed}
 
@@ -20,17 +20,11 @@ pub record IsRun (v : SearchInput) (r : Run) : Type 0 where
   pub slots_are : map (slot_seen v) r.slots.items ≡ open_slots v r.chosen.items
   pub placing : IsPlacing v r.slots.items r.positions.items
   pub drawn : (k : CounterId) → placed_draws v (placed v r.slots.items r.positions.items) k ≤ drawn_in r.totals k
-  pub kept : AreKept r.totals v.devices
   pub agreed : AreAgreed v (placed v r.slots.items r.positions.items) (rules_of v) r.agreements.items
 
--- what no move of a board changes: the input of the search, and the counters that are kept
-pub record Setting : Type 0 where
-  pub input : SearchInput
-  pub keeps : CounterId → Bool
-
--- of the search that a run belongs to
-abbrev pub setting_of : SearchInput → List (DeviceId × Key) → Run → Setting
-setting_of v held r = record { input = input_at v held r.totals (placed v r.slots.items r.positions.items); keeps = λ c. keeps r.totals c }
+-- the input of the search that a run belongs to, which no move of a board changes
+abbrev pub setting_of : SearchInput → List (DeviceId × Key) → Run → SearchInput
+setting_of v held r = input_at v held r.totals (placed v r.slots.items r.positions.items)
 
 pub record IsBoard (v : SearchInput) (h : Holders) (r : Run) : Type 0 where
   pub same_devices : h.devices ≡ v.devices
@@ -41,10 +35,10 @@ pub record IsBoard (v : SearchInput) (h : Holders) (r : Run) : Type 0 where
 pub record Placed : Type 0 where
   pub rows : RowsFields
   pub held : List (DeviceId × Key)
-  pub totals : Tabled (Tabled (Tabled ℕ))
+  pub totals : KeptCounters
   pub taken : List Pick
   pub choice : List ℕ
   pub positions : List ℕ
 
-abbrev pub board_setting : Placed → Setting
-board_setting b = record { input = input_at (input_of b.rows) b.held b.totals b.taken; keeps = λ c. keeps b.totals c }
+abbrev pub board_setting : Placed → SearchInput
+board_setting b = input_at (input_of b.rows) b.held b.totals b.taken

@@ -5,7 +5,7 @@ use Rattle.object_fields.specs.declared.key.DeviceId.{DeviceId}
 use Rattle.object_fields.specs.declared.key.Key.{Key}
 use Rattle.pool_view.specs.Pools.{Offered}
 use Rattle.counter_sets.specs.Draws.{CounterId, is_covered}
-use Rattle.counter_sets.specs.Totals.{Tabled, drawn_in}
+use Rattle.counter_sets.specs.Totals.{KeptCounters, drawn_in, value_of}
 use Rattle.request_rules.specs.Lists.{Each}
 use Rattle.request_rules.specs.Input.{SearchInput}
 use Rattle.request_rules.specs.Asked as asking
@@ -40,21 +40,21 @@ least_by (Some x) = x + 1
 
 -- ---- counters
 
-abbrev pub covered_at : (CounterId → ℕ) → Option Offered → Bool
-covered_at before None = true
-covered_at before (Some o) = is_covered before o
+abbrev pub covered_at : (CounterId → Option ℕ) → (CounterId → ℕ) → Option Offered → Bool
+covered_at value before None = true
+covered_at value before (Some o) = is_covered value before o
 
 -- the device's counters have enough for it, or it draws nothing
-abbrev pub covered_by : SearchInput → (CounterId → ℕ) → rules.Pick → Bool
-covered_by v before p = p.label.admin || covered_at before (slice_get v.devices p.position)
+abbrev pub covered_by : SearchInput → (CounterId → Option ℕ) → (CounterId → ℕ) → rules.Pick → Bool
+covered_by v value before p = p.label.admin || covered_at value before (slice_get v.devices p.position)
 
 -- what the placed devices draw from a counter
 abbrev pub placed_draws : SearchInput → List rules.Pick → CounterId → ℕ
 placed_draws v ps k = sum_by (λ p. amount k (draws v p)) ps
 
--- the input of the search, from what is drawn now
-abbrev pub input_at : SearchInput → List (DeviceId × Key) → Tabled (Tabled (Tabled ℕ)) → List rules.Pick → SearchInput
-input_at v held kept ps = with_counters v held (λ k. drawn_in kept k - placed_draws v ps k)
+-- the input of the search, from what counters have and what is drawn now
+abbrev pub input_at : SearchInput → List (DeviceId × Key) → KeptCounters → List rules.Pick → SearchInput
+input_at v held kept ps = with_counters v held (value_of kept) (λ k. drawn_in kept k - placed_draws v ps k)
 
 -- ---- one device more
 

@@ -1,14 +1,14 @@
 ghost use Rattle.request_rows.specs.Wanted.{input_of};
 ghost use Rattle.std.specs.Prelude.{◌≡◌, ◌<◌, ◌≤◌, ℕ, List, [], ◌∷◌, ◌++◌, false, Some, option_map, map, length, slice_get, IfOk};
 ghost use Rattle.counter_sets.specs.Draws.{CounterId};
-ghost use Rattle.counter_sets.specs.Totals.{drawn_in, keeps};
+ghost use Rattle.counter_sets.specs.Totals.{drawn_in, value_of};
 ghost use Rattle.request_rules.specs.Input.{SearchInput};
 ghost use Rattle.request_rules.specs.Rules as rules;
 ghost use Rattle.request_rules.specs.Asked.{rules_of};
 ghost use Rattle.request_rules.specs.Rules.{least_after};
 ghost use Rattle.request_rows.specs.Seen.{slot_seen};
 ghost use Rattle.allocator.specs.Agreeing.{AreAgreed};
-ghost use Rattle.allocator.specs.Input.{AreApart, AreKept, with_counters};
+ghost use Rattle.allocator.specs.Input.{AreApart, with_counters};
 ghost use Rattle.allocator.specs.Kept.{board_setting};
 ghost use Rattle.allocator.specs.Placing.{next_by};
 ghost use Rattle.allocator.specs.Answered.{grants_at, selector_fault};
@@ -62,9 +62,8 @@ impl<'a> RequestBoard<'a> {
     ) -> RequestBoard<'a>
         requires devices { held.now.devices ≡ (input_of rows.now).devices }
         requires apart { AreApart (input_of rows.now).devices }
-        requires kept { AreKept totals (input_of rows.now).devices }
         requires agreed { AreAgreed (input_of rows.now) [] (rules_of (input_of rows.now)) agreements.items }
-        ensures { board_setting result ≡ record { input = with_counters (input_of rows.now) held.now.held (drawn_in totals); keeps = λ c. keeps totals c } }
+        ensures { board_setting result ≡ with_counters (input_of rows.now) held.now.held (value_of totals) (drawn_in totals) }
     {
         RequestBoard {
             rows,
@@ -81,9 +80,9 @@ impl<'a> RequestBoard<'a> {
 
     /// The grants of the claims, if the devices that are placed are an allocation.
     pub fn grants(&self, alloc: Global, claims: &[WantedClaim]) -> Result<Seq<Grant>, AllocError>
-        requires whole { shape_of (board_setting self.now).input self.now.choice ≡ Open (length self.now.positions) }
-        requires claims { claims.now ≡ (board_setting self.now).input.claims }
-        ensures { IfOk result (λ gs. gs ≡ grants_at (board_setting self.now).input self.now.choice self.now.positions) }
+        requires whole { shape_of (board_setting self.now) self.now.choice ≡ Open (length self.now.positions) }
+        requires claims { claims.now ≡ (board_setting self.now).claims }
+        ensures { IfOk result (λ gs. gs ≡ grants_at (board_setting self.now) self.now.choice self.now.positions) }
     {
         grants_of(
             alloc,
@@ -96,16 +95,16 @@ impl<'a> RequestBoard<'a> {
 
     /// The selector error of the choice, which has one.
     pub fn fault(&self, alloc: Global) -> Result<SelectorFault, AllocError>
-        requires { shape_of (board_setting self.now).input self.now.choice ≡ Faulty }
-        ensures { IfOk result (λ fault. option_map selector_fault (fault_of (board_setting self.now).input self.now.choice) ≡ Some fault) }
+        requires { shape_of (board_setting self.now) self.now.choice ≡ Faulty }
+        ensures { IfOk result (λ fault. option_map selector_fault (fault_of (board_setting self.now) self.now.choice) ≡ Some fault) }
     {
         fault_at(alloc, self.rows, &self.run.chosen)
     }
 
     /// The totals, with all devices taken back.
     pub fn into_totals(self) -> Totals
-        ensures drawn { (k : CounterId) → drawn_in result k ≡ (board_setting self.entry).input.drawn k }
-        ensures keeps { (k : CounterId) → keeps result k ≡ (board_setting self.entry).keeps k }
+        ensures value { (k : CounterId) → value_of result k ≡ (board_setting self.entry).value k }
+        ensures drawn { (k : CounterId) → drawn_in result k ≡ (board_setting self.entry).drawn k }
     {
         let mut run = self.run;
         clear(self.rows, &mut run);
@@ -136,13 +135,14 @@ fn window_of(slots: &[Slot], positions: &[usize], devices: usize) -> (usize, usi
 impl<'a> Board for RequestBoard<'a> {
     ghost use Rattle.allocator.specs.Kept as kept;
     ghost use Rattle.request_rules.specs.Prefixes.{good-nil, good-prefix};
+    ghost use Rattle.request_rules.specs.Input.{SearchInput};
     ghost use Rattle.request_rules.specs.Problem.{open_slots, problem_of};
 
-    ghost Setting = { kept.Setting };
+    ghost Setting = { SearchInput };
 
     ghost setting = { λ b. kept.board_setting b };
 
-    ghost problem = { λ g. problem_of g.input };
+    ghost problem = { λ g. problem_of g };
 
     ghost chosen = { λ b. b.choice };
 
@@ -169,7 +169,7 @@ impl<'a> Board for RequestBoard<'a> {
         leave(self.rows, &mut self.run);
     }
 
-    ghost empty = { λ g c. good-nil g.input (open_slots g.input c) };
+    ghost empty = { λ g c. good-nil g (open_slots g c) };
 
-    ghost closed = { λ g c l x. good-prefix g.input (open_slots g.input c) l (x ∷ []) };
+    ghost closed = { λ g c l x. good-prefix g (open_slots g c) l (x ∷ []) };
 }

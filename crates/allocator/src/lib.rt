@@ -13,4 +13,4 @@ mod searching;
 mod standing;
 
 pub use outcome::Outcome;
-pub use searching::{search, search_devices};
+pub use searching::search_devices;

@@ -4,7 +4,7 @@ ghost use Rattle.std.specs.List.{list_all};
 ghost use Rattle.object_fields.specs.declared.key.DeviceId.{DeviceId};
 ghost use Rattle.object_fields.specs.declared.key.Key.{Key};
 ghost use Rattle.deep_search.specs.Parts as parts;
-ghost use Rattle.counter_sets.specs.Totals.{drawn_in};
+ghost use Rattle.counter_sets.specs.Totals.{drawn_in, value_of};
 ghost use Rattle.request_rules.specs.Asked.{rules_of};
 ghost use Rattle.request_rules.specs.Lists.{Each};
 ghost use Rattle.request_rules.specs.Rules as rules;
@@ -68,7 +68,7 @@ fn may_join<'a>(
     requires agreed { AreAgreed (input_of rows.now) (placed (input_of rows.now) slots.now positions.now) (rules_of (input_of rows.now)) agreements.now }
     requires drawn { (k : CounterId) → placed_draws (input_of rows.now) (placed (input_of rows.now) slots.now positions.now) k ≤ drawn_in totals.now k }
     ensures exact { result ≡ may_join (input_at (input_of rows.now) held.now.held totals.now (placed (input_of rows.now) slots.now positions.now)) (placed (input_of rows.now) slots.now positions.now) (pick_seen (input_of rows.now) pick) }
-    ensures covered { result ≡ true → covered_by (input_of rows.now) (drawn_in totals.now) (pick_seen (input_of rows.now) pick) ≡ true }
+    ensures covered { result ≡ true → covered_by (input_of rows.now) (value_of totals.now) (drawn_in totals.now) (pick_seen (input_of rows.now) pick) ≡ true }
     ensures agreed { result ≡ true → list_all (λ r. agrees (input_of rows.now) r (placed (input_of rows.now) slots.now positions.now) (pick_seen (input_of rows.now) pick)) (rules_of (input_of rows.now)) ≡ true }
 {
     joining_is_by_device();
@@ -113,7 +113,7 @@ fn next_pick<'a>(
     ensures good { is_some result ≡ next_by (input_at (input_of rows.now) held.now.held totals.now (placed (input_of rows.now) slots.now positions.now)) (placed (input_of rows.now) slots.now positions.now)
         (least_after 0 positions.now) position (slice_get (map (slot_seen (input_of rows.now)) slots.now) (length positions.now)) }
     ensures pick { IfSome result (λ p. IsNext slots.now (length positions.now) position p) }
-    ensures covered { IfSome result (λ p. covered_by (input_of rows.now) (drawn_in totals.now) (pick_seen (input_of rows.now) p) ≡ true) }
+    ensures covered { IfSome result (λ p. covered_by (input_of rows.now) (value_of totals.now) (drawn_in totals.now) (pick_seen (input_of rows.now) p) ≡ true) }
     ensures agreed { IfSome result (λ p. list_all (λ r. agrees (input_of rows.now) r (placed (input_of rows.now) slots.now positions.now) (pick_seen (input_of rows.now) p)) (rules_of (input_of rows.now)) ≡ true) }
 {
     match slot_at(slots, positions.len()) {
@@ -137,7 +137,7 @@ fn take<'a>(rows: &'a Rows<'a>, run: &mut Run<'a>, pick: Pick) -> Result<(), All
     requires kept { IsRun (input_of rows.now) run.old }
     requires next { IsNext run.old.slots.items (length run.old.positions.items) pick.position pick }
     requires known { pick.position < length (input_of rows.now).devices }
-    requires covered { covered_by (input_of rows.now) (drawn_in run.old.totals) (pick_seen (input_of rows.now) pick) ≡ true }
+    requires covered { covered_by (input_of rows.now) (value_of run.old.totals) (drawn_in run.old.totals) (pick_seen (input_of rows.now) pick) ≡ true }
     requires agreed { list_all (λ r. agrees (input_of rows.now) r (placed (input_of rows.now) run.old.slots.items run.old.positions.items) (pick_seen (input_of rows.now) pick)) (rules_of (input_of rows.now)) ≡ true }
     ensures kept { IsRun (input_of rows.now) run.new }
     ensures chosen { run.new.chosen.items ≡ run.old.chosen.items }
@@ -162,12 +162,12 @@ pub fn join<'a>(
     requires apart { AreApart (input_of rows.now).devices }
     requires devices { held.now.devices ≡ (input_of rows.now).devices }
     requires known { position < length (input_of rows.now).devices }
-    requires good { good (setting_of (input_of rows.now) held.now.held run.old).input run.old.chosen.items run.old.positions.items ≡ true }
+    requires good { good (setting_of (input_of rows.now) held.now.held run.old) run.old.chosen.items run.old.positions.items ≡ true }
     ensures kept { IsRun (input_of rows.now) run.new }
     ensures chosen { run.new.chosen.items ≡ run.old.chosen.items }
     ensures setting { setting_of (input_of rows.now) held.now.held run.new ≡ setting_of (input_of rows.now) held.now.held run.old }
     ensures positions { IfOk result (λ b. run.new.positions.items ≡ (if b then run.old.positions.items ++ position ∷ [] else run.old.positions.items)) }
-    ensures good { IfOk result (λ b. b ≡ good (setting_of (input_of rows.now) held.now.held run.old).input run.old.chosen.items (run.old.positions.items ++ position ∷ [])) }
+    ensures good { IfOk result (λ b. b ≡ good (setting_of (input_of rows.now) held.now.held run.old) run.old.chosen.items (run.old.positions.items ++ position ∷ [])) }
 {
     prefixes_are_good();
     match next_pick(
@@ -237,7 +237,7 @@ pub fn start<'a>(
     ensures kept { IsRun (input_of rows.now) run.new }
     ensures chosen { OnOk result (run.new.chosen.items ≡ choice.now) }
     ensures positions { OnOk result (run.new.positions.items ≡ []) }
-    ensures setting { OnOk result ((held : List (DeviceId × Key)) → setting_of (input_of rows.now) held run.new ≡ setting_of (input_of rows.now) held run.old) }
+    ensures setting { (held : List (DeviceId × Key)) → setting_of (input_of rows.now) held run.new ≡ setting_of (input_of rows.now) held run.old }
     ensures shape { IfOk result (λ begun. parts.shape_of begun ≡ shape_of (input_of rows.now) choice.now) }
 {
     clear(rows, run);

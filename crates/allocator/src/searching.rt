@@ -1,10 +1,10 @@
-ghost use Rattle.std.specs.Prelude.{◌≡◌, List, [], Some, length, IfOk, OnOk};
+ghost use Rattle.std.specs.Prelude.{◌≡◌, List, [], Some, length, IfOk};
 ghost use Rattle.object_fields.specs.declared.key.DeviceId.{DeviceId};
 ghost use Rattle.object_fields.specs.declared.key.Key.{Key};
 ghost use Rattle.counter_sets.specs.Holding.{AreHeld};
 ghost use Rattle.walk.specs.Walk.{Faulty, Open};
 ghost use Rattle.counter_sets.specs.Draws.{CounterId};
-ghost use Rattle.counter_sets.specs.Totals.{drawn_in, keeps};
+ghost use Rattle.counter_sets.specs.Totals.{drawn_in, value_of};
 ghost use Rattle.deep_search.specs.Progress.{told};
 ghost use Rattle.deep_search.specs.declared.answer.Answer.TheVariants as ended;
 ghost use Rattle.request_rules.specs.Problem.{shape_of};
@@ -13,7 +13,7 @@ ghost use Rattle.request_rows.specs.Wanted.{asking, input_of};
 ghost use Rattle.allocator.specs.Agreeing.{AreAgreed};
 ghost use Rattle.allocator.specs.Answered.{answer_by, answer_of};
 ghost use Rattle.allocator.specs.Kept.{board_setting};
-ghost use Rattle.allocator.specs.Input.{AreApart, AreKept, with_counters};
+ghost use Rattle.allocator.specs.Input.{AreApart, with_counters};
 
 use crate::agreements::{ClaimAgreement, agreements_of};
 use crate::board::RequestBoard;
@@ -21,7 +21,7 @@ use crate::held::HeldDevices;
 use crate::outcome::Outcome;
 use counter_sets::{Held, Totals};
 use deep_search::Answer;
-use pool_view::{DeviceRef, PoolView};
+use pool_view::DeviceRef;
 use request_rows::{Rows, Wants};
 use std::alloc::{AllocError, Global};
 use std::mem;
@@ -34,10 +34,10 @@ fn outcome_of(
     board: &RequestBoard,
     answer: Answer,
 ) -> Result<Outcome, AllocError>
-    requires claims { wants.now.claims ≡ (board_setting board.now).input.claims }
-    requires full { answer ≡ ended.Full → shape_of (board_setting board.now).input board.now.choice ≡ Open (length board.now.positions) }
-    requires fault { answer ≡ ended.Fault → shape_of (board_setting board.now).input board.now.choice ≡ Faulty }
-    ensures { IfOk result (λ found. answer_by (board_setting board.now).input (told answer board.now.choice board.now.positions) ≡ Some found) }
+    requires claims { wants.now.claims ≡ (board_setting board.now).claims }
+    requires full { answer ≡ ended.Full → shape_of (board_setting board.now) board.now.choice ≡ Open (length board.now.positions) }
+    requires fault { answer ≡ ended.Fault → shape_of (board_setting board.now) board.now.choice ≡ Faulty }
+    ensures { IfOk result (λ found. answer_by (board_setting board.now) (told answer board.now.choice board.now.positions) ≡ Some found) }
 {
     match answer {
         Answer::Full => Ok(Outcome::Found(board.grants(alloc, &wants.claims)?)),
@@ -55,10 +55,10 @@ fn answer_on(
     board: &mut RequestBoard,
     budget: u64,
 ) -> Result<Outcome, AllocError>
-    requires options { counts.now ≡ options (board_setting board.old).input }
-    requires claims { wants.now.claims ≡ (board_setting board.old).input.claims }
-    ensures setting { OnOk result (board_setting board.new ≡ board_setting board.old) }
-    ensures answer { IfOk result (λ found. answer_of (board_setting board.old).input budget ≡ Some found) }
+    requires options { counts.now ≡ options (board_setting board.old) }
+    requires claims { wants.now.claims ≡ (board_setting board.old).claims }
+    ensures setting { board_setting board.new ≡ board_setting board.old }
+    ensures answer { IfOk result (λ found. answer_of (board_setting board.old) budget ≡ Some found) }
 {
     outcome_is_exact();
     walk_has_each_item();
@@ -75,19 +75,18 @@ fn search_totals<'a>(
     totals: Totals,
     agreements: Vec<ClaimAgreement<'a>>,
     budget: u64,
-) -> Result<(Outcome, Totals), AllocError>
+) -> (Result<Outcome, AllocError>, Totals)
     requires devices { held.now.devices ≡ (input_of rows.now).devices }
     requires apart { AreApart (input_of rows.now).devices }
-    requires kept { AreKept totals (input_of rows.now).devices }
     requires agreed { AreAgreed (input_of rows.now) [] (rules_of (input_of rows.now)) agreements.items }
     requires claims { wants.now.claims ≡ (input_of rows.now).claims }
-    ensures answer { IfOk result (λ r. answer_of (with_counters (input_of rows.now) held.now.held (drawn_in totals)) budget ≡ Some r.0) }
-    ensures drawn { IfOk result (λ r. (k : CounterId) → drawn_in r.1 k ≡ drawn_in totals k) }
-    ensures keeps { IfOk result (λ r. (k : CounterId) → keeps r.1 k ≡ keeps totals k) }
+    ensures answer { IfOk result.0 (λ found. answer_of (with_counters (input_of rows.now) held.now.held (value_of totals) (drawn_in totals)) budget ≡ Some found) }
+    ensures value { (k : CounterId) → value_of result.1 k ≡ value_of totals k }
+    ensures drawn { (k : CounterId) → drawn_in result.1 k ≡ drawn_in totals k }
 {
     let mut board = RequestBoard::new(alloc, rows, held, totals, agreements);
-    let outcome = answer_on(alloc, wants, rows.options(), &mut board, budget)?;
-    Ok((outcome, board.into_totals()))
+    let outcome = answer_on(alloc, wants, rows.options(), &mut board, budget);
+    (outcome, board.into_totals())
 }
 
 /// Searches the rows, where it is known which devices are held.
@@ -101,17 +100,16 @@ fn search_held<'a>(
 ) -> Result<Outcome, AllocError>
     requires devices { held.now.devices ≡ (input_of rows.now).devices }
     requires apart { AreApart (input_of rows.now).devices }
-    requires kept { AreKept totals.old (input_of rows.now).devices }
     requires claims { wants.now.claims ≡ (input_of rows.now).claims }
-    ensures answer { IfOk result (λ found. answer_of (with_counters (input_of rows.now) held.now.held (drawn_in totals.old)) budget ≡ Some found) }
-    ensures drawn { OnOk result ((k : CounterId) → drawn_in totals.new k ≡ drawn_in totals.old k) }
-    ensures keeps { OnOk result ((k : CounterId) → keeps totals.new k ≡ keeps totals.old k) }
+    ensures answer { IfOk result (λ found. answer_of (with_counters (input_of rows.now) held.now.held (value_of totals.old) (drawn_in totals.old)) budget ≡ Some found) }
+    ensures value { (k : CounterId) → value_of totals.new k ≡ value_of totals.old k }
+    ensures drawn { (k : CounterId) → drawn_in totals.new k ≡ drawn_in totals.old k }
 {
     let agreements = agreements_of(alloc, &wants.claims)?;
     let own = mem::replace(totals, Totals::new(alloc));
-    let (outcome, given) = search_totals(alloc, rows, held, wants, own, agreements, budget)?;
+    let (outcome, given) = search_totals(alloc, rows, held, wants, own, agreements, budget);
     *totals = given;
-    Ok(outcome)
+    outcome
 }
 
 /// Searches the rows of what is wanted.
@@ -124,11 +122,10 @@ fn search_rows<'a>(
     budget: u64,
 ) -> Result<Outcome, AllocError>
     requires apart { AreApart (input_of rows.now).devices }
-    requires kept { AreKept totals.old (input_of rows.now).devices }
     requires claims { wants.now.claims ≡ (input_of rows.now).claims }
-    ensures answer { IfOk result (λ found. (pairs : List (DeviceId × Key)) → AreHeld holders.now pairs → answer_of (with_counters (input_of rows.now) pairs (drawn_in totals.old)) budget ≡ Some found) }
-    ensures drawn { OnOk result ((k : CounterId) → drawn_in totals.new k ≡ drawn_in totals.old k) }
-    ensures keeps { OnOk result ((k : CounterId) → keeps totals.new k ≡ keeps totals.old k) }
+    ensures answer { IfOk result (λ found. (pairs : List (DeviceId × Key)) → AreHeld holders.now pairs → answer_of (with_counters (input_of rows.now) pairs (value_of totals.old) (drawn_in totals.old)) budget ≡ Some found) }
+    ensures value { (k : CounterId) → value_of totals.new k ≡ value_of totals.old k }
+    ensures drawn { (k : CounterId) → drawn_in totals.new k ≡ drawn_in totals.old k }
 {
     let held = HeldDevices::of(alloc, rows.devices(), holders)?;
     search_held(alloc, rows, &held, wants, totals, budget)
@@ -140,9 +137,8 @@ fn search_rows<'a>(
 /// The result is exactly the outcome of the walk of these devices and claims within the budget: the
 /// least allocation as a grant for each claim, a selector error that comes before each allocation, that there
 /// is neither, or that the budget is spent before one of these is known. `holders` are the devices
-/// that claims hold; `totals` has the counters of the devices, with what the held devices draw, and is
-/// as it was after the search. `AllocError` only if memory runs out; nothing is known of the totals
-/// then.
+/// that claims hold; `totals` has the counters of the devices' pools, with what the held devices draw,
+/// and has the same after the search, whatever the result. `AllocError` only if memory runs out.
 pub fn search_devices(
     alloc: Global,
     devices: &[DeviceRef],
@@ -153,38 +149,10 @@ pub fn search_devices(
     budget: u64,
 ) -> Result<Outcome, AllocError>
     requires apart { AreApart devices.now }
-    requires kept { AreKept totals.old devices.now }
-    ensures answer { IfOk result (λ found. (pairs : List (DeviceId × Key)) → AreHeld holders.now pairs → answer_of (with_counters (asking wants.now devices.now broken) pairs (drawn_in totals.old)) budget ≡ Some found) }
-    ensures drawn { OnOk result ((k : CounterId) → drawn_in totals.new k ≡ drawn_in totals.old k) }
-    ensures keeps { OnOk result ((k : CounterId) → keeps totals.new k ≡ keeps totals.old k) }
+    ensures answer { IfOk result (λ found. (pairs : List (DeviceId × Key)) → AreHeld holders.now pairs → answer_of (with_counters (asking wants.now devices.now broken) pairs (value_of totals.old) (drawn_in totals.old)) budget ≡ Some found) }
+    ensures value { (k : CounterId) → value_of totals.new k ≡ value_of totals.old k }
+    ensures drawn { (k : CounterId) → drawn_in totals.new k ≡ drawn_in totals.old k }
 {
     let rows = Rows::of(alloc, wants, devices, broken)?;
     search_rows(alloc, &rows, wants, holders, totals, budget)
-}
-
-/// Searches what a node sees of the pools for the least allocation of the claims, within a budget of
-/// so many items of the walk. It is `search_devices` over the devices of the view.
-pub fn search(
-    alloc: Global,
-    view: &PoolView,
-    wants: &Wants,
-    holders: &Held,
-    totals: &mut Totals,
-    budget: u64,
-) -> Result<Outcome, AllocError>
-    requires apart { AreApart view.now.devices }
-    requires kept { AreKept totals.old view.now.devices }
-    ensures answer { IfOk result (λ found. (pairs : List (DeviceId × Key)) → AreHeld holders.now pairs → answer_of (with_counters (asking wants.now view.now.devices view.now.has_broken) pairs (drawn_in totals.old)) budget ≡ Some found) }
-    ensures drawn { OnOk result ((k : CounterId) → drawn_in totals.new k ≡ drawn_in totals.old k) }
-    ensures keeps { OnOk result ((k : CounterId) → keeps totals.new k ≡ keeps totals.old k) }
-{
-    search_devices(
-        alloc,
-        view.devices(),
-        view.has_broken(),
-        wants,
-        holders,
-        totals,
-        budget,
-    )
 }

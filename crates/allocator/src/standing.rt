@@ -2,14 +2,14 @@ ghost use Rattle.request_rows.specs.Wanted.{input_of};
 ghost use Rattle.std.specs.Prelude.{◌≡◌, ◌==◌, ◌&&◌, ◌+◌, ◌-◌, ◌≤◌, ◌<◌, ◌∷◌, [], ℕ, true, All, not, ◌||◌, length};
 ghost use Rattle.std.specs.List.{list_all};
 ghost use Rattle.counter_sets.specs.Draws.{CounterId};
-ghost use Rattle.counter_sets.specs.Totals.{drawn_in, keeps};
+ghost use Rattle.counter_sets.specs.Totals.{drawn_in, value_of};
 ghost use Rattle.request_rules.specs.Rules as rules;
 ghost use Rattle.request_rules.specs.Rules.{amount, draws, least_after};
 ghost use Rattle.request_rows.specs.Seen.{seat_seen, slot_seen};
 ghost use Rattle.request_rows.specs.Ways.{all_asked, asked_at};
 ghost use Rattle.allocator.specs.Agreeing.{result_at};
 ghost use Rattle.allocator.specs.Holding.{held_at};
-ghost use Rattle.allocator.specs.Input.{AreApart, AreKept};
+ghost use Rattle.allocator.specs.Input.{AreApart};
 ghost use Rattle.allocator.specs.Placing.{IsPick, IsPlacing, covered_by, least_by, pick_seen, placed};
 
 use crate::held::HeldDevices;
@@ -33,12 +33,15 @@ fn seated(seat: Seat, last: Option<usize>, position: usize) -> bool
     }
 }
 
-/// Whether the device at the position satisfies the request of the slot, and is allowed by the slot's seat.
+/// Whether the device at the position satisfies the request of the slot, which tolerates its taints, and is
+/// allowed by the slot's seat.
 pub fn fills(rows: &Rows, slot: Slot, last: Option<usize>, position: usize) -> bool
     requires { slot.row < length (all_asked (input_of rows.now)) }
     ensures { result ≡ rules.fills (input_of rows.now) (slot_seen (input_of rows.now) slot) (least_by last) position }
 {
-    rows.meets(slot.row, position) && seated(slot.seat, last, position)
+    rows.meets(slot.row, position)
+        && rows.tolerates(slot.row, position)
+        && seated(slot.seat, last, position)
 }
 
 /// The position that was taken last.
@@ -105,7 +108,7 @@ pub fn is_free(rows: &Rows, held: &HeldDevices, pick: Pick) -> bool
 /// Whether the device's counters have enough for it, or the result has admin access.
 pub fn covers(rows: &Rows, totals: &Totals, pick: Pick) -> bool
     requires { IsPick (input_of rows.now) pick }
-    ensures { result ≡ covered_by (input_of rows.now) (drawn_in totals.now) (pick_seen (input_of rows.now) pick) }
+    ensures { result ≡ covered_by (input_of rows.now) (value_of totals.now) (drawn_in totals.now) (pick_seen (input_of rows.now) pick) }
 {
     if rows.row(pick.row).admin {
         return true;
@@ -117,10 +120,9 @@ pub fn covers(rows: &Rows, totals: &Totals, pick: Pick) -> bool
 /// Draws what the device draws for the result, which its counters have.
 pub fn draw(rows: &Rows, totals: &mut Totals, pick: Pick)
     requires pick { IsPick (input_of rows.now) pick }
-    requires covered { covered_by (input_of rows.now) (drawn_in totals.old) (pick_seen (input_of rows.now) pick) ≡ true }
-    requires kept { AreKept totals.old (input_of rows.now).devices }
+    requires covered { covered_by (input_of rows.now) (value_of totals.old) (drawn_in totals.old) (pick_seen (input_of rows.now) pick) ≡ true }
     ensures drawn { (k : CounterId) → drawn_in totals.new k ≡ drawn_in totals.old k + amount k (draws (input_of rows.now) (pick_seen (input_of rows.now) pick)) }
-    ensures same { (k : CounterId) → keeps totals.new k ≡ keeps totals.old k }
+    ensures value { (k : CounterId) → value_of totals.new k ≡ value_of totals.old k }
 {
     if rows.row(pick.row).admin {
         return;
@@ -133,7 +135,7 @@ pub fn draw(rows: &Rows, totals: &mut Totals, pick: Pick)
 pub fn give_back(rows: &Rows, totals: &mut Totals, pick: Pick)
     requires { IsPick (input_of rows.now) pick }
     ensures drawn { (k : CounterId) → drawn_in totals.new k ≡ drawn_in totals.old k - amount k (draws (input_of rows.now) (pick_seen (input_of rows.now) pick)) }
-    ensures same { (k : CounterId) → keeps totals.new k ≡ keeps totals.old k }
+    ensures value { (k : CounterId) → value_of totals.new k ≡ value_of totals.old k }
 {
     if rows.row(pick.row).admin {
         return;

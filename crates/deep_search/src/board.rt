@@ -18,7 +18,7 @@ pub enum Begun {
 /// A choice, and the positions that are placed in its first slots.
 ///
 /// A search moves it by `begin`, `try_push` and `pop`. None of these changes its setting, from which
-/// the problem is made. After an error, which means out of memory, nothing is known about the board.
+/// the problem is made. After an error, which means out of memory, only the setting is known.
 pub trait Board {
     /// What the board is about, which no move changes.
     ghost Setting: { Type 0 };
@@ -44,7 +44,7 @@ pub trait Board {
     /// Takes up a choice, with nothing placed.
     fn begin(&mut self, alloc: Global, choice: &[usize]) -> Result<Begun, AllocError>
         requires { IsChoice (problem (setting self.old)).options choice.now }
-        ensures setting { OnOk result (setting self.new ≡ setting self.old) }
+        ensures setting { setting self.new ≡ setting self.old }
         ensures chosen { OnOk result (chosen self.new ≡ choice.now) }
         ensures placed { OnOk result (placed self.new ≡ []) }
         ensures shape { IfOk result (λ begun. shape_of begun ≡ (problem (setting self.old)).shape choice.now) };
@@ -53,7 +53,7 @@ pub trait Board {
     fn try_push(&mut self, alloc: Global, position: usize) -> Result<bool, AllocError>
         requires known { position < (problem (setting self.old)).devices }
         requires good { (problem (setting self.old)).good (chosen self.old) (placed self.old) ≡ true }
-        ensures setting { OnOk result (setting self.new ≡ setting self.old) }
+        ensures setting { setting self.new ≡ setting self.old }
         ensures chosen { OnOk result (chosen self.new ≡ chosen self.old) }
         ensures placed { IfOk result (λ b.
             placed self.new ≡ (if b then placed self.old ++ position ∷ [] else placed self.old)) }

@@ -16,7 +16,7 @@ fn place_next<B: Board>(
 ) -> Result<Option<Window>, AllocError>
     requires known { window.end ≤ (B.problem (B.setting board.old)).devices }
     requires good { (B.problem (B.setting board.old)).good (B.chosen board.old) (B.placed board.old) ≡ true }
-    ensures setting { OnOk result (B.setting board.new ≡ B.setting board.old) }
+    ensures setting { B.setting board.new ≡ B.setting board.old }
     ensures chosen { OnOk result (B.chosen board.new ≡ B.chosen board.old) }
     ensures none { IfOk result (λ r. IfNone r
         (Passed (B.problem (B.setting board.old)) (B.chosen board.old) (B.placed board.old) (B.placed board.new) window)) }
@@ -77,7 +77,7 @@ fn turn<B: Board>(
 ) -> Result<Status, AllocError>
     requires more { 0 < vec_len windows.old }
     requires standing { Standing (B.problem (B.setting board.old)) (B.chosen board.old) (B.placed board.old) slots windows.old.items }
-    ensures setting { OnOk result (B.setting board.new ≡ B.setting board.old) }
+    ensures setting { B.setting board.new ≡ B.setting board.old }
     ensures chosen { OnOk result (B.chosen board.new ≡ B.chosen board.old) }
     ensures standing { IfOk result (λ r. r ≡ Status.Searching →
         Standing (B.problem (B.setting board.old)) (B.chosen board.old) (B.placed board.new) slots windows.new.items) }
@@ -119,7 +119,7 @@ pub fn fill<B: Board>(
 ) -> Result<Status, AllocError>
     requires shape { (B.problem (B.setting board.old)).shape (B.chosen board.old) ≡ Open slots }
     requires placed { B.placed board.old ≡ [] }
-    ensures setting { OnOk result (B.setting board.new ≡ B.setting board.old) }
+    ensures setting { B.setting board.new ≡ B.setting board.old }
     ensures chosen { OnOk result (B.chosen board.new ≡ B.chosen board.old) }
     ensures used { IfOk result (λ r. r ≡ Status.Searching → budget.new < budget.old) }
     ensures swept { IfOk result (λ r.

@@ -1,4 +1,4 @@
-ghost use Rattle.std.specs.Prelude.{◌≡◌, ℕ, ◌<◌, IfOk, OnOk};
+ghost use Rattle.std.specs.Prelude.{◌≡◌, ℕ, ◌<◌, IfOk};
 ghost use Rattle.walk.specs.Walk.{IsChoice, items, walk};
 ghost use Rattle.walk.specs.Outcome.{outcome};
 ghost use Rattle.deep_search.specs.Progress.{progress, report, told};
@@ -18,7 +18,7 @@ fn visit<B: Board>(
     budget: &mut u64,
 ) -> Result<Status, AllocError>
     requires { IsChoice (B.problem (B.setting board.old)).options choice.now }
-    ensures setting { OnOk result (B.setting board.new ≡ B.setting board.old) }
+    ensures setting { B.setting board.new ≡ B.setting board.old }
     ensures used { IfOk result (λ r. r ≡ Status.Searching → budget.new < budget.old) }
     ensures swept { IfOk result (λ r.
         progress budget.old (items (B.problem (B.setting board.old)) choice.now)
@@ -56,7 +56,7 @@ fn visit_from<B: Board>(
 ) -> Result<Status, AllocError>
     requires options { options.now ≡ (B.problem (B.setting board.old)).options }
     requires choice { IsChoice options.now choice.old.items }
-    ensures setting { OnOk result (B.setting board.new ≡ B.setting board.old) }
+    ensures setting { B.setting board.new ≡ B.setting board.old }
     ensures swept { IfOk result (λ r.
         progress budget.old (walk_from (B.problem (B.setting board.old)) choice.old.items)
         ≡ report r budget.new (B.chosen board.new) (B.placed board.new)) }
@@ -78,9 +78,9 @@ fn visit_from<B: Board>(
 /// The options are those of the problem: from how many each request has to choose. The result is
 /// the outcome of the walk, exactly: `Full` or `Fault` if such an item is among the first `budget`,
 /// and the board's choice and positions are then those of the first one (a `Fault` item
-/// has no positions). If it is `Unsat` or `Budget`, only the setting of the board is known. Each item
-/// costs a move of the board and no memory but that of the deepest list so far. The only error is out
-/// of memory.
+/// has no positions). If it is `Unsat`, `Budget` or an error, only the setting of the board is known.
+/// Each item costs a move of the board and no memory but that of the deepest list so far. The only
+/// error is out of memory.
 pub fn search<B: Board>(
     alloc: Global,
     board: &mut B,
@@ -88,7 +88,7 @@ pub fn search<B: Board>(
     budget: u64,
 ) -> Result<Answer, AllocError>
     requires { options.now ≡ (B.problem (B.setting board.old)).options }
-    ensures setting { OnOk result (B.setting board.new ≡ B.setting board.old) }
+    ensures setting { B.setting board.new ≡ B.setting board.old }
     ensures exact { IfOk result (λ answer.
         outcome budget (walk (B.problem (B.setting board.old)))
         ≡ told answer (B.chosen board.new) (B.placed board.new)) }

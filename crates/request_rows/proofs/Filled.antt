@@ -17,6 +17,7 @@ use Rattle.request_rows.specs.declared.rows.Row.{Row}
 use Rattle.request_rows.specs.Match.{ClassTable, match_class, matched_by, seen}
 use Rattle.request_rows.specs.Columns.{SelectionFields, cell, cell_by, class_selectors, columns_for, fault_from, has_any, has_selectors, match_got, match_in, parts_in, plain_by, plain_match, says, yes_from}
 use Rattle.request_rows.specs.Rows.{first_fault, row_by, row_for, rows_from}
+use Rattle.request_rows.specs.Taints.{if_tainted, tolerates_device}
 use Rattle.request_rows.proofs.Lists.{get_seam, longer, map_map, moved}
 
 -- ---- without selectors
@@ -93,8 +94,8 @@ fault_are w asks row a before (o ∷ os) i g e f =
     (in_column w asks row a o g ∙ sym (at_here w a before o os i e f))
     ∙ ap (λ (l : Option ℕ). cond (is_fault (match_at w a.ask i)) (Some i) l) (fault_are w asks row a (before ++ o ∷ []) os (i + 1) g (moved w.devices before o os e) (longer before o i f))
 
-abbrev row_with : Asked → List ℕ → Option ℕ → Row
-row_with a matching fault = record {
+abbrev row_with : Asked → List ℕ → Option ℕ → List Bool → Row
+row_with a matching fault tolerated = record {
   claim = a.label.claim;
   key = a.key;
   name = result_name a.label;
@@ -102,21 +103,22 @@ row_with a matching fault = record {
   mode = a.ask.mode;
   matching = matching;
   fault = fault;
+  tolerated = tolerated;
 }
 
-row_is : (w : SearchInput) (asks : List Asked) (row : ℕ) (a : Asked) → slice_get asks row ≡ Some a → row_by (map (column_for w asks) w.devices) row a ≡ row_for w a
+row_is : (w : SearchInput) (asks : List Asked) (row : ℕ) (a : Asked) → slice_get asks row ≡ Some a → row_by (map (column_for w asks) w.devices) (if_tainted w.devices) row a ≡ row_for w a
 unfolding matching
 row_is w asks row a e =
-    ap (λ (l : List ℕ). row_with a l (fault_from 0 row (map (column_for w asks) w.devices))) (yes_are w asks row a [] w.devices 0 e refl refl)
-    ∙ ap (λ (x : Option ℕ). row_with a (matching w a.ask) x) (fault_are w asks row a [] w.devices 0 e refl refl)
+    ap (λ (l : List ℕ). row_with a l (fault_from 0 row (map (column_for w asks) w.devices)) (map (tolerates_device a.ask) (if_tainted w.devices))) (yes_are w asks row a [] w.devices 0 e refl refl)
+    ∙ ap (λ (x : Option ℕ). row_with a (matching w a.ask) x (map (tolerates_device a.ask) (if_tainted w.devices))) (fault_are w asks row a [] w.devices 0 e refl refl)
 
 rows_are_from : (w : SearchInput) (asks before rest : List Asked) (row : ℕ) → asks ≡ before ++ rest → row ≡ length before
-    → rows_from (map (column_for w asks) w.devices) row rest ≡ map (row_for w) rest
+    → rows_from (map (column_for w asks) w.devices) (if_tainted w.devices) row rest ≡ map (row_for w) rest
 rows_are_from w asks before [] row e f = refl
 rows_are_from w asks before (a ∷ rest) row e f =
-    ap (λ (r : Row). r ∷ rows_from (map (column_for w asks) w.devices) (row + 1) rest)
+    ap (λ (r : Row). r ∷ rows_from (map (column_for w asks) w.devices) (if_tainted w.devices) (row + 1) rest)
     (row_is w asks row a (ap (λ (l : List Asked). slice_get l row) e ∙ ap (slice_get (before ++ a ∷ rest)) f ∙ get_seam before a rest))
     ∙ ap (λ (rs : List Row). row_for w a ∷ rs) (rows_are_from w asks (before ++ a ∷ []) rest (row + 1) (moved asks before a rest e) (longer before a row f))
 
-pub rows_are : (w : SearchInput) (asks : List Asked) → rows_from (map (column_for w asks) w.devices) 0 asks ≡ map (row_for w) asks
+pub rows_are : (w : SearchInput) (asks : List Asked) → rows_from (map (column_for w asks) w.devices) (if_tainted w.devices) 0 asks ≡ map (row_for w) asks
 rows_are w asks = rows_are_from w asks [] asks 0 refl refl

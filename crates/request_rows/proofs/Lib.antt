@@ -1,6 +1,7 @@
 mod Lists
 mod Picked
 mod Filled
+mod Flagged
 mod Shaped
 mod Crowded
 mod Found

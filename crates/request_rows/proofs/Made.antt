@@ -21,6 +21,7 @@ use Rattle.request_rows.specs.Columns.{columns_for}
 use Rattle.request_rows.specs.Places.{place_in}
 use Rattle.request_rows.specs.Rows.{AreRows, row_for, rows_from}
 use Rattle.request_rows.specs.Seen.{fault_seen, shape_seen, slot_seen}
+use Rattle.request_rows.specs.Taints.{if_tainted}
 use Rattle.request_rows.specs.Wanted.{RowsFields, WantsFields, asking, input_of}
 use Rattle.request_rows.specs.Ways.{all_asked, requests_from, ways_from}
 use Rattle.request_rows.proofs.Crowded.{AreInOrder, crowded, order_claims}
@@ -34,7 +35,7 @@ use Rattle.request_rows.proofs.Shaped.{below_all, below_each, below_shape, crowd
 
 pub made : (wants : WantsFields) (devices : List Offered) (broken : Bool) (qs : List Wish) (ways : List Asked) (counts : List ℕ) (requests : List RequestRows) (rows : List Row) (columns : List (List Match))
     → qs ≡ wishes_from 0 wants.claims → counts ≡ map (λ q. ways_of q.request.kind) qs → requests ≡ requests_from 0 qs → ways ≡ ways_from qs
-    → columns ≡ columns_for wants.classes ways devices → rows ≡ rows_from columns 0 ways
+    → columns ≡ columns_for wants.classes ways devices → rows ≡ rows_from columns (if_tainted devices) 0 ways
     → AreRows (asking wants devices broken) counts requests rows columns
 unfolding all_asked
 made wants devices broken qs ways counts requests rows columns e f g h i j =
@@ -44,7 +45,7 @@ made wants devices broken qs ways counts requests rows columns e f g h i j =
     record {
       options_are = f ∙ ap (map (λ (q : Wish). ways_of q.request.kind)) e;
       requests_are = g ∙ ap (requests_from 0) e;
-      rows_are = j ∙ ap (λ (c : List (List Match)). rows_from c 0 ways) k ∙ rows_are w ways ∙ ap (map (row_for w)) all;
+      rows_are = j ∙ ap (λ (c : List (List Match)). rows_from c (if_tainted devices) 0 ways) k ∙ rows_are w ways ∙ ap (map (row_for w)) all;
       columns_are = k ∙ ap (λ (l : List Asked). map (column_for w l) devices) all;
     }
 

@@ -2,6 +2,7 @@ pub mod Match
 pub mod Wanted
 pub mod Ways
 pub mod Columns
+pub mod Taints
 pub mod Rows
 pub mod Chosen
 pub mod Places

@@ -4,16 +4,19 @@ use Rattle.walk.specs.Lists.{numbers}
 use Rattle.device_match.specs.declared.matching.Match.{Match}
 use Rattle.request_rules.specs.Input.{SearchInput}
 use Rattle.request_rules.specs.Names.{result_name}
+use Rattle.pool_view.specs.Pools.{Offered}
 use Rattle.request_rules.specs.Asked.{Asked, is_fault, match_at, matching, options, wishes}
 use Rattle.request_rows.specs.declared.rows.Row.{Row}
 use Rattle.request_rows.specs.declared.ways.RequestRows.{RequestRows}
 use Rattle.request_rows.specs.Columns.{fault_from, yes_from}
+use Rattle.request_rows.specs.Taints.{if_tainted, tolerates_device}
 use Rattle.request_rows.specs.Ways.{all_asked, requests_from}
 
 -- ---- by the columns
 
-abbrev pub row_by : List (List Match) → ℕ → Asked → Row
-row_by columns row a = record {
+-- `tainted` are the devices, or none if none of them has a taint
+abbrev pub row_by : List (List Match) → List Offered → ℕ → Asked → Row
+row_by columns tainted row a = record {
   claim = a.label.claim;
   key = a.key;
   name = result_name a.label;
@@ -21,11 +24,12 @@ row_by columns row a = record {
   mode = a.ask.mode;
   matching = yes_from 0 row columns;
   fault = fault_from 0 row columns;
+  tolerated = map (tolerates_device a.ask) tainted;
 }
 
-abbrev pub rows_from : List (List Match) → ℕ → List Asked → List Row
-rows_from columns row [] = []
-rows_from columns row (a ∷ rest) = row_by columns row a ∷ rows_from columns (row + 1) rest
+abbrev pub rows_from : List (List Match) → List Offered → ℕ → List Asked → List Row
+rows_from columns tainted row [] = []
+rows_from columns tainted row (a ∷ rest) = row_by columns tainted row a ∷ rows_from columns tainted (row + 1) rest
 
 -- ---- by the input
 
@@ -42,6 +46,7 @@ row_for w a = record {
   mode = a.ask.mode;
   matching = matching w a.ask;
   fault = first_fault w a (numbers 0 (length w.devices));
+  tolerated = map (tolerates_device a.ask) (if_tainted w.devices);
 }
 
 -- what was computed is the input's

@@ -44,7 +44,7 @@ abbrev pub nothing_asked : Asked
 nothing_asked = record {
   label = record { claim = 0; request = []; sub = None; admin = false };
   key = record { namespace = []; name = [] };
-  ask = record { class = []; selectors = []; mode = All };
+  ask = record { class = []; selectors = []; mode = All; tolerations = [] };
 }
 
 -- what is asked for in a row

@@ -4,7 +4,7 @@ ghost use Rattle.std.specs.Prelude.{◌≡◌, ℕ, List, Option};
 ghost use Rattle.object_fields.specs.declared.key.DeviceId.{DeviceId};
 ghost use Rattle.object_fields.specs.declared.key.Key.{Key};
 ghost use Rattle.api_claim.specs.declared.types.DeviceAsk.{DeviceAsk};
-ghost use Rattle.request_rules.specs.Asked.{meets, options};
+ghost use Rattle.request_rules.specs.Asked.{meets, options, tolerated_at};
 ghost use Rattle.counter_sets.specs.Draws.{CounterId};
 ghost use Rattle.request_rules.specs.Faults.{fault_of};
 ghost use Rattle.request_rules.specs.Input.{SearchInput};
@@ -27,4 +27,6 @@ pub fn choices_ask_alike()
         fault_of (with_held w held value drawn) c ≡ fault_of w c }
     ensures meets { (w : SearchInput) (held : List (DeviceId × Key)) (value : CounterId → Option ℕ) (drawn : CounterId → ℕ) (a : DeviceAsk) (x : ℕ) →
         meets (with_held w held value drawn) a x ≡ meets w a x }
+    ensures tolerated { (w : SearchInput) (held : List (DeviceId × Key)) (value : CounterId → Option ℕ) (drawn : CounterId → ℕ) (a : DeviceAsk) (x : ℕ) →
+        tolerated_at (with_held w held value drawn) a x ≡ tolerated_at w a x }
 {}

@@ -6,6 +6,7 @@ mod columns;
 mod fault;
 mod laws;
 mod rows;
+mod taints;
 mod wants;
 mod ways;
 

@@ -1,6 +1,6 @@
 ghost use Rattle.std.specs.Prelude.{◌≡◌, ◌<◌, ◌++◌, codes, length, map, option_copied, option_map, IfOk};
 ghost use Rattle.request_rules.specs.Names.{name_by};
-ghost use Rattle.request_rules.specs.Asked.{is_fault, is_yes, match_at, meets, options};
+ghost use Rattle.request_rules.specs.Asked.{is_fault, is_yes, match_at, meets, options, tolerated_at};
 ghost use Rattle.request_rows.specs.Columns.{cell, columns_for, fault_from, match_got, match_in, yes_from};
 ghost use Rattle.request_rows.specs.Rows.{row_by, row_for, rows_from};
 ghost use Rattle.request_rules.specs.Faults.{fault_of};
@@ -13,6 +13,7 @@ ghost use Rattle.request_rows.specs.Ways.{all_asked, asked_at};
 use crate::choice::{Choice, choice_of, chosen_rows};
 use crate::columns::{columns_of, selections_of};
 use crate::fault::{FaultPlace, first_place};
+use crate::taints::{flag_at, tainted_devices, tolerated_of};
 use crate::wants::Wants;
 use crate::ways::{RequestRows, Way, options_of, request_rows_of, ways_of, wishes_of};
 use api_claim::AllocationMode;
@@ -38,6 +39,8 @@ pub struct Row {
     pub matching: Seq<usize>,
     /// The first position at which a selector is neither true nor false.
     pub fault: Option<usize>,
+    /// For each device of the node, whether each of its taints is tolerated; empty if none has a taint.
+    pub tolerated: Seq<bool>,
 }
 
 /// The match if there is one, else No.
@@ -127,8 +130,14 @@ fn joined_name(alloc: Global, request: &Text, sub: &Text) -> Result<Text, AllocE
     Text::new(alloc, name)
 }
 
-fn row_of(alloc: Global, way: &Way, columns: &[Seq<Match>], row: usize) -> Result<Row, AllocError>
-    ensures { IfOk result (λ r. r ≡ row_by columns.now row way.now) }
+fn row_of(
+    alloc: Global,
+    way: &Way,
+    columns: &[Seq<Match>],
+    tainted: &[DeviceRef],
+    row: usize,
+) -> Result<Row, AllocError>
+    ensures { IfOk result (λ r. r ≡ row_by columns.now tainted.now row way.now) }
 {
     Ok(Row {
         claim: way.claim,
@@ -138,15 +147,22 @@ fn row_of(alloc: Global, way: &Way, columns: &[Seq<Match>], row: usize) -> Resul
         mode: way.ask.mode,
         matching: matching_in(alloc, columns, row)?,
         fault: fault_in(columns, row),
+        tolerated: tolerated_of(alloc, way.ask, tainted)?,
     })
 }
 
-fn rows_of(alloc: Global, ways: &[Way], columns: &[Seq<Match>]) -> Result<Seq<Row>, AllocError>
-    ensures { IfOk result (λ rows. rows ≡ rows_from columns.now 0 ways.now) }
+/// `tainted` are the devices, or none if none of them has a taint.
+fn rows_of(
+    alloc: Global,
+    ways: &[Way],
+    columns: &[Seq<Match>],
+    tainted: &[DeviceRef],
+) -> Result<Seq<Row>, AllocError>
+    ensures { IfOk result (λ rows. rows ≡ rows_from columns.now tainted.now 0 ways.now) }
 {
     let mut rows = Seq::empty(alloc);
     for row in 0..ways.len() {
-        rows.push(row_of(alloc, &ways[row], columns, row)?)?;
+        rows.push(row_of(alloc, &ways[row], columns, tainted, row)?)?;
     }
     Ok(rows)
 }
@@ -209,7 +225,8 @@ impl<'a> Rows<'a> {
         let requests = request_rows_of(alloc, &wishes)?;
         let ways = ways_of(alloc, &wishes)?;
         let columns = columns_for(alloc, wants, &ways, devices)?;
-        let rows = rows_of(alloc, &ways, columns.as_slice())?;
+        let tainted = tainted_devices(devices);
+        let rows = rows_of(alloc, &ways, columns.as_slice(), tainted)?;
         Ok(Rows {
             wants,
             devices,
@@ -286,6 +303,14 @@ impl<'a> Rows<'a> {
         ensures { result ≡ meets (input_of self.now) (asked_at (input_of self.now) row).ask position }
     {
         is_yes(self.matched(row, position))
+    }
+
+    /// Whether each taint of the device at a position is tolerated by what a row asks for.
+    pub fn tolerates(&self, row: usize, position: usize) -> bool
+        requires { row < length (all_asked (input_of self.now)) }
+        ensures { result ≡ tolerated_at (input_of self.now) (asked_at (input_of self.now) row).ask position }
+    {
+        flag_at(&self.row(row).tolerated, position)
     }
 
     /// The row, with its claim, its name, its mode and whether it has admin access.

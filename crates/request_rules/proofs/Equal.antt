@@ -37,14 +37,18 @@ same_from_device_eq a b e =
 pub equal_devices : (a b : DeviceId) → a ≡ b → device_eq a b ≡ true
 equal_devices a b e = sym (ap (device_eq a) e) ∙ device_eq-same a
 
-same_counter : (d e p q n m : List ℕ) → d ≡ e → p ≡ q → n ≡ m → ◌≡◌ {A = CounterId} (record { slice = d; set = p; counter = n }) (record { slice = e; set = q; counter = m })
-same_counter d e p q n m f g h = cc
+same_counter : (d e p q s t n m : List ℕ) → d ≡ e → p ≡ q → s ≡ t → n ≡ m
+    → ◌≡◌ {A = CounterId} (record { driver = d; pool = p; set = s; counter = n }) (record { driver = e; pool = q; set = t; counter = m })
+same_counter d e p q s t n m f g h i = cc
 
 pub same_from_counter_eq : (a b : CounterId) → counter_eq a b ≡ true → a ≡ b
 same_from_counter_eq a b e =
-    let outer = and_parts (text_eq a.slice b.slice) (text_eq a.set b.set && text_eq a.counter b.counter) e in
-    let inner = and_parts (text_eq a.set b.set) (text_eq a.counter b.counter) outer.1 in
-    same_counter a.slice b.slice a.set b.set a.counter b.counter (same_from_text_eq a.slice b.slice outer.0) (same_from_text_eq a.set b.set inner.0) (same_from_text_eq a.counter b.counter inner.1)
+    let outer = and_parts (text_eq a.driver b.driver) (text_eq a.pool b.pool && (text_eq a.set b.set && text_eq a.counter b.counter)) e in
+    let middle = and_parts (text_eq a.pool b.pool) (text_eq a.set b.set && text_eq a.counter b.counter) outer.1 in
+    let inner = and_parts (text_eq a.set b.set) (text_eq a.counter b.counter) middle.1 in
+    same_counter a.driver b.driver a.pool b.pool a.set b.set a.counter b.counter
+    (same_from_text_eq a.driver b.driver outer.0) (same_from_text_eq a.pool b.pool middle.0)
+    (same_from_text_eq a.set b.set inner.0) (same_from_text_eq a.counter b.counter inner.1)
 
 -- ---- attributes
 

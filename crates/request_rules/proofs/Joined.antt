@@ -1,10 +1,10 @@
 -- One result more, as the counters and the agreements of constraints see it.
-use Rattle.std.proofs.Common.{ℕ, suc, ◌+◌, ◌<◌, ◌≡◌, List, [], ◌∷◌, ◌++◌, Bool, true, false, not, ◌&&◌, ◌||◌, cond, eqb, Option, None, Some, length, refl, sym, ap, ◌∙◌, arith}
+use Rattle.std.proofs.Common.{suc, ◌+◌, ◌<◌, ◌≡◌, List, [], ◌∷◌, ◌++◌, Bool, true, false, not, ◌&&◌, ◌||◌, cond, eqb, Option, None, Some, length, refl, sym, ap, ◌∙◌, arith}
 use Rattle.std.specs.List.{slice_get, list_all}
 use Rattle.std.specs.Option.{is_some}
 use Rattle.api_slice.specs.declared.types.Attribute.{Attribute}
 use Rattle.pool_view.specs.Pools.{Offered}
-use Rattle.counter_sets.specs.Draws.{CounterId, Draw, draws_of, drawn_from, has_enough, is_covered, is_within}
+use Rattle.counter_sets.specs.Draws.{CounterId, Draw, draws_of, drawn_from, is_covered}
 use Rattle.constraints.specs.Agreeing.{all_same, attribute_of, names, same_by}
 use Rattle.constraints.specs.Agreeing as agreeing
 use Rattle.request_rules.specs.Lists.{Each}
@@ -12,14 +12,10 @@ use Rattle.request_rules.specs.Names.{result_name}
 use Rattle.request_rules.specs.Input.{SearchInput}
 use Rattle.request_rules.specs.Asked.{Rule}
 use Rattle.request_rules.specs.Rules.{Pick, agrees, amount, covers, device_draws, draws, draws_by, is_for, same_values, total, value_of, attribute_by, within}
-use Rattle.request_rules.specs.Joining.{HasItsCounters, seen_all, seen_by, seen_some}
+use Rattle.request_rules.specs.Joining.{seen_all, seen_by, seen_some}
 use Rattle.request_rules.proofs.Tests.{same_number}
-use Rattle.request_rules.proofs.Places.{Contains-from_get, there}
+use Rattle.request_rules.proofs.Places.{there}
 use Rattle.request_rules.proofs.Covered.{total-push}
-
-all_alike : {X : Type 0} (f g : X → Bool) (xs : List X) → ((i : ℕ) (x : X) → slice_get xs i ≡ Some x → f x ≡ g x) → list_all f xs ≡ list_all g xs
-all_alike f g [] h = refl
-all_alike f g (x ∷ xs) h = ap (λ (t : Bool). t && list_all f xs) (h 0 x refl) ∙ ap (λ (t : Bool). g x && t) (all_alike f g xs (λ i y e. h (suc i) y e))
 
 -- ---- counters
 
@@ -29,13 +25,11 @@ draws_are w p o there plain = ap (λ (t : Bool). cond t [] (device_draws w p)) p
 no_draws : (w : SearchInput) (p : Pick) → p.label.admin ≡ true → draws w p ≡ []
 no_draws w p admin = ap (λ (t : Bool). cond t [] (device_draws w p)) admin
 
-pub covers_device : (w : SearchInput) (before : List Pick) (p : Pick) (o : Offered) → slice_get w.devices p.position ≡ Some o → HasItsCounters w o → p.label.admin ≡ false
-    → covers w before p ≡ is_covered (λ k. total w k before) o
+pub covers_device : (w : SearchInput) (before : List Pick) (p : Pick) (o : Offered) → slice_get w.devices p.position ≡ Some o → p.label.admin ≡ false
+    → covers w before p ≡ is_covered w.value (λ k. total w k before) o
 unfolding covers is_covered drawn_from
-covers_device w before p o there has plain =
+covers_device w before p o there plain =
     ap (λ (ds : List Draw). list_all (λ d. within w d.counter (total w d.counter before + amount d.counter ds)) ds) (draws_are w p o there plain)
-    ∙ all_alike (λ d. within w d.counter (total w d.counter before + amount d.counter (draws_of o))) (λ d. has_enough (λ k. total w k before) o d.counter) (draws_of o)
-    (λ i d e. ap (λ (v : Option ℕ). is_within v (total w d.counter before + amount d.counter (draws_of o))) (has.values d (Contains-from_get (draws_of o) i d e)))
 
 pub covers_admin : (w : SearchInput) (before : List Pick) (p : Pick) → p.label.admin ≡ true → covers w before p ≡ true
 unfolding covers

@@ -2,6 +2,7 @@ mod Equal
 mod Tests
 mod Places
 mod Covered
+mod Tolerated
 mod Parts
 mod Shapes
 mod Standing

@@ -15,11 +15,12 @@ use Rattle.request_rules.specs.Lists.{each_after, Each, EachBoth}
 use Rattle.request_rules.specs.Asked.{Asked, Slot, asked, is_yes, match_at, matching, repeated, seats, seats_by, seats_counted, slots, slots_for, slots_of}
 use Rattle.request_rules.specs.Rules.{each_fills, is_good, may_join, picks}
 use Rattle.request_rules.specs.Problem.{all_fails, due_to, is_crowded, is_faulty, open_slots, problem_of, shape_by, shape_of, slots_by}
-use Rattle.request_rules.specs.Allocation.{IsAllocation, IsExact, IsWhole, Met, Result, result_of, results_of, taken}
+use Rattle.request_rules.specs.Allocation.{IsAllocation, IsExact, IsWhole, Met, Result, Tolerates, result_of, results_of, taken}
 use Rattle.request_rules.proofs.Tests.{left_of, right_of, both}
 use Rattle.request_rules.proofs.Places.{each_join, each_left, each_right, there, none_at, none_from}
-use Rattle.request_rules.proofs.Parts.{Fit, Sized, Filled, cut, whole_length, picks_taken, filled_parts, filled_whole, as_many, fit_at, sized_from, filled_from, met_of, counted_part, counted_fills, due_part, due_fills}
+use Rattle.request_rules.proofs.Parts.{Fit, Sized, Filled, cut, whole_length, picks_taken, filled_parts, filled_whole, as_many, fit_at, sized_from, filled_from, met_of, tolerated_of, counted_part, counted_fills, due_part, due_fills}
 use Rattle.request_rules.proofs.Shapes.{open_facts, open_from, unfaulted_of, unfaulted_from, all_of, all_holds, some_is, count_picked, few_of, few_from}
+use Rattle.request_rules.proofs.Tolerated.{OnlyToleratedLaw, ToleratedLaw, tolerated_from, tolerates_of}
 use Rattle.request_rules.proofs.Standing.{Standing, standing_of, standing_from}
 
 -- ---- elements of joined lists
@@ -81,22 +82,25 @@ part_all w a l f m =
 part_met : (w : SearchInput) (a : Asked) (l : List ℕ) → Fit w a l → Each (λ x. x < length w.devices) l → Each (Met w a) l
 part_met w a l f below i x e = record { on_node = below i x e; matched = yes_is (match_at w a.ask x) (met_of w a 0 (seats w a.ask) l f.filled i x e) }
 
-fit_by : (w : SearchInput) (a : Asked) (l : List ℕ) (m : AllocationMode) → a.ask.mode ≡ m → ((n : ℕ) → a.ask.mode ≡ ExactCount n → IsExact n l) → (a.ask.mode ≡ All → IsWhole w a l) → Each (Met w a) l → Fit w a l
-fit_by w a l (ExactCount n) m exact whole met =
+part_tolerated : (w : SearchInput) (a : Asked) (l : List ℕ) → ToleratedLaw → Fit w a l → Each (Tolerates w a) l
+part_tolerated w a l law f i x e = tolerates_of w a x law (tolerated_of w a 0 (seats w a.ask) l f.filled i x e)
+
+fit_by : (w : SearchInput) (a : Asked) (l : List ℕ) (m : AllocationMode) → OnlyToleratedLaw → a.ask.mode ≡ m → ((n : ℕ) → a.ask.mode ≡ ExactCount n → IsExact n l) → (a.ask.mode ≡ All → IsWhole w a l) → Each (Met w a) l → Each (Tolerates w a) l → Fit w a l
+fit_by w a l (ExactCount n) law m exact whole met tolerated =
     let e = seats_at w a (ExactCount n) m in
     let f = exact n m in
     record {
       sized = f.count ∙ sym (counted_length n) ∙ ap length (sym e);
       filled = subst (λ (z : List Seat). each_fills w 0 (map (λ s. record { asked = a; seat = s }) z) l ≡ true) (sym e)
-          (counted_fills w a n l f.count (λ i x g. ap is_yes (met i x g).matched) f.rising);
+          (counted_fills w a n l f.count (λ i x g. ap is_yes (met i x g).matched) (λ i x g. tolerated_from w a x law (tolerated i x g)) f.rising);
     }
-fit_by w a l All m exact whole met =
+fit_by w a l All law m exact whole met tolerated =
     let e = seats_at w a All m in
     let f = whole m in
     record {
       sized = ap length f.all ∙ sym (length-map (matching w a.ask) (λ y. Due y)) ∙ ap length (sym e);
       filled = subst (λ (z : List Seat). each_fills w 0 (map (λ s. record { asked = a; seat = s }) z) l ≡ true) (ap (λ (z : List ℕ). map (λ y. Due y) z) f.all ∙ sym e)
-          (due_fills w a 0 l (λ i x g. ap is_yes (met i x g).matched));
+          (due_fills w a 0 l (λ i x g. ap is_yes (met i x g).matched) (λ i x g. tolerated_from w a x law (tolerated i x g)));
     }
 
 -- ---- allocations
@@ -121,8 +125,8 @@ shape_is : (w : SearchInput) (c : List ℕ) → shape_of w c ≡ shape_by w (ask
 unfolding shape_of slots
 shape_is w c = refl
 
-pub meant_of : (w : SearchInput) (c l : List ℕ) → walk.IsAllocation (problem_of w) c l → IsAllocation w c (results_of w c l)
-meant_of w c l a =
+pub meant_of : (w : SearchInput) (c l : List ℕ) → ToleratedLaw → walk.IsAllocation (problem_of w) c l → IsAllocation w c (results_of w c l)
+meant_of w c l law a =
     let asks = asked w c in
     let ss = slots_for w asks in
     let are = slots_are w c in
@@ -155,6 +159,7 @@ meant_of w c l a =
       unheld = stand.unheld;
       exclusive = stand.exclusive;
       covered = stand.covered;
+      tolerated = λ i b m e f. part_tolerated w b m law (fit i b m e f);
       constraints_hold = stand.kept;
       few = λ i h.
           let k = few_of w ss open_.2 i h in
@@ -163,13 +168,13 @@ meant_of w c l a =
           omega (arith, k, n);
     }
 
-pub meant_from : (w : SearchInput) (c : List ℕ) (rs : List Result) → IsAllocation w c rs → (l : List ℕ) × (rs ≡ results_of w c l) × walk.IsAllocation (problem_of w) c l
-meant_from w c rs a =
+pub meant_from : (w : SearchInput) (c : List ℕ) (rs : List Result) → OnlyToleratedLaw → IsAllocation w c rs → (l : List ℕ) × (rs ≡ results_of w c l) × walk.IsAllocation (problem_of w) c l
+meant_from w c rs law a =
     let asks = asked w c in
     let ss = slots_for w asks in
     let ls = a.parts in
     let are = slots_are w c in
-    let fit : EachBoth (Fit w) asks ls = λ i b m e f. fit_by w b m b.ask.mode refl (a.exact_count i b m e f) (a.all_devices i b m e f) (a.devices_match i b m e f) in
+    let fit : EachBoth (Fit w) asks ls = λ i b m e f. fit_by w b m b.ask.mode law refl (a.exact_count i b m e f) (a.all_devices i b m e f) (a.devices_match i b m e f) (a.tolerated i b m e f) in
     let sized : Sized w asks ls = sized_from w asks ls a.parts_are fit in
     let filled : Filled w asks ls = filled_from w asks ls a.parts_are fit in
     let fills = filled_whole w asks ls sized filled in

@@ -1,5 +1,5 @@
 -- Lists of positions, cut into the parts of the requests.
-use Rattle.std.proofs.Common.{ℕ, zero, suc, ◌+◌, ◌<◌, ◌≤◌, ◌≡◌, List, [], ◌∷◌, ◌++◌, Bool, true, false, ◌&&◌, eqb, leb, None, Some, length, map, take, drop, refl, sym, ap, ◌∙◌, subst, arith, length-append, length-drop}
+use Rattle.std.proofs.Common.{ℕ, zero, suc, ◌+◌, ◌<◌, ◌≤◌, ◌≡◌, List, [], ◌∷◌, ◌++◌, Bool, true, false, ◌&&◌, leb, None, Some, length, map, take, drop, refl, sym, ap, ◌∙◌, subst, arith, length-append, length-drop}
 use Rattle.std.specs.List.{slice_get, concat}
 use Rattle.std.proofs.lemmas.List.{length-map, length-take-le, take-append-drop}
 use Rattle.std.proofs.lemmas.Bool.Decides.{nat_tests}
@@ -10,7 +10,7 @@ use Rattle.request_rules.specs.Asked.{Seat, First, Next, Due}
 use Rattle.request_rules.specs.Input.{SearchInput}
 use Rattle.request_rules.specs.Rules.{Pick}
 use Rattle.request_rules.specs.Lists.{each_after, Each, EachTwo, EachBoth}
-use Rattle.request_rules.specs.Asked.{Asked, Slot, matching, meets, repeated, seats, seats_by, seats_counted, slots_for, slots_of}
+use Rattle.request_rules.specs.Asked.{Asked, Slot, matching, meets, repeated, seats, seats_by, seats_counted, slots_for, slots_of, tolerated_at}
 use Rattle.request_rules.specs.Rules.{each_fills, fills, is_good, least_after, may_join, picks, seated}
 use Rattle.request_rules.specs.Allocation.{taken}
 use Rattle.request_rules.specs.Prefixes.{picks-append, fills-append}
@@ -223,9 +223,26 @@ met_of w a least [] (y ∷ l) e i x h = absurd (cc)
 met_of w a least (s ∷ ss) (y ∷ l) e zero x h =
     let here : fills w (record { asked = a; seat = s }) least y ≡ true = left_of (fills w (record { asked = a; seat = s }) least y) (each_fills w (y + 1) (map (λ s. record { asked = a; seat = s }) ss) l) e in
     let f : y ≡ x = cc in
-    ap (meets w a.ask) (sym f) ∙ left_of (meets w a.ask y) (seated s least y) here
+    ap (meets w a.ask) (sym f) ∙ left_of (meets w a.ask y) (tolerated_at w a.ask y && seated s least y) here
 met_of w a least (s ∷ ss) (y ∷ l) e (suc i) x h =
     met_of w a (y + 1) ss l (right_of (fills w (record { asked = a; seat = s }) least y) (each_fills w (y + 1) (map (λ s. record { asked = a; seat = s }) ss) l) e) i x h
+
+pub tolerated_of : (w : SearchInput) (a : Asked) (least : ℕ) (ss : List Seat) (l : List ℕ) → each_fills w least (map (λ s. record { asked = a; seat = s }) ss) l ≡ true → Each (λ x. tolerated_at w a.ask x ≡ true) l
+tolerated_of w a least ss [] e i x h = absurd (cc)
+tolerated_of w a least [] (y ∷ l) e i x h = absurd (cc)
+tolerated_of w a least (s ∷ ss) (y ∷ l) e zero x h =
+    let here : fills w (record { asked = a; seat = s }) least y ≡ true = left_of (fills w (record { asked = a; seat = s }) least y) (each_fills w (y + 1) (map (λ s. record { asked = a; seat = s }) ss) l) e in
+    let f : y ≡ x = cc in
+    ap (tolerated_at w a.ask) (sym f) ∙ left_of (tolerated_at w a.ask y) (seated s least y) (right_of (meets w a.ask y) (tolerated_at w a.ask y && seated s least y) here)
+tolerated_of w a least (s ∷ ss) (y ∷ l) e (suc i) x h =
+    tolerated_of w a (y + 1) ss l (right_of (fills w (record { asked = a; seat = s }) least y) (each_fills w (y + 1) (map (λ s. record { asked = a; seat = s }) ss) l) e) i x h
+
+-- a position that fills a slot of the request, and back
+seat_of : (w : SearchInput) (a : Asked) (s : Seat) (least x : ℕ) → fills w (record { asked = a; seat = s }) least x ≡ true → seated s least x ≡ true
+seat_of w a s least x e = right_of (tolerated_at w a.ask x) (seated s least x) (right_of (meets w a.ask x) (tolerated_at w a.ask x && seated s least x) e)
+
+fills_from : (w : SearchInput) (a : Asked) (s : Seat) (least x : ℕ) → meets w a.ask x ≡ true → tolerated_at w a.ask x ≡ true → seated s least x ≡ true → fills w (record { asked = a; seat = s }) least x ≡ true
+fills_from w a s least x m t e = both (meets w a.ask x) (tolerated_at w a.ask x && seated s least x) m (both (tolerated_at w a.ask x) (seated s least x) t e)
 
 above_by : (least y : ℕ) (l : List ℕ) (i x : ℕ) → slice_get (y ∷ l) i ≡ Some x → least ≤ y → Each (λ x. y + 1 ≤ x) l → least ≤ x
 above_by least y l zero x h k f = let e : y ≡ x = cc in omega arith
@@ -242,7 +259,7 @@ above w a least n [] e i x h = absurd (cc)
 above w a least zero (y ∷ l) e i x h = absurd (cc)
 above w a least (suc n) (y ∷ l) e i x h =
     let here = left_of (fills w (record { asked = a; seat = Next }) least y) (each_fills w (y + 1) (map (λ s. record { asked = a; seat = s }) (repeated n Next)) l) e in
-    let low : leb least y ≡ true = right_of (meets w a.ask y) (leb least y) here in
+    let low : leb least y ≡ true = seat_of w a Next least y here in
     let k : least ≤ y = grind (arith, nat_tests, low) in
     above_by least y l i x h k (above w a (y + 1) n l (right_of (fills w (record { asked = a; seat = Next }) least y) (each_fills w (y + 1) (map (λ s. record { asked = a; seat = s }) (repeated n Next)) l) e))
 
@@ -260,25 +277,25 @@ counted_part w a (suc n) (z ∷ l) e i j x y k g h =
     let rest = right_of (fills w (record { asked = a; seat = First }) 0 z) (each_fills w (z + 1) (map (λ s. record { asked = a; seat = s }) (repeated n Next)) l) e in
     rises_by z l (above w a (z + 1) n l rest) (rises w a (z + 1) n l rest) i j x y k g h
 
-fills_next : (w : SearchInput) (a : Asked) (least n : ℕ) (l : List ℕ) → length l ≡ n → Each (λ x. meets w a.ask x ≡ true) l → Each (λ x. least ≤ x) l → EachTwo (λ x y. x < y) l
+fills_next : (w : SearchInput) (a : Asked) (least n : ℕ) (l : List ℕ) → length l ≡ n → Each (λ x. meets w a.ask x ≡ true) l → Each (λ x. tolerated_at w a.ask x ≡ true) l → Each (λ x. least ≤ x) l → EachTwo (λ x y. x < y) l
     → each_fills w least (map (λ s. record { asked = a; seat = s }) (repeated n Next)) l ≡ true
-fills_next w a least n [] e m f r = refl
-fills_next w a least zero (y ∷ l) e m f r = absurd (omega arith)
-fills_next w a least (suc n) (y ∷ l) e m f r =
+fills_next w a least n [] e m o f r = refl
+fills_next w a least zero (y ∷ l) e m o f r = absurd (omega arith)
+fills_next w a least (suc n) (y ∷ l) e m o f r =
     let low = f 0 y refl in
     let t : leb least y ≡ true = grind (arith, nat_tests, low) in
     both (fills w (record { asked = a; seat = Next }) least y) (each_fills w (y + 1) (map (λ s. record { asked = a; seat = s }) (repeated n Next)) l)
-    (both (meets w a.ask y) (leb least y) (m 0 y refl) t)
-    (fills_next w a (y + 1) n l (omega arith) (λ i x h. m (suc i) x h) (λ i x h. let d = r 0 (suc i) y x (omega arith) refl h in omega (arith, d)) (λ i j x z k g h. r (suc i) (suc j) x z (omega arith) g h))
+    (fills_from w a Next least y (m 0 y refl) (o 0 y refl) t)
+    (fills_next w a (y + 1) n l (omega arith) (λ i x h. m (suc i) x h) (λ i x h. o (suc i) x h) (λ i x h. let d = r 0 (suc i) y x (omega arith) refl h in omega (arith, d)) (λ i j x z k g h. r (suc i) (suc j) x z (omega arith) g h))
 
-pub counted_fills : (w : SearchInput) (a : Asked) (n : ℕ) (l : List ℕ) → length l ≡ n → Each (λ x. meets w a.ask x ≡ true) l → EachTwo (λ x y. x < y) l
+pub counted_fills : (w : SearchInput) (a : Asked) (n : ℕ) (l : List ℕ) → length l ≡ n → Each (λ x. meets w a.ask x ≡ true) l → Each (λ x. tolerated_at w a.ask x ≡ true) l → EachTwo (λ x y. x < y) l
     → each_fills w 0 (map (λ s. record { asked = a; seat = s }) (seats_counted n)) l ≡ true
-counted_fills w a n [] e m r = refl
-counted_fills w a zero (y ∷ l) e m r = absurd (omega arith)
-counted_fills w a (suc n) (y ∷ l) e m r =
+counted_fills w a n [] e m o r = refl
+counted_fills w a zero (y ∷ l) e m o r = absurd (omega arith)
+counted_fills w a (suc n) (y ∷ l) e m o r =
     both (fills w (record { asked = a; seat = First }) 0 y) (each_fills w (y + 1) (map (λ s. record { asked = a; seat = s }) (repeated n Next)) l)
-    (both (meets w a.ask y) true (m 0 y refl) refl)
-    (fills_next w a (y + 1) n l (omega arith) (λ i x h. m (suc i) x h) (λ i x h. let d = r 0 (suc i) y x (omega arith) refl h in omega (arith, d)) (λ i j x z k g h. r (suc i) (suc j) x z (omega arith) g h))
+    (fills_from w a First 0 y (m 0 y refl) (o 0 y refl) refl)
+    (fills_next w a (y + 1) n l (omega arith) (λ i x h. m (suc i) x h) (λ i x h. o (suc i) x h) (λ i x h. let d = r 0 (suc i) y x (omega arith) refl h in omega (arith, d)) (λ i j x z k g h. r (suc i) (suc j) x z (omega arith) g h))
 
 pub due_part : (w : SearchInput) (a : Asked) (least : ℕ) (ys l : List ℕ) → length l ≡ length ys → each_fills w least (map (λ s. record { asked = a; seat = s }) (map (λ y. Due y) ys)) l ≡ true → l ≡ ys
 due_part w a least [] [] n e = refl
@@ -286,13 +303,13 @@ due_part w a least [] (x ∷ l) n e = absurd (omega arith)
 due_part w a least (y ∷ ys) [] n e = absurd (omega arith)
 due_part w a least (y ∷ ys) (x ∷ l) n e =
     let here = left_of (fills w (record { asked = a; seat = Due y }) least x) (each_fills w (x + 1) (map (λ s. record { asked = a; seat = s }) (map (λ y. Due y) ys)) l) e in
-    let f : y ≡ x = eqb-true y x (right_of (meets w a.ask x) (eqb y x) here) in
+    let f : y ≡ x = eqb-true y x (seat_of w a (Due y) least x here) in
     let g : l ≡ ys = due_part w a (x + 1) ys l (omega arith) (right_of (fills w (record { asked = a; seat = Due y }) least x) (each_fills w (x + 1) (map (λ s. record { asked = a; seat = s }) (map (λ y. Due y) ys)) l) e) in
     ap (λ z. z ∷ l) (sym f) ∙ ap (λ m. y ∷ m) g
 
-pub due_fills : (w : SearchInput) (a : Asked) (least : ℕ) (l : List ℕ) → Each (λ x. meets w a.ask x ≡ true) l → each_fills w least (map (λ s. record { asked = a; seat = s }) (map (λ y. Due y) l)) l ≡ true
-due_fills w a least [] m = refl
-due_fills w a least (x ∷ l) m =
+pub due_fills : (w : SearchInput) (a : Asked) (least : ℕ) (l : List ℕ) → Each (λ x. meets w a.ask x ≡ true) l → Each (λ x. tolerated_at w a.ask x ≡ true) l → each_fills w least (map (λ s. record { asked = a; seat = s }) (map (λ y. Due y) l)) l ≡ true
+due_fills w a least [] m o = refl
+due_fills w a least (x ∷ l) m o =
     both (fills w (record { asked = a; seat = Due x }) least x) (each_fills w (x + 1) (map (λ s. record { asked = a; seat = s }) (map (λ y. Due y) l)) l)
-    (both (meets w a.ask x) (eqb x x) (m 0 x refl) (same_number x x refl))
-    (due_fills w a (x + 1) l (λ i y h. m (suc i) y h))
+    (fills_from w a (Due x) least x (m 0 x refl) (o 0 x refl) (same_number x x refl))
+    (due_fills w a (x + 1) l (λ i y h. m (suc i) y h) (λ i y h. o (suc i) y h))

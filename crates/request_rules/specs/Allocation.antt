@@ -1,11 +1,14 @@
 -- What an allocation is.
-use Rattle.std.specs.Prelude.{ℕ, ◌<◌, ◌≤◌, ◌≡◌, ◌≢◌, ◌==◌, List, [], ◌∷◌, ◌++◌, true, false, Some, IsSome, Contains, map, length}
+use Rattle.std.specs.Prelude.{ℕ, ◌<◌, ◌≤◌, ◌≡◌, ◌≢◌, ◌==◌, List, [], ◌∷◌, ◌++◌, true, false, Some, IsSome, Contains, map, length, slice_get}
 use Rattle.std.specs.List.{count_by}
 use Rattle.walk.specs.Walk.{IsChoice}
 use Rattle.object_fields.specs.declared.key.DeviceId.{DeviceId}
 use Rattle.object_fields.specs.declared.key.Key.{Key}
 use Rattle.api_claim.specs.declared.types.AllocationMode.TheVariants.{ExactCount, All}
 use Rattle.device_match.specs.declared.matching.Match.TheVariants.{Yes}
+use Rattle.device_taints.specs.Tolerating.{IsTolerated}
+use Rattle.device_taints.specs.declared.types.Taint.{Taint}
+use Rattle.pool_view.specs.Pools.{Offered}
 use Rattle.request_rules.specs.Lists.{Each, EachTwo, EachBoth}
 use Rattle.request_rules.specs.Names.{Label}
 use Rattle.counter_sets.specs.Draws.{CounterId, Draw}
@@ -45,6 +48,10 @@ pub record Met (w : SearchInput) (a : Asked) (x : ℕ) : Type 0 where
   pub on_node : x < length w.devices
   pub matched : match_at w a.ask x ≡ Yes
 
+-- each taint of the device is tolerated by a toleration of the request
+pub record Tolerates (w : SearchInput) (a : Asked) (x : ℕ) : Type 0 where
+  pub each : (o : Offered) (t : Taint) → slice_get w.devices x ≡ Some o → Contains o.device.taints t → IsTolerated a.ask.tolerations t
+
 -- the counter exists, and is covered
 pub record IsCovered (w : SearchInput) (ps : List Pick) (k : CounterId) : Type 0 where
   pub value : ℕ
@@ -78,6 +85,8 @@ pub record IsAllocation (w : SearchInput) (c : List ℕ) (results : List Result)
   pub exclusive : EachTwo (λ p q. p.label.admin ≡ false → q.label.admin ≡ false → id_of w p ≡ id_of w q → p.label.claim ≡ q.label.claim) (taken (asked w c) parts)
   -- each counter that a device without admin access draws on
   pub covered : Each (λ p. p.label.admin ≡ false → (d : Draw) → Contains (device_draws w p) d → IsCovered w (taken (asked w c) parts) d.counter) (taken (asked w c) parts)
+  -- with admin access or without
+  pub tolerated : EachBoth (λ a l. Each (Tolerates w a) l) (asked w c) parts
   pub constraints_hold : (r : Rule) → Contains (rules_of w) r → IsKept w (taken (asked w c) parts) r
   -- the results of each claim
   pub few : (i : ℕ) → i < length w.claims → count_by (λ r. r.label.claim == i) results ≤ most_results

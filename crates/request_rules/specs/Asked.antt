@@ -14,6 +14,7 @@ use Rattle.api_claim.specs.declared.types.RequestKind.TheVariants.{Exactly, Firs
 use Rattle.api_claim.specs.declared.types.ResourceClaim.{ResourceClaim}
 use Rattle.device_match.specs.declared.matching.Match.{Match}
 use Rattle.device_match.specs.declared.matching.Match.TheVariants.{Yes, No, Fault}
+use Rattle.device_taints.specs.Tolerating.{are_tolerated}
 use Rattle.pool_view.specs.Pools.{Offered}
 use Rattle.request_rules.specs.Lists.{add_some}
 use Rattle.request_rules.specs.Names.{Label}
@@ -102,6 +103,16 @@ meets w a x = is_yes (match_at w a x)
 -- the positions of the devices that meet a request, in order
 unfoldable pub matching : SearchInput → DeviceAsk → List ℕ
 matching w a = filter (meets w a) (numbers 0 (length w.devices))
+
+-- ---- taints
+
+abbrev pub tolerated_by : DeviceAsk → Option Offered → Bool
+tolerated_by a None = true
+tolerated_by a (Some o) = are_tolerated a.tolerations o.device.taints
+
+-- each taint of the device at a position is tolerated by what is asked for
+unfoldable pub tolerated_at : SearchInput → DeviceAsk → ℕ → Bool
+tolerated_at w a x = tolerated_by a (slice_get w.devices x)
 
 -- ---- slots
 

@@ -11,7 +11,7 @@ use Rattle.request_rules.specs.Names.{Label, result_name}
 use Rattle.counter_sets.specs.Draws.{CounterId, Draw, draws_of, drawn_at, is_within}
 use Rattle.constraints.specs.Agreeing.{attribute_of, names, same_by}
 use Rattle.request_rules.specs.Input.{SearchInput}
-use Rattle.request_rules.specs.Asked.{First, Next, Due, Seat, Slot, Rule, meets, rules_of}
+use Rattle.request_rules.specs.Asked.{First, Next, Due, Seat, Slot, Rule, meets, rules_of, tolerated_at}
 
 -- ---- one slot
 
@@ -22,9 +22,9 @@ seated Next least x = nat_le least x
 seated (Due y) least x = y == x
 
 abbrev pub fills : SearchInput → Slot → (least x : ℕ) → Bool
-fills w s least x = meets w s.asked.ask x && seated s.seat least x
+fills w s least x = meets w s.asked.ask x && (tolerated_at w s.asked.ask x && seated s.seat least x)
 
--- each device meets the request of its slot, and sits as its seat requires
+-- each device meets the request of its slot, which tolerates its taints, and sits as its seat requires
 abbrev pub each_fills : SearchInput → ℕ → List Slot → List ℕ → Bool
 each_fills w least slots [] = true
 each_fills w least [] (x ∷ xs) = false

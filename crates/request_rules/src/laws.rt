@@ -10,11 +10,13 @@ ghost use Rattle.pool_view.specs.Pools.{Offered};
 ghost use Rattle.counter_sets.specs.Draws.{CounterId, drawn_from, is_covered};
 ghost use Rattle.constraints.specs.Agreeing as agreeing;
 ghost use Rattle.request_rules.specs.Lists.{Each};
-ghost use Rattle.request_rules.specs.Joining.{HasItsCounters, seen_all, seen_by};
+ghost use Rattle.request_rules.specs.Joining.{seen_all, seen_by};
 ghost use Rattle.request_rules.specs.Rules.{Pick, agrees, covers, fills, least_after, may_join, picks, total};
 ghost use Rattle.request_rules.specs.Problem.{good, open_slots, problem_of, shape_of};
 ghost use Rattle.request_rules.specs.Faults.{FaultPlace, IsFirstFault, fault_of};
 ghost use Rattle.request_rules.specs.Allocation.{HoldsOnce, IsAllocation, Result, results_of};
+
+use device_taints::tolerations_are_by_facts;
 
 /// The walk of a search has a full item for a choice and positions if and only if the devices at the
 /// positions are an allocation for the choice. The first full item is the least allocation: it comes
@@ -33,6 +35,7 @@ pub fn walk_is_meant()
     ensures none { (w : SearchInput) (c : List ℕ) (rs : List Result) → find is_full (walk (problem_of w)) ≡ None → IsAllocation w c rs → ⊥ }
 {
     walk::walk_is_exact();
+    tolerations_are_by_facts();
 }
 
 /// Each prefix of a good list is good, and one position more is good by the slot that it is for.
@@ -60,12 +63,11 @@ pub fn allocations_hold_once()
 {}
 
 /// What one result more requires of the counters and of the constraints is what `counter_sets` and
-/// `constraints` define for its device: the device is covered after what is drawn, if the input has for
-/// its counters the values that they have in its slice, and admin access draws nothing; and it agrees
-/// with the results of the constraint's claim before it.
+/// `constraints` define for its device: the device is covered after what is drawn, and admin access draws
+/// nothing; and it agrees with the results of the constraint's claim before it.
 pub fn joining_is_by_device()
     ensures covers { (w : SearchInput) (before : List Pick) (p : Pick) (o : Offered) → slice_get w.devices p.position ≡ Some o →
-        HasItsCounters w o → p.label.admin ≡ false → covers w before p ≡ is_covered (λ k. total w k before) o }
+        p.label.admin ≡ false → covers w before p ≡ is_covered w.value (λ k. total w k before) o }
     ensures admin { (w : SearchInput) (before : List Pick) (p : Pick) → p.label.admin ≡ true → covers w before p ≡ true }
     ensures first { (w : SearchInput) (k : CounterId) → total w k [] ≡ w.drawn k }
     ensures draws { (w : SearchInput) (k : CounterId) (before : List Pick) (p : Pick) (o : Offered) → slice_get w.devices p.position ≡ Some o →

@@ -13,8 +13,8 @@ take_all-requires c =
 pub returns-clause-kept : goal.returns-clause-kept
 returns-clause-kept c =
     run_more (input_of c.args.rows.now) c.args.run.now _ c.args.pick c.row.result.now.claim c.picked_of-picked.result c.requires.kept c.requires.next c.requires.known refl refl c.in_ok-push.ensures.items
-    c.draw.ensures.drawn c.draw.ensures.same c.take_all.ensures (sym (ap (λ (r : Row). r.claim) c.row.ensures)) c.picked_of-picked.ensures c.requires.agreed
+    c.draw.ensures.drawn c.take_all.ensures (sym (ap (λ (r : Row). r.claim) c.row.ensures)) c.picked_of-picked.ensures c.requires.agreed
 
 pub returns-clause-setting : goal.returns-clause-setting
 returns-clause-setting c = λ held.
-    input_more (input_of c.args.rows.now) held c.args.run.now (record { chosen = c.args.run.now.chosen; slots = c.args.run.now.slots; positions = c.push.new.self; totals = c.draw.new.totals; agreements = c.take_all.new.agreements }) c.args.pick c.requires.next refl c.in_ok-push.ensures.items c.draw.ensures.drawn c.draw.ensures.same
+    input_more (input_of c.args.rows.now) held c.args.run.now (record { chosen = c.args.run.now.chosen; slots = c.args.run.now.slots; positions = c.push.new.self; totals = c.draw.new.totals; agreements = c.take_all.new.agreements }) c.args.pick c.requires.next refl c.in_ok-push.ensures.items c.draw.ensures.drawn c.draw.ensures.value

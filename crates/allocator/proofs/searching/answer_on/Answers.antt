@@ -20,7 +20,7 @@ outcome_of-requires-clause-fault c =
 pub returns-clause-answer : goal.returns-clause-answer
 returns-clause-answer c =
     if_ok c.outcome_of.result
-    (λ (found : outcomes.Outcome). answer_by (board_setting c.search.new.board).input (told c.in_ok-answer.answer c.search.new.board.choice c.search.new.board.positions) ≡ Some found)
-    (λ (found : outcomes.Outcome). answer_of (board_setting c.args.board.now).input c.args.budget ≡ Some found)
+    (λ (found : outcomes.Outcome). answer_by (board_setting c.search.new.board) (told c.in_ok-answer.answer c.search.new.board.choice c.search.new.board.positions) ≡ Some found)
+    (λ (found : outcomes.Outcome). answer_of (board_setting c.args.board.now) c.args.budget ≡ Some found)
     (λ found e. answered (board_setting c.args.board.now) (board_setting c.search.new.board) c.args.budget c.in_ok-answer.answer c.search.new.board.choice c.search.new.board.positions found c.in_ok-answer.ensures.setting c.in_ok-answer.ensures.exact e)
     c.outcome_of.ensures

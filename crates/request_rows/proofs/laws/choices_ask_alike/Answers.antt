@@ -1,12 +1,12 @@
 use Rattle.std.proofs.Common.{refl}
-use Rattle.request_rules.specs.Asked.{asked, matching, seats, slots}
+use Rattle.request_rules.specs.Asked.{asked, matching, seats, slots, tolerated_at}
 use Rattle.request_rules.specs.Faults.{fault_of}
 use Rattle.request_rules.specs.Problem.{open_slots, shape_of}
 use Rattle.request_rows.specs.Ways.{all_asked}
 use Rattle.request_rows.proofs.laws.choices_ask_alike.Goals as goal
 
 pub returns : goal.returns
-unfolding all_asked asked fault_of matching open_slots seats shape_of slots
+unfolding all_asked asked fault_of matching open_slots seats shape_of slots tolerated_at
 returns c = record {
   options = λ w held value drawn. refl;
   asked = λ w held value drawn. refl;
@@ -14,4 +14,5 @@ returns c = record {
   slots = λ w held value drawn c. refl;
   fault = λ w held value drawn c. refl;
   meets = λ w held value drawn a x. refl;
+  tolerated = λ w held value drawn a x. refl;
 }

@@ -2,7 +2,7 @@ use Rattle.request_rules.proofs.Joined.{agrees_others, agrees_seen, covers_admin
 use Rattle.request_rules.proofs.laws.joining_is_by_device.Goals as goal
 
 pub returns-clause-covers : goal.returns-clause-covers
-returns-clause-covers c = λ w before p o there has plain. covers_device w before p o there has plain
+returns-clause-covers c = λ w before p o there plain. covers_device w before p o there plain
 
 pub returns-clause-admin : goal.returns-clause-admin
 returns-clause-admin c = λ w before p admin. covers_admin w before p admin

@@ -17,6 +17,6 @@ pub returns : goal.returns
 returns c =
     if_ok c.fault_at.result
     (λ (f : SelectorFault). option_map selector_fault (fault_of (input_of c.self.inside.rows.now) c.deref.result.now) ≡ Some f)
-    (λ (f : SelectorFault). option_map selector_fault (fault_of (board_setting c.args.self.now).input c.args.self.now.choice) ≡ Some f)
+    (λ (f : SelectorFault). option_map selector_fault (fault_of (board_setting c.args.self.now) c.args.self.now.choice) ≡ Some f)
     (λ f e. fault_told _ _ f (ap (λ (z : Option FaultPlace). option_map selector_fault z) (fault_here c.self.inside.rows.now c.self.inside.held.now.held c.self.inside.run c.args.self.now c.deref.result.now c.self.view_is c.deref.ensures.value)) e)
     c.fault_at.ensures

@@ -13,7 +13,7 @@ pub returns : goal.returns
 returns c =
     if_ok c.grants_of.result
     (λ (gs : List Grant). gs ≡ map grant_of (grants_from 0 c.args.claims.now (map (result_of (input_of c.self.inside.rows.now)) (placed (input_of c.self.inside.rows.now) c.deref.result.now c.deref-2.result.now))))
-    (λ (gs : List Grant). gs ≡ grants_at (board_setting c.args.self.now).input c.args.self.now.choice c.args.self.now.positions)
+    (λ (gs : List Grant). gs ≡ grants_at (board_setting c.args.self.now) c.args.self.now.choice c.args.self.now.positions)
     (λ gs e. e ∙ granted_here c.self.inside.rows.now c.self.inside.held.now.held c.self.inside.run c.deref.result.now c.deref-2.result.now c.args.claims.now c.args.self.now (length c.args.self.now.positions)
     c.self.view_is c.self.invariant.run.slots_are c.deref.ensures.value c.deref-2.ensures.value c.requires.whole c.requires.claims)
     c.grants_of.ensures

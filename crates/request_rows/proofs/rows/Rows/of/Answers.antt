@@ -1,5 +1,6 @@
 use Rattle.std.proofs.Common.{List, map, ap, ◌∙◌}
 use Rattle.device_match.specs.declared.matching.Match.{Match}
+use Rattle.pool_view.specs.Pools.{Offered}
 use Rattle.request_rules.specs.Asked.{Asked, Wish, ways_of, wishes_from}
 use Rattle.request_rows.specs.Columns.{columns_for}
 use Rattle.request_rows.specs.Rows.{rows_from}
@@ -16,4 +17,6 @@ invariant_of-result c =
     (c.in_ok-requests.ensures ∙ ap (requests_from 0) c.deref-3.ensures.value)
     (c.in_ok-ways.ensures ∙ ap ways_from c.deref-4.ensures.value)
     (c.in_ok-columns.ensures ∙ ap (λ (l : List Asked). columns_for c.args.wants.now.classes l c.args.devices.now) c.deref-5.ensures.value)
-    (c.in_ok-rows.ensures ∙ ap (λ (l : List Asked). rows_from c.as_slice.result.now 0 l) c.deref-6.ensures.value ∙ ap (λ (cs : List (List Match)). rows_from cs 0 c.in_ok-ways.ways.items) c.as_slice.ensures)
+    (c.in_ok-rows.ensures ∙ ap (λ (l : List Asked). rows_from c.as_slice.result.now c.tainted_devices-tainted.result.now 0 l) c.deref-6.ensures.value
+    ∙ ap (λ (cs : List (List Match)). rows_from cs c.tainted_devices-tainted.result.now 0 c.in_ok-ways.ways.items) c.as_slice.ensures
+    ∙ ap (λ (os : List Offered). rows_from c.in_ok-columns.columns os 0 c.in_ok-ways.ways.items) c.tainted_devices-tainted.ensures)
