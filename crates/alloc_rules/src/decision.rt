@@ -123,11 +123,21 @@ fn decide_among(
     unsat_is_true();
     state.inventory.nodes().in_order();
     let search = PodSearch::of(alloc, state, holders, &pod.pod.object)?;
+    let mut totals = search.totals(alloc)?;
     let joins = granted(alloc, state, claims)?;
     let mut passed = PassedBuilder::new(alloc, node_names(alloc, state)?);
     let object = &pod.pod.object;
     let joins = joins.as_slice();
-    let taken = try_nodes(alloc, state, object, joins, &search, budget, &mut passed)?;
+    let taken = try_nodes(
+        alloc,
+        state,
+        object,
+        joins,
+        &search,
+        &mut totals,
+        budget,
+        &mut passed,
+    )?;
     let passed = passed.finish();
     decision_by(alloc, state, pod, claims, at, passed, taken)
 }

@@ -1,14 +1,17 @@
 ghost use Rattle.std.specs.Prelude.{◌≡◌, IfOk, IsSome, Some, length, slice_get};
 ghost use Rattle.std.specs.Map.{keys_of};
 ghost use Rattle.pool_view.specs.Names.{at_name};
+ghost use Rattle.cluster.specs.Held.{held};
 ghost use Rattle.cluster.specs.PassedOver.{none_passed, one_more};
 ghost use Rattle.allocations.specs.Claims.{joined, wanted};
+ghost use Rattle.node_search.specs.Drawn.{AreDrawn};
 ghost use Rattle.alloc_rules.specs.Tries.{AreTried, IsTried, tried_of};
 
 use crate::claims::first_elsewhere;
 use allocator::Outcome;
 use api_cluster::{Node, Pod};
 use cluster::{Cause, Grant, PassedBuilder, State};
+use counter_sets::Totals;
 use dra_values::{Seq, Shared, Table, Text};
 use node_search::PodSearch;
 use object_fields::Key;
@@ -47,24 +50,27 @@ fn tried_of(budget: u64, outcome: Outcome) -> Tried
 }
 
 /// Searches a node for a pod, unless one of the pod's claims has its grant on another node. `joins`
-/// are the pod's claims with a grant.
+/// are the pod's claims with a grant. The totals are the state's, and again after it.
 fn try_node(
     alloc: Global,
     state: &State,
     pod: &Pod,
     joins: &[Key],
     search: &PodSearch,
+    totals: &mut Totals,
     node: &Text,
     budget: u64,
 ) -> Result<Tried, AllocError>
     requires joins { joins.now ≡ joined state.now pod.now }
     requires search { search.now ≡ record { state = state.now; claims = wanted state.now pod.now } }
     requires there { IsSome (at_name state.now.inventory.nodes node.now) }
-    ensures { IfOk result (IsTried state.now pod.now budget node.now) }
+    requires drawn { AreDrawn state.now.inventory (held state.now) totals.old }
+    ensures tried { IfOk result (IsTried state.now pod.now budget node.now) }
+    ensures drawn { AreDrawn state.now.inventory (held state.now) totals.new }
 {
     match first_elsewhere(state, node, joins) {
         Some(claim) => Ok(Tried::Passed(Cause::Other(claim.copy(alloc)?))),
-        None => Ok(tried_of(budget, search.outcome(alloc, node, budget)?)),
+        None => Ok(tried_of(budget, search.outcome(alloc, node, totals, budget)?)),
     }
 }
 
@@ -99,23 +105,25 @@ fn listed_names(alloc: Global, nodes: &Nodes) -> Result<Seq<Text>, AllocError>
 
 /// Tries the nodes in the order of their names, up to the first that may be taken, and says why each
 /// before it isn't. `joins` are the pod's claims with a grant: the others aren't looked up again for
-/// each node.
+/// each node. The totals are the state's.
 pub fn try_nodes(
     alloc: Global,
     state: &State,
     pod: &Pod,
     joins: &[Key],
     search: &PodSearch,
+    totals: &mut Totals,
     budget: u64,
     passed: &mut PassedBuilder,
 ) -> Result<Option<Taken>, AllocError>
     requires joins { joins.now ≡ joined state.now pod.now }
     requires search { search.now ≡ record { state = state.now; claims = wanted state.now pod.now } }
+    requires drawn { AreDrawn state.now.inventory (held state.now) totals.old }
     requires none { passed.old ≡ none_passed (keys_of state.now.inventory.nodes) }
     ensures { IfOk result (AreTried state.now pod.now budget (keys_of state.now.inventory.nodes) passed.new.nodes) }
 {
     for (node, _) in state.inventory.nodes().as_map() {
-        match try_node(alloc, state, pod, joins, search, node, budget)? {
+        match try_node(alloc, state, pod, joins, search, totals, node, budget)? {
             Tried::Passed(cause) => push_passed(passed, node, cause)?,
             Tried::Found(grants) => {
                 let node = node.copy(alloc)?;

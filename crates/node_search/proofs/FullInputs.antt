@@ -15,7 +15,7 @@ use Rattle.walk.specs.Walk.{Faulty, Hopeless, Open, Shape, walk}
 use Rattle.walk.specs.Outcome.{Unsat, outcome}
 use Rattle.request_rules.specs.Lists.{add_some, each_after}
 use Rattle.request_rules.specs.Input.{SearchInput}
-use Rattle.request_rules.specs.Asked.{Asked, First, Next, Due, Seat, Slot, Wish, asked, asked_by, asked_from, is_fault, is_yes, match_by, matching, repeated, rules_of, seats, seats_by, slots, slots_for, slots_of, ways_of, wishes}
+use Rattle.request_rules.specs.Asked.{Asked, First, Next, Due, Seat, Slot, Wish, asked, asked_by, asked_from, is_fault, is_yes, match_by, matching, repeated, rules_of, seats, seats_by, slots, slots_for, slots_of, tolerated_at, ways_of, wishes}
 use Rattle.request_rules.specs.Problem.{all_fails, is_all, is_crowded, is_faulty, is_none, open_slots, problem_of, shape_of, slots_by}
 use Rattle.request_rules.specs.Rules.{Pick, agrees, covers, each_fills, id_by, is_good, is_held, may_join, picks, seated}
 use Rattle.node_search.specs.Full.{asks_some}
@@ -155,7 +155,7 @@ not_good : (w : SearchInput) (s : Slot) (ss : List Slot) (x : ℕ) (l : List ℕ
 unfolding is_good
 not_good w s ss x l taken plain =
     let p : Pick = record { label = s.asked.label; position = x } in
-    not_good_by w s.asked.ask p (slice_get w.devices x) (seated s.seat 0 x) (each_fills w (x + 1) ss l) (each_after (may_join w) (p ∷ []) (picks ss l)) taken plain refl
+    not_good_by w s.asked.ask p (slice_get w.devices x) (tolerated_at w s.asked.ask x && seated s.seat 0 x) (each_fills w (x + 1) ss l) (each_after (may_join w) (p ∷ []) (picks ss l)) taken plain refl
 
 good_none : (w : SearchInput) (ss : List Slot) → is_good w ss [] ≡ true
 unfolding is_good

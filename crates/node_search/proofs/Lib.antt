@@ -1,10 +1,7 @@
 pub mod Places
-pub mod Alike
 pub mod Draws
-pub mod Named
-pub mod Keeping
-pub mod OfDevices
-pub mod Valued
+pub mod Counted
+pub mod Adding
 pub mod Lifted
 pub mod Keys
 pub mod FullWalks
@@ -12,4 +9,3 @@ pub mod FullInputs
 pub mod WantedAt
 pub mod Unfaulted
 pub mod FullNodes
-pub mod NodeTotals

@@ -1,18 +1,9 @@
--- How usable slices and the devices of a node differ.
-use Rattle.std.specs.Prelude.{◌≡◌, ◌≢◌, ℕ, List, Some, Contains, slice_get}
+-- How the devices of a node differ.
+use Rattle.std.specs.Prelude.{◌≡◌, ℕ, List, Some, Contains, slice_get}
 use Rattle.api_slice.specs.declared.types.ResourceSlice.{ResourceSlice}
 use Rattle.pool_view.specs.Differing.{IsAtItsName}
 use Rattle.pool_view.specs.Inventory.{Named}
 use Rattle.pool_view.specs.Pools.{Offered}
-use Rattle.request_rules.specs.Lists.{EachTwo}
-
--- no two of the slices have one name
-abbrev pub NamesDiffer : List ResourceSlice → Type 0
-NamesDiffer xs = EachTwo (λ x y. x.name ≢ y.name) xs
-
--- slices of one name are one slice
-pub record AreOne (slices : List ResourceSlice) : Type 0 where
-  pub same : (x y : ResourceSlice) → Contains slices x → Contains slices y → x.name ≡ y.name → x ≡ y
 
 -- each of the devices is one of a slice's
 pub record AreListed (devices : List Offered) (slices : List ResourceSlice) : Type 0 where

@@ -1,7 +1,7 @@
 pub mod Searches
+pub mod Adding
 pub mod Apart
-pub mod Counted
+pub mod Drawn
 pub mod Full
-pub mod NodeTotals
 pub mod Sure
 pub mod Wanted

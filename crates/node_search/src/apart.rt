@@ -1,21 +1,11 @@
-//! How usable slices and the devices of a node differ.
+//! How the devices of a node differ.
 
 ghost use Rattle.pool_view.specs.Usable.{node_devices, usable_slices};
 ghost use Rattle.allocator.specs.Input.{AreApart};
-ghost use Rattle.node_search.specs.Apart.{AreListed, AreNamed, AreOne, NamesDiffer};
+ghost use Rattle.node_search.specs.Apart.{AreListed, AreNamed};
 
 use dra_values::Text;
 use pool_view::{Inventory, devices_of_a_view_differ, usable_slices_differ};
-
-/// States that no two usable slices of an inventory have one name. Allocates nothing.
-pub fn slices_differ(inventory: &Inventory)
-    ensures names { NamesDiffer (usable_slices inventory.now) }
-    ensures one { AreOne (usable_slices inventory.now) }
-{
-    inventory.keeps_names();
-    inventory.keeps_order();
-    usable_slices_differ();
-}
 
 /// States that no two devices that a node sees have one id, that each is one of a usable slice's, and
 /// that its slice is the one that the inventory has at the slice's name. Allocates nothing.

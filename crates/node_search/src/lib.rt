@@ -3,18 +3,17 @@
 #![tactic(auto)]
 
 mod apart;
-mod counted;
 mod full;
 mod laws;
 mod learn;
-mod node_totals;
 mod search;
 mod sure;
+mod totals;
 mod wanted;
 
-pub use apart::{devices_differ, slices_differ};
+pub use apart::devices_differ;
 pub use laws::full_nodes_have_nothing;
 pub use learn::learn_full_slices;
-pub use node_totals::totals_at_node;
 pub use search::PodSearch;
+pub use totals::{totals_of, totals_of_both};
 pub use wanted::wanted_claims;

@@ -5,15 +5,16 @@ ghost use Rattle.counter_sets.specs.Holding.{AreHeld};
 ghost use Rattle.allocations.specs.Claims.{wanted};
 ghost use Rattle.allocations.specs.Input.{input_of};
 ghost use Rattle.allocator.specs.Answered.{answer_of};
+ghost use Rattle.node_search.specs.Drawn.{AreDrawn};
 
-use crate::apart::{devices_differ, slices_differ};
-use crate::counted::totals_for;
+use crate::apart::devices_differ;
 use crate::sure::{is_full, known_for};
+use crate::totals::totals_among;
 use crate::wanted::wanted_claims;
 use allocator::{Outcome, search_devices};
 use api_cluster::Pod;
 use cluster::State;
-use counter_sets::Held;
+use counter_sets::{Held, Totals};
 use dra_values::{Seq, Text};
 use pool_view::{KnownSlices, Pools};
 use request_rows::Wants;
@@ -71,34 +72,54 @@ impl<'a> PodSearch<'a> {
         })
     }
 
+    /// What the held devices draw from the counters of the state's usable pools, as `outcome` needs it: made
+    /// once for all nodes, in two passes over the slices that have counter sets or devices that draw from
+    /// some. `AllocError` only if memory runs out.
+    pub fn totals(&self, alloc: Global) -> Result<Totals, AllocError>
+        ensures { IfOk result (AreDrawn self.now.state.inventory (held self.now.state)) }
+    {
+        totals_among(
+            alloc,
+            &self.state.inventory,
+            self.pools.counted(),
+            self.holders,
+        )
+    }
+
     /// Searches a node of the state for the least allocation of the claims, within a budget of so many
     /// items of the node's walk.
     ///
     /// The result is exactly that of the walk within the budget: the least allocation as a grant for
     /// each claim, a selector error that comes before each allocation, that there is neither, or that the
-    /// budget is spent before one of these is known. What held devices draw is counted for the slices
-    /// of the node's devices alone. If each request of the claims is exclusive, all of the node's devices
-    /// are held, and the inventory knows that no selector has an evaluation error on them, nothing is
-    /// counted or matched. `AllocError` only if memory runs out.
-    pub fn outcome(&self, alloc: Global, node: &Text, budget: u64) -> Result<Outcome, AllocError>
-        requires { IsSome (at_name self.now.state.inventory.nodes node.now) }
-        ensures { IfOk result (λ found. answer_of (input_of self.now.state self.now.claims node.now) budget ≡ Some found) }
+    /// budget is spent before one of these is known. The totals have what the held devices draw, as
+    /// `totals` gives it, and again after the search, whatever it returns. If each request of the claims is
+    /// exclusive, all of the node's devices are held, and the inventory knows that no selector has an
+    /// evaluation error on them, nothing is matched. `AllocError` only if memory runs out.
+    pub fn outcome(
+        &self,
+        alloc: Global,
+        node: &Text,
+        totals: &mut Totals,
+        budget: u64,
+    ) -> Result<Outcome, AllocError>
+        requires there { IsSome (at_name self.now.state.inventory.nodes node.now) }
+        requires drawn { AreDrawn self.now.state.inventory (held self.now.state) totals.old }
+        ensures found { IfOk result (λ found. answer_of (input_of self.now.state self.now.claims node.now) budget ≡ Some found) }
+        ensures drawn { AreDrawn self.now.state.inventory (held self.now.state) totals.new }
     {
-        slices_differ(&self.state.inventory);
         devices_differ(&self.state.inventory, node);
         let devices = self.pools.devices(alloc, node)?;
         if budget > 0 && is_full(&self.known, &devices, self.holders) {
             return Ok(Outcome::Unsat);
         }
         let broken = self.pools.has_broken(node);
-        let mut totals = totals_for(alloc, &devices, self.holders)?;
         search_devices(
             alloc,
             &devices,
             broken,
             &self.wants,
             self.holders,
-            &mut totals,
+            totals,
             budget,
         )
     }

@@ -31,6 +31,7 @@ use Rattle.plan_check.specs.Meant.{KeepLimits}
 use Rattle.plan_check.proofs.Elements.{Contains-from_get, none_found}
 use Rattle.plan_check.proofs.Fitting.{Ids}
 use Rattle.plan_check.proofs.Passing.{AgreeLaw, nothing_stands}
+use Rattle.plan_check.proofs.Tolerating.{OnlyLaw}
 use Rattle.plan_check.proofs.Tests.{both, none_from, same_number, text_eq-same}
 
 -- a law of `pool_view`
@@ -51,15 +52,15 @@ isnt_none : {X : Type 0} (o : Option X) → IsSome o → is_none o ≡ false
 isnt_none None e = absurd (cc)
 isnt_none (Some x) e = refl
 
-pub none_at_node : (agree : AgreeLaw) (ids : IdsLaw) (s : State) (claims : List ResourceClaim) (node : List ℕ) (choice : List ℕ) (grants : List Grant) → EachOf (λ c. RequestsKept c.requests) claims
+pub none_at_node : (agree : AgreeLaw) (only : OnlyLaw) (ids : IdsLaw) (s : State) (claims : List ResourceClaim) (node : List ℕ) (choice : List ℕ) (grants : List Grant) → EachOf (λ c. RequestsKept c.requests) claims
     → IsAllocation s claims node choice grants → failing_at s claims node grants ≡ None
 unfolding failing_at
-none_at_node agree ids s claims node choice grants kept a =
+none_at_node agree only ids s claims node choice grants kept a =
     let w = input_of s claims node in
     let limits : EachOf (λ c. RequestsKept c.requests) w.claims = subst (λ (cs : List ResourceClaim). EachOf (λ c. RequestsKept c.requests) cs) (sym (claims_of s claims node)) kept in
     none_from (node_gone s node) (failing_in w grants)
     (ap (λ (b : Bool). cond b (Some (failure.NodeGone node)) None) (isnt_none (at_name s.inventory.nodes node) a.node_known))
-    (nothing_stands agree w (ids_of ids s claims node) limits choice a.results grants a.meant a.cut)
+    (nothing_stands agree only w (ids_of ids s claims node) limits choice a.results grants a.meant a.cut)
 
 -- ---- the claims that a pod needs keep their limits
 
@@ -117,16 +118,16 @@ none_failing : (s : State) (pod : Key) (p : PodState) (plan : Plan) → FitsPod 
 unfolding failing
 none_failing s pod p plan f e = ap (λ (o : Option PodState). or_else (claim_gone s plan.known.claims) (failing_for s pod o plan)) f.there ∙ none_for s pod p plan f e
 
-pub plan_passes : (agree : AgreeLaw) (ids : IdsLaw) (s : State) (pod : Key) (plan : Plan) (p : PodState) (choice : List ℕ) → KeepLimits s → FitsPod s pod p plan → IsAllocation s (wanted s p.pod.object) plan.node choice plan.grants
+pub plan_passes : (agree : AgreeLaw) (only : OnlyLaw) (ids : IdsLaw) (s : State) (pod : Key) (plan : Plan) (p : PodState) (choice : List ℕ) → KeepLimits s → FitsPod s pod p plan → IsAllocation s (wanted s p.pod.object) plan.node choice plan.grants
     → failing s pod plan ≡ None
-plan_passes agree ids s pod plan p choice keep f a =
-    none_failing s pod p plan f (none_at_node agree ids s (wanted s p.pod.object) plan.node choice plan.grants (wanted_kept s keep p.pod.object) a)
+plan_passes agree only ids s pod plan p choice keep f a =
+    none_failing s pod p plan f (none_at_node agree only ids s (wanted s p.pod.object) plan.node choice plan.grants (wanted_kept s keep p.pod.object) a)
 
 -- ---- status writes
 
-pub status_passes : (agree : AgreeLaw) (ids : IdsLaw) (s : State) (claim : Key) (status : ClaimStatus) (c : ClaimState) (choice : List ℕ) → KeepLimits s → at_key s.claims claim ≡ Some c
+pub status_passes : (agree : AgreeLaw) (only : OnlyLaw) (ids : IdsLaw) (s : State) (claim : Key) (status : ClaimStatus) (c : ClaimState) (choice : List ℕ) → KeepLimits s → at_key s.claims claim ≡ Some c
     → IsAllocation s (record c.claim.object { key = claim } ∷ []) status.node choice (granted_by claim status ∷ []) → failing_status s claim status ≡ None
 unfolding failing_status
-status_passes agree ids s claim status c choice keep e a =
+status_passes agree only ids s claim status c choice keep e a =
     ap (failing_write s claim status) e
-    ∙ none_at_node agree ids s (record c.claim.object { key = claim } ∷ []) status.node choice (granted_by claim status ∷ []) ((keep.claims claim c e).requests, tt) a
+    ∙ none_at_node agree only ids s (record c.claim.object { key = claim } ∷ []) status.node choice (granted_by claim status ∷ []) ((keep.claims claim c e).requests, tt) a

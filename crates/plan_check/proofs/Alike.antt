@@ -24,8 +24,8 @@ use Rattle.cluster.specs.declared.plan.DeviceResult.{DeviceResult}
 use Rattle.cluster.specs.declared.plan.Grant.{Grant}
 use Rattle.cluster.specs.declared.state.State.{State}
 use Rattle.cluster.specs.Held as cluster
-use Rattle.counter_sets.specs.Draws.{CounterId, drawn}
-use Rattle.request_rules.specs.Asked.{Asked, asked, is_yes, match_at, match_by, matching, meets}
+use Rattle.counter_sets.specs.Draws.{CounterId, drawn, value_among}
+use Rattle.request_rules.specs.Asked.{Asked, asked, is_yes, match_at, match_by, matching, meets, tolerated_at}
 use Rattle.request_rules.specs.Faults.{fault_of}
 use Rattle.request_rules.specs.Input.{SearchInput}
 use Rattle.request_rules.specs.Lists.{or_else}
@@ -35,11 +35,11 @@ use Rattle.request_rows.specs.Match.{matched_by}
 use Rattle.request_rows.specs.Wanted as rows
 use Rattle.request_rows.specs.Wanted.{RowsFields, with_held}
 use Rattle.request_rows.specs.Ways.{wishes_in}
-use Rattle.allocations.specs.Input.{input_of, value_among}
+use Rattle.allocations.specs.Input.{input_of}
 use Rattle.plan_check.specs.Chosen.{Due, asked_in, choice_of, due, due_by, due_for, dues, dues_for, dues_from, pick_of, place_by, place_of}
 use Rattle.plan_check.specs.Rows.{AreRowsOf}
 use Rattle.plan_check.specs.Shaped.{are_parts, differ, is_for, is_part, is_shaped, misshapen, picks_each, shape_from, sits}
-use Rattle.plan_check.specs.Standing.{broken_by, agree, constraint_broken, disagreed_from, is_no, is_unmet, selector_fault, selector_no}
+use Rattle.plan_check.specs.Standing.{broken_by, agree, constraint_broken, disagreed_from, is_no, is_unmet, is_untolerated, selector_fault, selector_no, tainted}
 
 -- ---- the same input with devices that are held, and counters
 
@@ -134,6 +134,20 @@ find_alike v held value drawn (d ∷ ds) =
     ap (λ (t : Bool). cond t (Some d) (find (is_unmet (with_held v held value drawn)) ds)) (unmet_alike v held value drawn d)
     ∙ ap (λ (o : Option Due). cond (is_unmet v d) (Some d) o) (find_alike v held value drawn ds)
 
+tolerated_alike : (v : SearchInput) (held : List (DeviceId × Key)) (value : CounterId → Option ℕ) (drawn : CounterId → ℕ) (a : DeviceAsk) (x : ℕ) → tolerated_at (with_held v held value drawn) a x ≡ tolerated_at v a x
+unfolding tolerated_at
+tolerated_alike v held value drawn a x = refl
+
+untolerated_alike : (v : SearchInput) (held : List (DeviceId × Key)) (value : CounterId → Option ℕ) (drawn : CounterId → ℕ) (d : Due) → is_untolerated (with_held v held value drawn) d ≡ is_untolerated v d
+untolerated_alike v held value drawn d =
+    ap (λ (n : ℕ). not (tolerated_at (with_held v held value drawn) d.asked.ask n)) (place_alike v held value drawn d.result) ∙ ap not (tolerated_alike v held value drawn d.asked.ask (place_of v d.result))
+
+first_alike : (v : SearchInput) (held : List (DeviceId × Key)) (value : CounterId → Option ℕ) (drawn : CounterId → ℕ) (ds : List Due) → find (is_untolerated (with_held v held value drawn)) ds ≡ find (is_untolerated v) ds
+first_alike v held value drawn [] = refl
+first_alike v held value drawn (d ∷ ds) =
+    ap (λ (t : Bool). cond t (Some d) (find (is_untolerated (with_held v held value drawn)) ds)) (untolerated_alike v held value drawn d)
+    ∙ ap (λ (o : Option Due). cond (is_untolerated v d) (Some d) o) (first_alike v held value drawn ds)
+
 fault_alike : (v : SearchInput) (held : List (DeviceId × Key)) (value : CounterId → Option ℕ) (drawn : CounterId → ℕ) (c : List ℕ) → fault_of (with_held v held value drawn) c ≡ fault_of v c
 unfolding fault_of asked
 fault_alike v held value drawn c = refl
@@ -178,6 +192,11 @@ pub no_same : (s : State) (node : List ℕ) (r : RowsFields) (ds : List Due) →
 no_same s node r ds h =
     sym (ap (λ (w : SearchInput). selector_no w ds) (input_is s node r h)
     ∙ ap (λ (o : Option Due). option_map (λ (d : Due). failure.SelectorNo d.result.device) o) (find_alike (rows.input_of r) (cluster.held s) (state_value s) (state_drawn s) ds))
+
+pub tainted_same : (s : State) (node : List ℕ) (r : RowsFields) (ds : List Due) → AreRowsOf s node r → tainted (rows.input_of r) ds ≡ tainted (input_of s r.wants.claims node) ds
+tainted_same s node r ds h =
+    sym (ap (λ (w : SearchInput). tainted w ds) (input_is s node r h)
+    ∙ ap (λ (o : Option Due). option_map (λ (d : Due). failure.Tainted d.result.device) o) (first_alike (rows.input_of r) (cluster.held s) (state_value s) (state_drawn s) ds))
 
 pub fault_same : (s : State) (node : List ℕ) (r : RowsFields) (c : List ℕ) → AreRowsOf s node r → selector_fault (rows.input_of r) c ≡ selector_fault (input_of s r.wants.claims node) c
 fault_same s node r c h =

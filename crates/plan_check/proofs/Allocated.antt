@@ -15,7 +15,7 @@ use Rattle.cluster.specs.declared.failure.Failure.TheVariants as failure
 use Rattle.cluster.specs.declared.plan.DeviceResult.{DeviceResult}
 use Rattle.cluster.specs.declared.plan.Grant.{Grant}
 use Rattle.allocations.specs.Input.{grants_by}
-use Rattle.request_rules.specs.Allocation.{IsAllocation, IsCovered, IsExact, IsKept, IsWhole, Met, Result, result_of, taken}
+use Rattle.request_rules.specs.Allocation.{IsAllocation, IsCovered, IsExact, IsKept, IsWhole, Met, Result, Tolerates, result_of, taken}
 use Rattle.request_rules.specs.Asked.{Asked, Rule, asked, options, rules_of}
 use Rattle.request_rules.specs.Faults.{FaultPlace, GivesNone, fault_for, fault_of}
 use Rattle.request_rules.specs.Input.{SearchInput}
@@ -23,9 +23,9 @@ use Rattle.request_rules.specs.Lists.{Each, EachBoth, EachTwo, or_else}
 use Rattle.request_rules.specs.Problem.{most_results}
 use Rattle.request_rules.specs.Rules.{Pick, device_draws, id_by, id_of}
 use Rattle.plan_check.specs.Chosen.{Due, choice_of, due_for, dues, dues_from, pick_of, place_of}
-use Rattle.plan_check.specs.Failing.{failing_in, failing_shaped, failing_standing}
+use Rattle.plan_check.specs.Failing.{failing_in, failing_shaped, failing_standing, failing_tolerated}
 use Rattle.plan_check.specs.Shaped.{is_for, is_part, misshapen, sits}
-use Rattle.plan_check.specs.Standing.{all_results, constraint_broken, counter_short, device_gone, held, holder_of, is_off, is_unmet, selector_fault, selector_no}
+use Rattle.plan_check.specs.Standing.{all_results, constraint_broken, counter_short, device_gone, held, holder_of, is_off, is_unmet, selector_fault, selector_no, tainted}
 use Rattle.plan_check.proofs.Apart.{Distinct, Excludes, Unheld, distinct_all, unheld_all, unheld_of}
 use Rattle.plan_check.proofs.Choices.{asks_are, choice_is}
 use Rattle.plan_check.proofs.Covering.{constraints_kept, covered_of}
@@ -33,6 +33,7 @@ use Rattle.plan_check.proofs.Cuts.{Cut, cuts_from, dues_are, dues_of, part_of, p
 use Rattle.plan_check.proofs.Elements.{all_at, both_to_map, each_of_flat, each_of_map, each_to_flat, each_to_map, firsts_none, found_none, map-at, two_to_map}
 use Rattle.plan_check.proofs.GrantsAgain.{admin_is, few_all, grants_again, result_for}
 use Rattle.plan_check.proofs.Meets.{Placed, exact_of, gives_none, met_of, placed, whole_of}
+use Rattle.plan_check.proofs.Tolerating.{FitLaw, tolerated_all}
 use Rattle.plan_check.proofs.Tests.{both_none, left_of, no_image, right_of}
 
 -- a law of `constraints`
@@ -46,6 +47,7 @@ pub record Nothing (w : SearchInput) (grants : List Grant) (c : List ℕ) (ds : 
   pub shape : misshapen w grants ≡ None
   pub unmet : selector_no w ds ≡ None
   pub fault : selector_fault w c ≡ None
+  pub tolerated : tainted w ds ≡ None
   pub taken : held w.held ds ≡ None
   pub short : counter_short w (map (pick_of w) ds) ≡ None
   pub broken : constraint_broken w (map (pick_of w) ds) ≡ None
@@ -53,11 +55,12 @@ pub record Nothing (w : SearchInput) (grants : List Grant) (c : List ℕ) (ds : 
 nothing_by : (w : SearchInput) (grants : List Grant) (c : List ℕ) (ds : List Due) → device_gone w.devices grants ≡ None → misshapen w grants ≡ None → failing_shaped w c ds ≡ None → Nothing w grants c ds
 nothing_by w grants c ds gone shape e =
     let standing = failing_standing w ds in
-    let one = both_none (selector_no w ds) (or_else (selector_fault w c) standing) e in
-    let two = both_none (selector_fault w c) standing one.1 in
-    let three = both_none (held w.held ds) (or_else (counter_short w (map (pick_of w) ds)) (constraint_broken w (map (pick_of w) ds))) two.1 in
-    let four = both_none (counter_short w (map (pick_of w) ds)) (constraint_broken w (map (pick_of w) ds)) three.1 in
-    record { gone = gone; shape = shape; unmet = one.0; fault = two.0; taken = three.0; short = four.0; broken = four.1 }
+    let one = both_none (selector_no w ds) (or_else (selector_fault w c) (failing_tolerated w ds)) e in
+    let two = both_none (selector_fault w c) (failing_tolerated w ds) one.1 in
+    let three = both_none (tainted w ds) standing two.1 in
+    let four = both_none (held w.held ds) (or_else (counter_short w (map (pick_of w) ds)) (constraint_broken w (map (pick_of w) ds))) three.1 in
+    let five = both_none (counter_short w (map (pick_of w) ds)) (constraint_broken w (map (pick_of w) ds)) four.1 in
+    record { gone = gone; shape = shape; unmet = one.0; fault = two.0; tolerated = three.0; taken = four.0; short = five.0; broken = five.1 }
 
 nothing_of : (w : SearchInput) (grants : List Grant) → failing_in w grants ≡ None → Nothing w grants (choice_of w grants) (dues_from w 0 w.claims grants)
 unfolding failing_in dues
@@ -80,6 +83,7 @@ pub record Meant (w : SearchInput) (rs : List Result) (asks : List Asked) (parts
   pub unheld : Each (λ p. p.label.admin ≡ false → (holder : Key) → Contains w.held (id_of w p, holder) → ⊥) ps
   pub exclusive : EachTwo (λ p q. p.label.admin ≡ false → q.label.admin ≡ false → id_of w p ≡ id_of w q → p.label.claim ≡ q.label.claim) ps
   pub covered : Each (λ p. p.label.admin ≡ false → (d : Draw) → Contains (device_draws w p) d → IsCovered w ps d.counter) ps
+  pub tolerated : EachBoth (λ a l. Each (Tolerates w a) l) asks parts
   pub constraints_hold : (r : Rule) → Contains (rules_of w) r → IsKept w ps r
   pub few : (i : ℕ) → i < length w.claims → count_by (λ r. eqb r.label.claim i) rs ≤ most_results
 
@@ -101,6 +105,7 @@ meant_to w c rs asks parts ps choice e t m =
       unheld = g.unheld;
       exclusive = g.exclusive;
       covered = g.covered;
+      tolerated = g.tolerated;
       constraints_hold = g.constraints_hold;
       few = g.few;
     }
@@ -136,6 +141,10 @@ met_in w u p m none =
     each_to_map (place_of w) (Met w u.asked) u.results (λ n r f.
     let g = map-at (due_for u.claim u.asked) u.results n r f in
     met_of w u.asked r (p n (due_for u.claim u.asked r) g) (m n (due_for u.claim u.asked r) g) none)
+
+tolerated_in : (w : SearchInput) (u : Cut) → Each (λ d. Tolerates w d.asked (place_of w d.result)) (dues_of u) → Each (Tolerates w u.asked) (part_of w u)
+tolerated_in w u h =
+    each_to_map (place_of w) (Tolerates w u.asked) u.results (λ n r f. h n (due_for u.claim u.asked r) (map-at (due_for u.claim u.asked) u.results n r f))
 
 pub id_fact : (w : SearchInput) (d : Due) → Placed w d.result → id_of w (pick_of w d) ≡ d.result.device
 id_fact w d p = ap id_by p.at ∙ p.id
@@ -173,16 +182,18 @@ below_picks w ds p =
 
 -- ---- all of them
 
-allocation_by : (law : KeepLaw) (w : SearchInput) (grants : List Grant) (c : List ℕ) (ds : List Due) (us : List Cut) → IsChoice (options w) c → asked w c ≡ map (λ u. u.asked) us
+allocation_by : (law : KeepLaw) (fit : FitLaw) (w : SearchInput) (grants : List Grant) (c : List ℕ) (ds : List Due) (us : List Cut) → IsChoice (options w) c → asked w c ≡ map (λ u. u.asked) us
     → ds ≡ flat_map dues_of us → Each (λ u. is_part w u.asked u.results ≡ true) us → map (λ d. d.result) ds ≡ all_results grants
     → EachTwo Distinct ds → Unheld w.held [] ds → ((i : ℕ) → count_by (λ r. eqb r.label.claim i) (map result_for ds) ≤ most_results) → Nothing w grants c ds → IsAllocation w c (map result_for ds)
-allocation_by law w grants c ds us choice asks cut parts all apart unheld few n =
+allocation_by law fit w grants c ds us choice asks cut parts all apart unheld few n =
     let fits : Each (λ d. is_for d.asked d.result ≡ true) ds = subst (λ (l : List Due). Each (λ d. is_for d.asked d.result ≡ true) l) (sym cut) (fits_all w us parts) in
     let seat = sits_all w us parts in
     let at : Each (λ d. Placed w d.result) ds = placed_all w grants ds all n.gone in
     let atu : Each (λ u. Each (λ d. Placed w d.result) (dues_of u)) us = each_of_flat dues_of (λ (d : Due). Placed w d.result) us (subst (λ (l : List Due). Each (λ d. Placed w d.result) l) cut at) in
     let meets : Each (λ u. Each (λ d. is_unmet w d ≡ false) (dues_of u)) us =
     each_of_flat dues_of (λ (d : Due). is_unmet w d ≡ false) us (subst (λ (l : List Due). Each (λ d. is_unmet w d ≡ false) l) cut (meets_all w ds n.unmet)) in
+    let tolerates : Each (λ u. Each (λ d. Tolerates w d.asked (place_of w d.result)) (dues_of u)) us =
+    each_of_flat dues_of (λ (d : Due). Tolerates w d.asked (place_of w d.result)) us (subst (λ (l : List Due). Each (λ d. Tolerates w d.asked (place_of w d.result)) l) cut (tolerated_all fit w ds n.tolerated)) in
     let clear : Each (λ a. GivesNone w a w.devices) (map (λ u. u.asked) us) = subst (λ (l : List Asked). Each (λ a. GivesNone w a w.devices) l) asks (unfaulted_all w c n.fault) in
     let clearu = each_of_map (λ (u : Cut). u.asked) (λ (a : Asked). GivesNone w a w.devices) us clear in
     let same : taken (map (λ u. u.asked) us) (map (part_of w) us) ≡ map (pick_of w) ds = taken_is w us ∙ ap (map (pick_of w)) (sym cut) in
@@ -198,13 +209,14 @@ allocation_by law w grants c ds us choice asks cut parts all apart unheld few n 
       unheld = unheld_picks w ds at fits unheld.free;
       exclusive = exclusive_picks w ds at fits unheld.once;
       covered = covered_of w (map (pick_of w) ds) n.short;
+      tolerated = both_to_map (λ (u : Cut). u.asked) (part_of w) (λ (a : Asked) (l : List ℕ). Each (Tolerates w a) l) us (λ i u g. tolerated_in w u (tolerates i u g));
       constraints_hold = constraints_kept w (map (pick_of w) ds) law (below_picks w ds at) n.broken;
       few = λ i h. few i;
     })
 
 -- grants without a failure are an allocation, and those that its results make
-pub allocation_of : (law : KeepLaw) (w : SearchInput) (grants : List Grant) → failing_in w grants ≡ None → (rs : List Result) × IsAllocation w (choice_of w grants) rs × (grants ≡ grants_by w rs)
-allocation_of law w grants e =
+pub allocation_of : (law : KeepLaw) (fit : FitLaw) (w : SearchInput) (grants : List Grant) → failing_in w grants ≡ None → (rs : List Result) × IsAllocation w (choice_of w grants) rs × (grants ≡ grants_by w rs)
+allocation_of law fit w grants e =
     let n = nothing_of w grants e in
     let s = shaped_all w 0 w.claims grants n.shape in
     let ds = dues_from w 0 w.claims grants in
@@ -213,7 +225,7 @@ allocation_of law w grants e =
     let cut = dues_are w 0 w.claims grants in
     let fits : Each (λ d. is_for d.asked d.result ≡ true) ds = subst (λ (l : List Due). Each (λ d. is_for d.asked d.result ≡ true) l) (sym cut) (fits_all w us parts) in (
       map result_for ds,
-      allocation_by law w grants (choice_of w grants) ds us (choice_is w grants s) (asks_are w grants s) cut parts (results_all w 0 w.claims grants s)
+      allocation_by law fit w grants (choice_of w grants) ds us (choice_is w grants s) (asks_are w grants s) cut parts (results_all w 0 w.claims grants s)
           (distinct_all w 0 w.claims grants s) (unheld_all w.held [] ds n.taken) (few_all w grants s) n,
       grants_again w grants s fits,
     )

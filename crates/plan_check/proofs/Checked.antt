@@ -22,12 +22,12 @@ use Rattle.request_rows.specs.Wanted as rows
 use Rattle.request_rows.specs.Wanted.{RowsFields}
 use Rattle.allocations.specs.Input.{input_of}
 use Rattle.plan_check.specs.Chosen.{Due, choice_of, dues, pick_of}
-use Rattle.plan_check.specs.Failing.{failing, failing_at, failing_for, failing_in, failing_pod, failing_results, failing_shaped, failing_standing, failing_status, failing_write, node_gone}
+use Rattle.plan_check.specs.Failing.{failing, failing_at, failing_for, failing_in, failing_pod, failing_results, failing_shaped, failing_standing, failing_status, failing_tolerated, failing_write, node_gone}
 use Rattle.plan_check.specs.Known.{claim_gone}
 use Rattle.plan_check.specs.Rows.{AreByClaim, AreDuesMore, AreRowsOf, DueFields, IsDue, due_seen}
 use Rattle.plan_check.specs.Shaped.{misshapen}
-use Rattle.plan_check.specs.Standing.{all_results, constraint_broken, counter_short, device_gone, held, is_off, selector_fault, selector_no}
-use Rattle.plan_check.proofs.Alike.{choice_same, constraint_same, dues_same, else_first, else_later, fault_same, misshapen_same, no_same, picks_same}
+use Rattle.plan_check.specs.Standing.{all_results, constraint_broken, counter_short, device_gone, held, is_off, selector_fault, selector_no, tainted}
+use Rattle.plan_check.proofs.Alike.{choice_same, constraint_same, dues_same, else_first, else_later, fault_same, misshapen_same, no_same, picks_same, tainted_same}
 use Rattle.plan_check.proofs.Ordered.{dues_ordered}
 
 -- ---- results that meet their requests
@@ -54,6 +54,15 @@ standing_constraint s node r ds found are none enough e =
     (else_later (counter_short w (map (pick_of w) ds)) _ found (enough ∙ ap (counter_short w) (picks_same s node r ds are))
     (e ∙ constraint_same s node r (map (pick_of (rows.input_of r)) ds) are ∙ ap (constraint_broken w) (picks_same s node r ds are)))
 
+-- ---- results that meet their requests, with taints
+
+pub tolerated_not : (s : State) (node : List ℕ) (r : RowsFields) (ds : List Due) (f : Failure) → AreRowsOf s node r → Some f ≡ tainted (rows.input_of r) ds → Some f ≡ failing_tolerated (input_of s r.wants.claims node) ds
+tolerated_not s node r ds f are e = else_first (tainted (input_of s r.wants.claims node) ds) _ f (e ∙ tainted_same s node r ds are)
+
+pub tolerated_rest : (s : State) (node : List ℕ) (r : RowsFields) (ds : List Due) (found : Option Failure) → AreRowsOf s node r → None ≡ tainted (rows.input_of r) ds → found ≡ failing_standing (input_of s r.wants.claims node) ds
+    → found ≡ failing_tolerated (input_of s r.wants.claims node) ds
+tolerated_rest s node r ds found are none e = else_later (tainted (input_of s r.wants.claims node) ds) _ found (none ∙ tainted_same s node r ds are) e
+
 -- ---- results of the right shape
 
 pub shaped_no : (s : State) (node : List ℕ) (r : RowsFields) (choice : List ℕ) (ds : List Due) (f : Failure) → AreRowsOf s node r → Some f ≡ selector_no (rows.input_of r) ds → Some f ≡ failing_shaped (input_of s r.wants.claims node) choice ds
@@ -66,7 +75,7 @@ shaped_fault s node r choice ds f are none e =
     else_later (selector_no w ds) _ (Some f) (none ∙ no_same s node r ds are) (else_first (selector_fault w choice) _ f (e ∙ fault_same s node r choice are))
 
 pub shaped_rest : (s : State) (node : List ℕ) (r : RowsFields) (choice : List ℕ) (ds : List Due) (found : Option Failure) → AreRowsOf s node r → None ≡ selector_no (rows.input_of r) ds → None ≡ selector_fault (rows.input_of r) choice
-    → found ≡ failing_standing (input_of s r.wants.claims node) ds → found ≡ failing_shaped (input_of s r.wants.claims node) choice ds
+    → found ≡ failing_tolerated (input_of s r.wants.claims node) ds → found ≡ failing_shaped (input_of s r.wants.claims node) choice ds
 shaped_rest s node r choice ds found are none sure e =
     let w : SearchInput = input_of s r.wants.claims node in
     else_later (selector_no w ds) _ found (none ∙ no_same s node r ds are) (else_later (selector_fault w choice) _ found (sure ∙ fault_same s node r choice are) e)

@@ -11,13 +11,13 @@ use Rattle.pool_view.specs.Views.{position_of}
 use Rattle.cluster.specs.declared.plan.DeviceResult.{DeviceResult}
 use Rattle.cluster.specs.declared.failure.Failure.{Failure}
 use Rattle.cluster.specs.declared.failure.Shortfall.{Shortfall}
-use Rattle.counter_sets.specs.Draws.{CounterId, Draw, counter_for, counter_value, drawn_from, draws_of, first_short, has_enough, is_covered, is_within}
-use Rattle.counter_sets.specs.Totals.{Tabled, drawn_in, keeps, sum_most}
+use Rattle.counter_sets.specs.Draws.{CounterId, Draw, counter_for, drawn_from, draws_of, first_short, has_enough, is_covered, is_within}
+use Rattle.counter_sets.specs.Totals.{KeptCounters, drawn_in, sum_most, value_of}
 use Rattle.request_rules.specs.Input.{SearchInput}
 use Rattle.request_rules.specs.Lists.{first_some, or_else}
 use Rattle.request_rules.specs.Rules.{Pick, amount, device_draws, draws, draws_by, total}
 use Rattle.plan_check.specs.Chosen.{pick_of, place_by, place_of}
-use Rattle.plan_check.specs.Rows.{AreKept, DueFields, HasDrawn, IsDue, due_seen}
+use Rattle.plan_check.specs.Rows.{DueFields, HasDrawn, IsDue, due_seen}
 use Rattle.plan_check.specs.Standing.{counter_short, is_short, short_for, short_on, shortfall}
 use Rattle.plan_check.proofs.Lists.{drop_next, here as at_index}
 
@@ -60,23 +60,23 @@ minus_plus : (a b c t : ℕ) → a ≡ t - b → t ≡ c → b ≤ c → a + b �
 minus_plus a b c t e f h = omega (arith, e, f, h)
 
 -- the totals of a counter without a device, with what it draws, are those with all
-pub total_with : (w : SearchInput) (t u : Tabled (Tabled (Tabled ℕ))) (ps : List Pick) (i : ℕ) (p : Pick) (o : Offered) → slice_get ps i ≡ Some p → p.label.admin ≡ false → slice_get w.devices p.position ≡ Some o
+pub total_with : (w : SearchInput) (t u : KeptCounters) (ps : List Pick) (i : ℕ) (p : Pick) (o : Offered) → slice_get ps i ≡ Some p → p.label.admin ≡ false → slice_get w.devices p.position ≡ Some o
     → ((k : CounterId) → drawn_in u k ≡ drawn_in t k - drawn_from k o) → (k : CounterId) → drawn_in t k ≡ total w k ps → drawn_in u k + drawn_from k o ≡ total w k ps
 total_with w t u ps i p o e f at less k all = minus_plus (drawn_in u k) (drawn_from k o) (total w k ps) (drawn_in t k) (less k) all (drawn_of w ps i p o k e f at)
 
-short_same : (v w : SearchInput) (t u : Tabled (Tabled (Tabled ℕ))) (ps : List Pick) (i : ℕ) (p : Pick) (o : Offered) → HasDrawn v w t ps → slice_get ps i ≡ Some p → p.label.admin ≡ false → slice_get w.devices p.position ≡ Some o
-    → ((k : CounterId) → drawn_in u k ≡ drawn_in t k - drawn_from k o) → find (is_short w ps) (device_draws w p) ≡ first_short (drawn_in u) o
+short_same : (v w : SearchInput) (t u : KeptCounters) (ps : List Pick) (i : ℕ) (p : Pick) (o : Offered) → HasDrawn v w t ps → slice_get ps i ≡ Some p → p.label.admin ≡ false → slice_get w.devices p.position ≡ Some o
+    → ((k : CounterId) → value_of u k ≡ value_of t k) → ((k : CounterId) → drawn_in u k ≡ drawn_in t k - drawn_from k o) → find (is_short w ps) (device_draws w p) ≡ first_short (value_of u) (drawn_in u) o
 unfolding first_short
-short_same v w t u ps i p o h e f at less =
+short_same v w t u ps i p o h e f at same less =
     ap (λ (d : Option Offered). find (is_short w ps) (draws_by d)) at
-    ∙ find_same (is_short w ps) (λ d. not (has_enough (drawn_in u) o d.counter)) (draws_of o) (λ j d g.
-    ap (λ (v : Option ℕ). not (is_within v (total w d.counter ps))) ((h.counters p.position o at).values d (in_list (draws_of o) j d g))
-    ∙ ap (λ (n : ℕ). not (is_within (counter_value o.slice d.counter) n)) (sym (total_with w t u ps i p o e f at less d.counter (h.drawn p.position o d at (in_list (draws_of o) j d g)))))
+    ∙ find_same (is_short w ps) (λ d. not (has_enough (value_of u) (drawn_in u) o d.counter)) (draws_of o) (λ j d g.
+    ap (λ (v : Option ℕ). not (is_within v (total w d.counter ps))) (sym (h.value d.counter) ∙ sym (same d.counter))
+    ∙ ap (λ (n : ℕ). not (is_within (value_of u d.counter) n)) (sym (total_with w t u ps i p o e f at less d.counter (h.drawn d.counter))))
 
 -- none is short
-pub short_none : (v w : SearchInput) (t u : Tabled (Tabled (Tabled ℕ))) (ps : List Pick) (i : ℕ) (p : Pick) (o : Offered) → HasDrawn v w t ps → slice_get ps i ≡ Some p → p.label.admin ≡ false → slice_get w.devices p.position ≡ Some o
-    → ((k : CounterId) → drawn_in u k ≡ drawn_in t k - drawn_from k o) → first_short (drawn_in u) o ≡ None → None ≡ short_on w ps p
-short_none v w t u ps i p o h e f at less none = ap (λ (d : Option Draw). option_map (λ (d : Draw). shortfall w ps d.counter) d) (sym (short_same v w t u ps i p o h e f at less ∙ none))
+pub short_none : (v w : SearchInput) (t u : KeptCounters) (ps : List Pick) (i : ℕ) (p : Pick) (o : Offered) → HasDrawn v w t ps → slice_get ps i ≡ Some p → p.label.admin ≡ false → slice_get w.devices p.position ≡ Some o
+    → ((k : CounterId) → value_of u k ≡ value_of t k) → ((k : CounterId) → drawn_in u k ≡ drawn_in t k - drawn_from k o) → first_short (value_of u) (drawn_in u) o ≡ None → None ≡ short_on w ps p
+short_none v w t u ps i p o h e f at same less none = ap (λ (d : Option Draw). option_map (λ (d : Draw). shortfall w ps d.counter) d) (sym (short_same v w t u ps i p o h e f at same less ∙ none))
 
 capped : (a b n m : ℕ) → a ≡ min b m → b ≡ n → n ≤ m → a ≡ n
 capped a b n m e f h = omega (arith, e, f, h)
@@ -84,66 +84,58 @@ capped a b n m e f h = omega (arith, e, f, h)
 same_shortfall : (set counter : List ℕ) (a b : ℕ) (x y : Option ℕ) → a ≡ b → x ≡ y → ◌≡◌ {A = Shortfall} (record { set = set; counter = counter; drawn = a; value = x }) (record { set = set; counter = counter; drawn = b; value = y })
 same_shortfall set counter a b x y e f = cc
 
-some_by : (v w : SearchInput) (t u : Tabled (Tabled (Tabled ℕ))) (ps : List Pick) (i : ℕ) (p : Pick) (o : Offered) (d : Draw) (set counter : List ℕ) (drawn : ℕ) (value : Option ℕ) → HasDrawn v w t ps → slice_get ps i ≡ Some p → p.label.admin ≡ false
-    → slice_get w.devices p.position ≡ Some o → ((k : CounterId) → drawn_in u k ≡ drawn_in t k - drawn_from k o) → first_short (drawn_in u) o ≡ Some d → counter_for o.slice set counter ≡ d.counter
-    → drawn ≡ min (drawn_in u (counter_for o.slice set counter) + drawn_from (counter_for o.slice set counter) o) sum_most → value ≡ counter_value o.slice (counter_for o.slice set counter)
+some_by : (v w : SearchInput) (t u : KeptCounters) (ps : List Pick) (i : ℕ) (p : Pick) (o : Offered) (d : Draw) (set counter : List ℕ) (drawn : ℕ) (value : Option ℕ) → HasDrawn v w t ps → slice_get ps i ≡ Some p → p.label.admin ≡ false
+    → slice_get w.devices p.position ≡ Some o → ((k : CounterId) → value_of u k ≡ value_of t k) → ((k : CounterId) → drawn_in u k ≡ drawn_in t k - drawn_from k o) → first_short (value_of u) (drawn_in u) o ≡ Some d → counter_for o.slice set counter ≡ d.counter
+    → drawn ≡ min (drawn_in u (counter_for o.slice set counter) + drawn_from (counter_for o.slice set counter) o) sum_most → value ≡ value_of u (counter_for o.slice set counter)
     → Some (record { set = set; counter = counter; drawn = drawn; value = value }) ≡ short_on w ps p
-some_by v w t u ps i p o d set counter drawn value h e f at less first is drawn_is value_is =
+some_by v w t u ps i p o d set counter drawn value h e f at same less first is drawn_is value_is =
     let k : CounterId = counter_for o.slice set counter in
-    let found : find (is_short w ps) (device_draws w p) ≡ Some d = short_same v w t u ps i p o h e f at less ∙ first in
-    let own : Contains (draws_of o) d = subst (λ (l : List Draw). Contains l d) (ap draws_by at) (found_in (is_short w ps) (device_draws w p) d found) in
-    let valued : w.value d.counter ≡ counter_value o.slice d.counter = (h.counters p.position o at).values d own in
-    let all : drawn_in t k ≡ total w k ps = subst (λ (c : CounterId). drawn_in t c ≡ total w c ps) (sym is) (h.drawn p.position o d at own) in
-    let most : drawn_in t k ≤ sum_most = subst (λ (c : CounterId). drawn_in t c ≤ sum_most) (sym is) (h.most p.position o d at own) in
-    let fits : total w k ps ≤ sum_most = subst (λ (n : ℕ). n ≤ sum_most) all most in
+    let found : find (is_short w ps) (device_draws w p) ≡ Some d = short_same v w t u ps i p o h e f at same less ∙ first in
+    let fits : total w k ps ≤ sum_most = subst (λ (n : ℕ). n ≤ sum_most) (h.drawn k) (h.most k) in
     ap (λ (s : Shortfall). Some s)
     (same_shortfall set counter drawn (total w k ps) value (w.value k)
-    (capped drawn (drawn_in u k + drawn_from k o) (total w k ps) sum_most drawn_is (total_with w t u ps i p o e f at less k all) fits)
-    (value_is ∙ ap (counter_value o.slice) is ∙ sym valued ∙ ap w.value (sym is)))
+    (capped drawn (drawn_in u k + drawn_from k o) (total w k ps) sum_most drawn_is (total_with w t u ps i p o e f at less k (h.drawn k)) fits)
+    (value_is ∙ same k ∙ h.value k))
     ∙ ap (λ (c : CounterId). Some (shortfall w ps c)) is
     ∙ sym (ap (λ (d : Option Draw). option_map (λ (d : Draw). shortfall w ps d.counter) d) found)
 
 -- one is
-pub short_some : (v w : SearchInput) (t u : Tabled (Tabled (Tabled ℕ))) (ps : List Pick) (i : ℕ) (p : Pick) (o : Offered) (first : Option Draw) (set counter : List ℕ) (drawn : ℕ) (value : Option ℕ) → HasDrawn v w t ps → slice_get ps i ≡ Some p
-    → p.label.admin ≡ false → slice_get w.devices p.position ≡ Some o → ((k : CounterId) → drawn_in u k ≡ drawn_in t k - drawn_from k o) → first_short (drawn_in u) o ≡ first
+pub short_some : (v w : SearchInput) (t u : KeptCounters) (ps : List Pick) (i : ℕ) (p : Pick) (o : Offered) (first : Option Draw) (set counter : List ℕ) (drawn : ℕ) (value : Option ℕ) → HasDrawn v w t ps → slice_get ps i ≡ Some p
+    → p.label.admin ≡ false → slice_get w.devices p.position ≡ Some o → ((k : CounterId) → value_of u k ≡ value_of t k) → ((k : CounterId) → drawn_in u k ≡ drawn_in t k - drawn_from k o) → first_short (value_of u) (drawn_in u) o ≡ first
     → Some (counter_for o.slice set counter) ≡ option_map (λ d. d.counter) first
-    → drawn ≡ min (drawn_in u (counter_for o.slice set counter) + drawn_from (counter_for o.slice set counter) o) sum_most → value ≡ counter_value o.slice (counter_for o.slice set counter)
+    → drawn ≡ min (drawn_in u (counter_for o.slice set counter) + drawn_from (counter_for o.slice set counter) o) sum_most → value ≡ value_of u (counter_for o.slice set counter)
     → Some (record { set = set; counter = counter; drawn = drawn; value = value }) ≡ short_on w ps p
-short_some v w t u ps i p o None set counter drawn value h e f at less first is drawn_is value_is = absurd (cc)
-short_some v w t u ps i p o (Some d) set counter drawn value h e f at less first is drawn_is value_is = some_by v w t u ps i p o d set counter drawn value h e f at less first (cc) drawn_is value_is
+short_some v w t u ps i p o None set counter drawn value h e f at same less first is drawn_is value_is = absurd (cc)
+short_some v w t u ps i p o (Some d) set counter drawn value h e f at same less first is drawn_is value_is = some_by v w t u ps i p o d set counter drawn value h e f at same less first (cc) drawn_is value_is
 
 -- what was returned is drawn again
-pub drawn_again : (v w : SearchInput) (t u new : Tabled (Tabled (Tabled ℕ))) (ps : List Pick) (i : ℕ) (p : Pick) (o : Offered) → HasDrawn v w t ps → slice_get ps i ≡ Some p → p.label.admin ≡ false → slice_get w.devices p.position ≡ Some o
-    → ((k : CounterId) → drawn_in u k ≡ drawn_in t k - drawn_from k o)
-    → ((k : CounterId) → drawn_in new k ≡ drawn_in u k + drawn_from k o) → HasDrawn v w new ps
-drawn_again v w t u new ps i p o h e f at less more =
+pub drawn_again : (v w : SearchInput) (t u new : KeptCounters) (ps : List Pick) (i : ℕ) (p : Pick) (o : Offered) → HasDrawn v w t ps → slice_get ps i ≡ Some p → p.label.admin ≡ false → slice_get w.devices p.position ≡ Some o
+    → ((k : CounterId) → value_of u k ≡ value_of t k) → ((k : CounterId) → drawn_in u k ≡ drawn_in t k - drawn_from k o)
+    → ((k : CounterId) → value_of new k ≡ value_of u k) → ((k : CounterId) → drawn_in new k ≡ drawn_in u k + drawn_from k o) → HasDrawn v w new ps
+drawn_again v w t u new ps i p o h e f at same less again more =
     record {
       devices = h.devices;
-      counters = h.counters;
-      drawn = λ j q d there draws. again d.counter (h.drawn j q d there draws);
-      most = λ j q d there draws. subst (λ (n : ℕ). n ≤ sum_most) (h.drawn j q d there draws ∙ sym (again d.counter (h.drawn j q d there draws))) (h.most j q d there draws);
+      value = λ k. again k ∙ same k ∙ h.value k;
+      drawn = λ k. all k;
+      most = λ k. subst (λ (n : ℕ). n ≤ sum_most) (h.drawn k ∙ sym (all k)) (h.most k);
     }
   where
-    again : (k : CounterId) → drawn_in t k ≡ total w k ps → drawn_in new k ≡ total w k ps
-    again k all = more k ∙ total_with w t u ps i p o e f at less k all
+    all : (k : CounterId) → drawn_in new k ≡ total w k ps
+    all k = more k ∙ total_with w t u ps i p o e f at less k (h.drawn k)
 
--- the same counters are kept
-pub still_kept : (w : SearchInput) (t new : Tabled (Tabled (Tabled ℕ))) → ((k : CounterId) → keeps new k ≡ keeps t k) → AreKept w t → AreKept w new
-still_kept w t new same h i o at k none = h i o at k (sym (same k) ∙ none)
+none_by : (value : CounterId → Option ℕ) (before : CounterId → ℕ) (o : Offered) (d : Draw) (ds : List Draw) (b : Bool) → cond (not b) (Some d) (find (λ d. not (has_enough value before o d.counter)) ds) ≡ None
+    → (find (λ d. not (has_enough value before o d.counter)) ds ≡ None → list_all (λ d. has_enough value before o d.counter) ds ≡ true) → (b && list_all (λ d. has_enough value before o d.counter) ds) ≡ true
+none_by value before o d ds true e rest = rest e
+none_by value before o d ds false e rest = absurd (cc)
 
-none_by : (before : CounterId → ℕ) (o : Offered) (d : Draw) (ds : List Draw) (b : Bool) → cond (not b) (Some d) (find (λ d. not (has_enough before o d.counter)) ds) ≡ None
-    → (find (λ d. not (has_enough before o d.counter)) ds ≡ None → list_all (λ d. has_enough before o d.counter) ds ≡ true) → (b && list_all (λ d. has_enough before o d.counter) ds) ≡ true
-none_by before o d ds true e rest = rest e
-none_by before o d ds false e rest = absurd (cc)
-
-none_short : (before : CounterId → ℕ) (o : Offered) (ds : List Draw) → find (λ d. not (has_enough before o d.counter)) ds ≡ None → list_all (λ d. has_enough before o d.counter) ds ≡ true
-none_short before o [] e = refl
-none_short before o (d ∷ ds) e = none_by before o d ds (has_enough before o d.counter) e (none_short before o ds)
+none_short : (value : CounterId → Option ℕ) (before : CounterId → ℕ) (o : Offered) (ds : List Draw) → find (λ d. not (has_enough value before o d.counter)) ds ≡ None → list_all (λ d. has_enough value before o d.counter) ds ≡ true
+none_short value before o [] e = refl
+none_short value before o (d ∷ ds) e = none_by value before o d ds (has_enough value before o d.counter) e (none_short value before o ds)
 
 -- a device of which no counter is short is covered
-pub covered_by : (before : CounterId → ℕ) (o : Offered) → first_short before o ≡ None → is_covered before o ≡ true
+pub covered_by : (value : CounterId → Option ℕ) (before : CounterId → ℕ) (o : Offered) → first_short value before o ≡ None → is_covered value before o ≡ true
 unfolding first_short is_covered
-covered_by before o e = none_short before o (draws_of o) e
+covered_by value before o e = none_short value before o (draws_of o) e
 
 -- ---- what is first short, by what is found
 
@@ -167,20 +159,20 @@ pub none_seen : {S : Type 0} (g : S → Shortfall) (r : Option S) → is_none r 
 none_seen g None e = refl
 none_seen g (Some s) e = absurd (cc)
 
-pub some_seen : {S : Type 0} (set counter : S → List ℕ) (drawn : S → ℕ) (value : S → Option ℕ) (v w : SearchInput) (t u : Tabled (Tabled (Tabled ℕ))) (ps : List Pick) (i : ℕ) (p : Pick) (o : Offered) (r : Option S) → HasDrawn v w t ps → slice_get ps i ≡ Some p
-    → p.label.admin ≡ false → slice_get w.devices p.position ≡ Some o → ((k : CounterId) → drawn_in u k ≡ drawn_in t k - drawn_from k o) → is_none r ≡ false
-    → option_map (λ s. counter_for o.slice (set s) (counter s)) r ≡ option_map (λ d. d.counter) (first_short (drawn_in u) o)
+pub some_seen : {S : Type 0} (set counter : S → List ℕ) (drawn : S → ℕ) (value : S → Option ℕ) (v w : SearchInput) (t u : KeptCounters) (ps : List Pick) (i : ℕ) (p : Pick) (o : Offered) (r : Option S) → HasDrawn v w t ps → slice_get ps i ≡ Some p
+    → p.label.admin ≡ false → slice_get w.devices p.position ≡ Some o → ((k : CounterId) → value_of u k ≡ value_of t k) → ((k : CounterId) → drawn_in u k ≡ drawn_in t k - drawn_from k o) → is_none r ≡ false
+    → option_map (λ s. counter_for o.slice (set s) (counter s)) r ≡ option_map (λ d. d.counter) (first_short (value_of u) (drawn_in u) o)
     → IfSome r (λ s. drawn s ≡ min (drawn_in u (counter_for o.slice (set s) (counter s)) + drawn_from (counter_for o.slice (set s) (counter s)) o) sum_most)
-    → IfSome r (λ s. value s ≡ counter_value o.slice (counter_for o.slice (set s) (counter s)))
+    → IfSome r (λ s. value s ≡ value_of u (counter_for o.slice (set s) (counter s)))
     → option_map (λ s. record { set = set s; counter = counter s; drawn = drawn s; value = value s }) r ≡ short_on w ps p
-some_seen set counter drawn value v w t u ps i p o None h e f at less none is drawn_is value_is = absurd (cc)
-some_seen set counter drawn value v w t u ps i p o (Some s) h e f at less none is drawn_is value_is =
-    short_some v w t u ps i p o (first_short (drawn_in u) o) (set s) (counter s) (drawn s) (value s) h e f at less refl is drawn_is value_is
+some_seen set counter drawn value v w t u ps i p o None h e f at same less none is drawn_is value_is = absurd (cc)
+some_seen set counter drawn value v w t u ps i p o (Some s) h e f at same less none is drawn_is value_is =
+    short_some v w t u ps i p o (first_short (value_of u) (drawn_in u) o) (set s) (counter s) (drawn s) (value s) h e f at same less refl is drawn_is value_is
 
 -- ---- one result after another
 
 -- the results so far have counters with enough
-pub record ShortSoFar (v w : SearchInput) (totals : Tabled (Tabled (Tabled ℕ))) (ps : List Pick) (left : List DueFields) : Type 0 where
+pub record ShortSoFar (v w : SearchInput) (totals : KeptCounters) (ps : List Pick) (left : List DueFields) : Type 0 where
   pub has : HasDrawn v w totals ps
   pub whole : first_some (short_for w ps) (map (pick_of w) (map (due_seen v) left)) ≡ counter_short w ps
 
@@ -188,12 +180,12 @@ short_parts : (v w : SearchInput) (ps : List Pick) (d : DueFields) (left : List 
     → first_some (short_for w ps) (map (pick_of w) (map (due_seen v) (d ∷ left))) ≡ or_else o (first_some (short_for w ps) (map (pick_of w) (map (due_seen v) left)))
 short_parts v w ps d left o e = ap (λ (o : Option Failure). or_else o (first_some (short_for w ps) (map (pick_of w) (map (due_seen v) left)))) (sym e)
 
-pub short_stop : (v w : SearchInput) (t : Tabled (Tabled (Tabled ℕ))) (ps : List Pick) (ds : List DueFields) (i : ℕ) (d : DueFields) (f : Failure) → i < length ds → d ≡ get_or ds i d → Some f ≡ short_for w ps (pick_of w (due_seen v d))
+pub short_stop : (v w : SearchInput) (t : KeptCounters) (ps : List Pick) (ds : List DueFields) (i : ℕ) (d : DueFields) (f : Failure) → i < length ds → d ≡ get_or ds i d → Some f ≡ short_for w ps (pick_of w (due_seen v d))
     → ShortSoFar v w t ps (drop i ds) → Some f ≡ counter_short w ps
 short_stop v w t ps ds i d f h is e s =
     sym (ap (λ (l : List DueFields). first_some (short_for w ps) (map (pick_of w) (map (due_seen v) l))) (drop_next ds i d h is) ∙ short_parts v w ps d (drop (i + 1) ds) (Some f) e) ∙ s.whole
 
-pub short_next : (v w : SearchInput) (t new : Tabled (Tabled (Tabled ℕ))) (ps : List Pick) (ds : List DueFields) (i : ℕ) (d : DueFields) → i < length ds → d ≡ get_or ds i d → None ≡ short_for w ps (pick_of w (due_seen v d))
+pub short_next : (v w : SearchInput) (t new : KeptCounters) (ps : List Pick) (ds : List DueFields) (i : ℕ) (d : DueFields) → i < length ds → d ≡ get_or ds i d → None ≡ short_for w ps (pick_of w (due_seen v d))
     → HasDrawn v w new ps → ShortSoFar v w t ps (drop i ds) → ShortSoFar v w new ps (drop (i + 1) ds)
 short_next v w t new ps ds i d h is e has s = record {
   has = has;
@@ -208,33 +200,31 @@ pick_at v w (x ∷ ds) zero d e = let same : x ≡ d = cc in ap (λ z. Some (pic
 pick_at v w (x ∷ ds) (suc i) d e = pick_at v w ds i d e
 
 -- the results before an index have counters with enough
-pub record ShortUntil (v : SearchInput) (old now : Tabled (Tabled (Tabled ℕ))) (ds : List DueFields) (i : ℕ) : Type 0 where
-  pub same : (k : CounterId) → keeps now k ≡ keeps old k
+pub record ShortUntil (v : SearchInput) (old now : KeptCounters) (ds : List DueFields) (i : ℕ) : Type 0 where
   pub each : (w : SearchInput) → HasDrawn v w old (map (pick_of w) (map (due_seen v) ds)) → ShortSoFar v w now (map (pick_of w) (map (due_seen v) ds)) (drop i ds)
 
-pub until_none : (v : SearchInput) (old : Tabled (Tabled (Tabled ℕ))) (ds : List DueFields) → ShortUntil v old old ds 0
-until_none v old ds = record { same = λ k. refl; each = λ w h. record { has = h; whole = refl } }
+pub until_none : (v : SearchInput) (old : KeptCounters) (ds : List DueFields) → ShortUntil v old old ds 0
+until_none v old ds = record { each = λ w h. record { has = h; whole = refl } }
 
-pub until_short : (v : SearchInput) (old now : Tabled (Tabled (Tabled ℕ))) (ds : List DueFields) (i : ℕ) (d : DueFields) (f : Failure) → i < length ds → d ≡ get_or ds i d
+pub until_short : (v : SearchInput) (old now : KeptCounters) (ds : List DueFields) (i : ℕ) (d : DueFields) (f : Failure) → i < length ds → d ≡ get_or ds i d
     → ((w : SearchInput) (ps : List Pick) (j : ℕ) → HasDrawn v w now ps → slice_get ps j ≡ Some (pick_of w (due_seen v d)) → Some f ≡ short_for w ps (pick_of w (due_seen v d)))
     → ShortUntil v old now ds i → (w : SearchInput) → HasDrawn v w old (map (pick_of w) (map (due_seen v) ds)) → Some f ≡ counter_short w (map (pick_of w) (map (due_seen v) ds))
 until_short v old now ds i d f h is found s w has =
     let here : ShortSoFar v w now (map (pick_of w) (map (due_seen v) ds)) (drop i ds) = s.each w has in
     short_stop v w now (map (pick_of w) (map (due_seen v) ds)) ds i d f h is (found w (map (pick_of w) (map (due_seen v) ds)) i here.has (pick_at v w ds i d (at_index ds i d h is))) here
 
-pub until_enough : (v : SearchInput) (old now new : Tabled (Tabled (Tabled ℕ))) (ds : List DueFields) (i : ℕ) (d : DueFields) → i < length ds → d ≡ get_or ds i d → ((k : CounterId) → keeps new k ≡ keeps now k)
+pub until_enough : (v : SearchInput) (old now new : KeptCounters) (ds : List DueFields) (i : ℕ) (d : DueFields) → i < length ds → d ≡ get_or ds i d
     → ((w : SearchInput) (ps : List Pick) (j : ℕ) → HasDrawn v w now ps → slice_get ps j ≡ Some (pick_of w (due_seen v d)) → None ≡ short_for w ps (pick_of w (due_seen v d)))
     → ((w : SearchInput) (ps : List Pick) (j : ℕ) → HasDrawn v w now ps → slice_get ps j ≡ Some (pick_of w (due_seen v d)) → HasDrawn v w new ps)
     → ShortUntil v old now ds i → ShortUntil v old new ds (i + 1)
-until_enough v old now new ds i d h is same found again s = record {
-  same = λ k. same k ∙ s.same k;
+until_enough v old now new ds i d h is found again s = record {
   each = λ w has.
       let here : ShortSoFar v w now (map (pick_of w) (map (due_seen v) ds)) (drop i ds) = s.each w has in
       let at : slice_get (map (pick_of w) (map (due_seen v) ds)) i ≡ Some (pick_of w (due_seen v d)) = pick_at v w ds i d (at_index ds i d h is) in
       short_next v w now new (map (pick_of w) (map (due_seen v) ds)) ds i d h is (found w (map (pick_of w) (map (due_seen v) ds)) i here.has at) (again w (map (pick_of w) (map (due_seen v) ds)) i here.has at) here;
 }
 
-pub until_done : (v : SearchInput) (old now : Tabled (Tabled (Tabled ℕ))) (ds : List DueFields) (i : ℕ) → length ds ≤ i → ShortUntil v old now ds i → (w : SearchInput) → HasDrawn v w old (map (pick_of w) (map (due_seen v) ds))
+pub until_done : (v : SearchInput) (old now : KeptCounters) (ds : List DueFields) (i : ℕ) → length ds ≤ i → ShortUntil v old now ds i → (w : SearchInput) → HasDrawn v w old (map (pick_of w) (map (due_seen v) ds))
     → None ≡ counter_short w (map (pick_of w) (map (due_seen v) ds))
 until_done v old now ds i h s w has =
     sym (ap (λ (l : List DueFields). first_some (short_for w (map (pick_of w) (map (due_seen v) ds))) (map (pick_of w) (map (due_seen v) l))) (drop_of_length-le ds h)) ∙ (s.each w has).whole

@@ -14,6 +14,7 @@ pub mod Ordered
 pub mod Checked
 mod Tests
 mod Elements
+mod Tolerating
 mod Cuts
 mod Choices
 mod Meets

@@ -12,7 +12,7 @@ use Rattle.cluster.specs.declared.failure.Failure.TheVariants as failure
 use Rattle.cluster.specs.declared.plan.DeviceResult.{DeviceResult}
 use Rattle.cluster.specs.declared.plan.Grant.{Grant}
 use Rattle.allocations.specs.Input.{grants_by}
-use Rattle.request_rules.specs.Allocation.{IsAllocation, Met, Result, taken}
+use Rattle.request_rules.specs.Allocation.{IsAllocation, Met, Result, Tolerates, taken}
 use Rattle.request_rules.specs.Asked.{Asked, asked, asked_from, wishes_from}
 use Rattle.request_rules.specs.Faults.{GivesNone}
 use Rattle.request_rules.specs.Input.{SearchInput}
@@ -20,9 +20,9 @@ use Rattle.request_rules.specs.Lists.{Each, EachBoth, EachTwo, or_else}
 use Rattle.request_rules.specs.Problem.{most_results}
 use Rattle.request_rules.specs.Rules.{Pick, id_of}
 use Rattle.plan_check.specs.Chosen.{Due, choice_of, due_for, dues, dues_from, pick_of, place_of}
-use Rattle.plan_check.specs.Failing.{failing_in, failing_shaped, failing_standing}
+use Rattle.plan_check.specs.Failing.{failing_in, failing_shaped, failing_standing, failing_tolerated}
 use Rattle.plan_check.specs.Shaped.{is_for, misshapen}
-use Rattle.plan_check.specs.Standing.{all_results, constraint_broken, counter_short, device_gone, held, holder_of, is_no, is_off, is_unmet, selector_fault, selector_no}
+use Rattle.plan_check.specs.Standing.{all_results, constraint_broken, counter_short, device_gone, held, holder_of, is_no, is_off, is_unmet, selector_fault, selector_no, tainted}
 use Rattle.plan_check.proofs.Allocated.{Meant, Nothing, fits_all, id_fact}
 use Rattle.plan_check.proofs.Apart.{Excludes}
 use Rattle.plan_check.proofs.Choices.{asks_are}
@@ -34,6 +34,7 @@ use Rattle.plan_check.proofs.Fitting.{Ids, parts_from}
 use Rattle.plan_check.proofs.GrantsAgain.{admin_is}
 use Rattle.plan_check.proofs.Meets.{Placed, placed}
 use Rattle.plan_check.proofs.Tests.{none_from}
+use Rattle.plan_check.proofs.Tolerating.{OnlyLaw, none_tainted}
 
 -- a law of `constraints`
 abbrev pub AgreeLaw : Type 0
@@ -53,6 +54,7 @@ meant_of w c rs a = record {
   unheld = a.unheld;
   exclusive = a.exclusive;
   covered = a.covered;
+  tolerated = a.tolerated;
   constraints_hold = a.constraints_hold;
   few = a.few;
 }
@@ -80,6 +82,12 @@ met_all w us h =
     let each = both_of_map (λ (u : Cut). u.asked) (part_of w) (λ (a : Asked) (l : List ℕ). Each (Met w a) l) us h in
     each_to_flat dues_of (λ (d : Due). Met w d.asked (place_of w d.result)) us
     (λ i u g. each_to_map (due_for u.claim u.asked) (λ (d : Due). Met w d.asked (place_of w d.result)) u.results (each_of_map (place_of w) (Met w u.asked) u.results (each i u g)))
+
+tolerated_dues : (w : SearchInput) (us : List Cut) → EachBoth (λ a l. Each (Tolerates w a) l) (map (λ u. u.asked) us) (map (part_of w) us) → Each (λ d. Tolerates w d.asked (place_of w d.result)) (flat_map dues_of us)
+tolerated_dues w us h =
+    let each = both_of_map (λ (u : Cut). u.asked) (part_of w) (λ (a : Asked) (l : List ℕ). Each (Tolerates w a) l) us h in
+    each_to_flat dues_of (λ (d : Due). Tolerates w d.asked (place_of w d.result)) us
+    (λ i u g. each_to_map (due_for u.claim u.asked) (λ (d : Due). Tolerates w d.asked (place_of w d.result)) u.results (each_of_map (place_of w) (Tolerates w u.asked) u.results (each i u g)))
 
 none_gone : (w : SearchInput) (grants : List Grant) (ds : List Due) → map (λ d. d.result) ds ≡ all_results grants → Each (λ d. Met w d.asked (place_of w d.result)) ds → device_gone w.devices grants ≡ None
 none_gone w grants ds e h =
@@ -113,9 +121,9 @@ once_dues w ds at fits distinct exclusive =
 
 -- ---- all of them
 
-nothing_from : (law : AgreeLaw) (w : SearchInput) (grants : List Grant) (rs : List Result) (c : List ℕ) (ds : List Due) (us : List Cut) → AllShaped w 0 w.claims grants → asked w c ≡ map (λ u. u.asked) us → ds ≡ flat_map dues_of us
+nothing_from : (law : AgreeLaw) (only : OnlyLaw) (w : SearchInput) (grants : List Grant) (rs : List Result) (c : List ℕ) (ds : List Due) (us : List Cut) → AllShaped w 0 w.claims grants → asked w c ≡ map (λ u. u.asked) us → ds ≡ flat_map dues_of us
     → Each (λ d. is_for d.asked d.result ≡ true) ds → map (λ d. d.result) ds ≡ all_results grants → Meant w rs (map (λ u. u.asked) us) (map (part_of w) us) (map (pick_of w) ds) → Nothing w grants c ds
-nothing_from law w grants rs c ds us s asks cut fits all m =
+nothing_from law only w grants rs c ds us s asks cut fits all m =
     let met : Each (λ d. Met w d.asked (place_of w d.result)) ds = subst (λ (l : List Due). Each (λ d. Met w d.asked (place_of w d.result)) l) (sym cut) (met_all w us m.devices_match) in
     let at : Each (λ d. Placed w d.result) ds = λ i d g. placed w d.result (is_on w d.result (met i d g).on_node) in
     record {
@@ -123,6 +131,7 @@ nothing_from law w grants rs c ds us s asks cut fits all m =
       shape = none_misshapen w 0 w.claims grants s;
       unmet = none_unmet w ds met;
       fault = none_faults w c (subst (λ (l : List Asked). Each (λ a. GivesNone w a w.devices) l) (sym asks) m.unfaulted);
+      tolerated = none_tainted only w ds (subst (λ (l : List Due). Each (λ d. Tolerates w d.asked (place_of w d.result)) l) (sym cut) (tolerated_dues w us m.tolerated));
       taken = none_held w.held [] ds (free_dues w ds at fits m.unheld) (λ i d g j b k. absurd (cc)) (once_dues w ds at fits m.distinct m.exclusive);
       short = none_short w (map (pick_of w) ds) m.covered;
       broken = none_broken w (map (pick_of w) ds) law m.constraints_hold;
@@ -133,10 +142,11 @@ failing_by w grants c ds n =
     let ps : List Pick = map (pick_of w) ds in
     none_from (device_gone w.devices grants) (or_else (misshapen w grants) (failing_shaped w c ds)) n.gone
     (none_from (misshapen w grants) (failing_shaped w c ds) n.shape
-    (none_from (selector_no w ds) (or_else (selector_fault w c) (failing_standing w ds)) n.unmet
-    (none_from (selector_fault w c) (failing_standing w ds) n.fault
+    (none_from (selector_no w ds) (or_else (selector_fault w c) (failing_tolerated w ds)) n.unmet
+    (none_from (selector_fault w c) (failing_tolerated w ds) n.fault
+    (none_from (tainted w ds) (failing_standing w ds) n.tolerated
     (none_from (held w.held ds) (or_else (counter_short w ps) (constraint_broken w ps)) n.taken
-    (none_from (counter_short w ps) (constraint_broken w ps) n.short n.broken)))))
+    (none_from (counter_short w ps) (constraint_broken w ps) n.short n.broken))))))
 
 failing_from : (w : SearchInput) (grants : List Grant) (c : List ℕ) → choice_of w grants ≡ c → Nothing w grants c (dues_from w 0 w.claims grants) → failing_in w grants ≡ None
 unfolding failing_in dues
@@ -144,8 +154,8 @@ failing_from w grants c e n =
     ap (λ (z : List ℕ). or_else (device_gone w.devices grants) (or_else (misshapen w grants) (failing_shaped w z (dues_from w 0 w.claims grants)))) e
     ∙ failing_by w grants c (dues_from w 0 w.claims grants) n
 
-passes : (law : AgreeLaw) (w : SearchInput) → Ids w → EachOf (λ c. RequestsKept c.requests) w.claims → (c : List ℕ) (rs : List Result) → (a : IsAllocation w c rs) → failing_in w (grants_for w 0 w.claims c a.parts) ≡ None
-passes law w ids kept c rs a =
+passes : (law : AgreeLaw) (only : OnlyLaw) (w : SearchInput) → Ids w → EachOf (λ c. RequestsKept c.requests) w.claims → (c : List ℕ) (rs : List Result) → (a : IsAllocation w c rs) → failing_in w (grants_for w 0 w.claims c a.parts) ≡ None
+passes law only w ids kept c rs a =
     let g = given_of w c rs kept a in
     let gs = grants_for w 0 w.claims c a.parts in
     let s = shaped_back w ids 0 w.claims c a.parts g in
@@ -159,10 +169,10 @@ passes law w ids kept c rs a =
     ap (λ (z : List Asked). taken z a.parts) asks ∙ ap (taken (map (λ u. u.asked) us)) (sym parts) ∙ taken_is w us ∙ ap (map (pick_of w)) (sym cut) in
     let fits : Each (λ d. is_for d.asked d.result ≡ true) ds = subst (λ (l : List Due). Each (λ d. is_for d.asked d.result ≡ true) l) (sym cut) (fits_all w us (parts_all w 0 w.claims gs s)) in
     let m = meant_by w rs (asked w c) (map (λ u. u.asked) us) a.parts (map (part_of w) us) (taken (asked w c) a.parts) (map (pick_of w) ds) asks (sym parts) picks (meant_of w c rs a) in
-    failing_from w gs c choice (nothing_from law w gs rs c ds us s asks cut fits (results_all w 0 w.claims gs s) m)
+    failing_from w gs c choice (nothing_from law only w gs rs c ds us s asks cut fits (results_all w 0 w.claims gs s) m)
 
 -- the grants that an allocation's results make have no failure
-pub nothing_stands : (law : AgreeLaw) (w : SearchInput) → Ids w → EachOf (λ c. RequestsKept c.requests) w.claims → (c : List ℕ) (rs : List Result) (grants : List Grant) → IsAllocation w c rs → grants ≡ grants_by w rs → failing_in w grants ≡ None
-nothing_stands law w ids kept c rs grants a e =
+pub nothing_stands : (law : AgreeLaw) (only : OnlyLaw) (w : SearchInput) → Ids w → EachOf (λ c. RequestsKept c.requests) w.claims → (c : List ℕ) (rs : List Result) (grants : List Grant) → IsAllocation w c rs → grants ≡ grants_by w rs → failing_in w grants ≡ None
+nothing_stands law only w ids kept c rs grants a e =
     let same : grants ≡ grants_for w 0 w.claims c a.parts = e ∙ ap (grants_by w) a.in_order ∙ grants_back w c a.parts in
-    ap (failing_in w) same ∙ passes law w ids kept c rs a
+    ap (failing_in w) same ∙ passes law only w ids kept c rs a

@@ -25,6 +25,7 @@ use Rattle.plan_check.specs.Says.{ClaimIsChanged, GrantsSay, IsChanged, PlanSays
 use Rattle.plan_check.proofs.Accepting.{same_node_by}
 use Rattle.plan_check.proofs.Elements.{Contains-from_get, map-at}
 use Rattle.plan_check.proofs.Telling.{AgreedLaw, FaultLaw, Tells, either_by, found_of, grants_tell, none_is}
+use Rattle.plan_check.proofs.Tolerating.{OnlyLaw}
 use Rattle.plan_check.proofs.Tests.{both, is_false, same_number, some_is, truth_isnt}
 
 -- ---- grants on a node
@@ -38,6 +39,7 @@ says_by s claims node grants (failure.DeviceGone d) t = t
 says_by s claims node grants (failure.Shape k) t = t
 says_by s claims node grants (failure.SelectorNo d) t = t
 says_by s claims node grants (failure.SelectorFault d) t = t
+says_by s claims node grants (failure.Tainted d) t = t
 says_by s claims node grants (failure.Held d k) t = t
 says_by s claims node grants (failure.Counter c) t = t
 says_by s claims node grants (failure.Constraint k n) t = t
@@ -47,13 +49,13 @@ node_by s claims node grants f true e g =
     subst (GrantsSay s claims node grants) (some_is (failure.NodeGone node) f g) (record { is = refl; none = none_is (at_name s.inventory.nodes node) e })
 node_by s claims node grants f false e g = absurd (cc)
 
-pub grants_say : (faults : FaultLaw) (agreed : AgreedLaw) (s : State) (claims : List ResourceClaim) (node : List ℕ) (grants : List Grant) (f : Failure) → failing_at s claims node grants ≡ Some f → GrantsSay s claims node grants f
+pub grants_say : (faults : FaultLaw) (only : OnlyLaw) (agreed : AgreedLaw) (s : State) (claims : List ResourceClaim) (node : List ℕ) (grants : List Grant) (f : Failure) → failing_at s claims node grants ≡ Some f → GrantsSay s claims node grants f
 unfolding failing_at
-grants_say faults agreed s claims node grants f e =
+grants_say faults only agreed s claims node grants f e =
     let w = input_of s claims node in
     either_by (node_gone s node) (failing_in w grants) f (GrantsSay s claims node grants f) e
     (node_by s claims node grants f (is_none (at_name s.inventory.nodes node)) refl)
-    (λ there g. says_by s claims node grants f (grants_tell faults agreed w grants f g))
+    (λ there g. says_by s claims node grants f (grants_tell faults only agreed w grants f g))
 
 -- ---- the pod and its claims
 
@@ -116,33 +118,34 @@ plan_by s pod plan p (failure.DeviceGone d) e g = record { state = p; there = e;
 plan_by s pod plan p (failure.Shape k) e g = record { state = p; there = e; says = g }
 plan_by s pod plan p (failure.SelectorNo d) e g = record { state = p; there = e; says = g }
 plan_by s pod plan p (failure.SelectorFault d) e g = record { state = p; there = e; says = g }
+plan_by s pod plan p (failure.Tainted d) e g = record { state = p; there = e; says = g }
 plan_by s pod plan p (failure.Held d k) e g = record { state = p; there = e; says = g }
 plan_by s pod plan p (failure.Counter c) e g = record { state = p; there = e; says = g }
 plan_by s pod plan p (failure.Constraint k n) e g = record { state = p; there = e; says = g }
 
-pod_tells : (faults : FaultLaw) (agreed : AgreedLaw) (s : State) (pod : Key) (plan : Plan) (p : PodState) (f : Failure) → at_key s.pods pod ≡ Some p → failing_pod s pod p plan ≡ Some f → PlanSays s pod plan f
-pod_tells faults agreed s pod plan p f e g =
+pod_tells : (faults : FaultLaw) (only : OnlyLaw) (agreed : AgreedLaw) (s : State) (pod : Key) (plan : Plan) (p : PodState) (f : Failure) → at_key s.pods pod ≡ Some p → failing_pod s pod p plan ≡ Some f → PlanSays s pod plan f
+pod_tells faults only agreed s pod plan p f e g =
     let at = failing_at s (wanted s p.pod.object) plan.node plan.grants in
     let P = PlanSays s pod plan f in
     either_by (changed s pod p plan) (or_else (claim_full s pod plan.known.claims) at) f P g
     (λ h. either_by (pod_changed pod p plan) (claim_changed s plan.known.claims) f P h (pod_says s pod p plan f (eqb p.pod.uid plan.known.pod) e refl) (λ same k. changed_says s pod plan f k))
     (λ same h. either_by (claim_full s pod plan.known.claims) at f P h (full_says s pod plan f)
-    (λ room k. plan_by s pod plan p f e (grants_say faults agreed s (wanted s p.pod.object) plan.node plan.grants f k)))
+    (λ room k. plan_by s pod plan p f e (grants_say faults only agreed s (wanted s p.pod.object) plan.node plan.grants f k)))
 
-for_tells : (faults : FaultLaw) (agreed : AgreedLaw) (s : State) (pod : Key) (plan : Plan) (f : Failure) (o : Option PodState) → at_key s.pods pod ≡ o → failing_for s pod o plan ≡ Some f → PlanSays s pod plan f
-for_tells faults agreed s pod plan f None e g = other_pod s pod plan f None e tt (some_is (failure.ClaimChanged pod) f g)
-for_tells faults agreed s pod plan f (Some p) e g = pod_tells faults agreed s pod plan p f e g
+for_tells : (faults : FaultLaw) (only : OnlyLaw) (agreed : AgreedLaw) (s : State) (pod : Key) (plan : Plan) (f : Failure) (o : Option PodState) → at_key s.pods pod ≡ o → failing_for s pod o plan ≡ Some f → PlanSays s pod plan f
+for_tells faults only agreed s pod plan f None e g = other_pod s pod plan f None e tt (some_is (failure.ClaimChanged pod) f g)
+for_tells faults only agreed s pod plan f (Some p) e g = pod_tells faults only agreed s pod plan p f e g
 
-pub plan_says : (faults : FaultLaw) (agreed : AgreedLaw) (s : State) (pod : Key) (plan : Plan) (f : Failure) → failing s pod plan ≡ Some f → PlanSays s pod plan f
+pub plan_says : (faults : FaultLaw) (only : OnlyLaw) (agreed : AgreedLaw) (s : State) (pod : Key) (plan : Plan) (f : Failure) → failing s pod plan ≡ Some f → PlanSays s pod plan f
 unfolding failing
-plan_says faults agreed s pod plan f e =
+plan_says faults only agreed s pod plan f e =
     either_by (claim_gone s plan.known.claims) (failing_for s pod (at_key s.pods pod) plan) f (PlanSays s pod plan f) e
-    (gone_says s pod plan f) (λ there g. for_tells faults agreed s pod plan f (at_key s.pods pod) refl g)
+    (gone_says s pod plan f) (λ there g. for_tells faults only agreed s pod plan f (at_key s.pods pod) refl g)
 
 -- ---- status writes
 
-pub status_says : (faults : FaultLaw) (agreed : AgreedLaw) (s : State) (claim : Key) (status : ClaimStatus) (c : ClaimState) (f : Failure) → at_key s.claims claim ≡ Some c → failing_status s claim status ≡ Some f
+pub status_says : (faults : FaultLaw) (only : OnlyLaw) (agreed : AgreedLaw) (s : State) (claim : Key) (status : ClaimStatus) (c : ClaimState) (f : Failure) → at_key s.claims claim ≡ Some c → failing_status s claim status ≡ Some f
     → GrantsSay s (record c.claim.object { key = claim } ∷ []) status.node (granted_by claim status ∷ []) f
 unfolding failing_status
-status_says faults agreed s claim status c f e g =
-    grants_say faults agreed s (record c.claim.object { key = claim } ∷ []) status.node (granted_by claim status ∷ []) f (sym (ap (failing_write s claim status) e) ∙ g)
+status_says faults only agreed s claim status c f e g =
+    grants_say faults only agreed s (record c.claim.object { key = claim } ∷ []) status.node (granted_by claim status ∷ []) f (sym (ap (failing_write s claim status) e) ∙ g)

@@ -19,20 +19,21 @@ use Rattle.cluster.specs.declared.failure.Failure.{Failure}
 use Rattle.cluster.specs.declared.failure.Failure.TheVariants as failure
 use Rattle.cluster.specs.declared.plan.DeviceResult.{DeviceResult}
 use Rattle.cluster.specs.declared.plan.Grant.{Grant}
-use Rattle.request_rules.specs.Asked.{Asked, match_at}
+use Rattle.request_rules.specs.Asked.{Asked, match_at, tolerated_at}
 use Rattle.request_rules.specs.Faults.{FaultPlace, IsFirstFault, fault_of}
 use Rattle.request_rules.specs.Input.{SearchInput}
 use Rattle.request_rules.specs.Joining.{seen_all}
 use Rattle.request_rules.specs.Lists.{Each, first_some, or_else}
 use Rattle.request_rules.specs.Rules.{Pick, device_draws, total, within}
 use Rattle.plan_check.specs.Chosen.{Due, asked_in, choice_of, due, due_for, dues, dues_for, dues_from, picks_of, place_of}
-use Rattle.plan_check.specs.Failing.{failing_in, failing_shaped, failing_standing}
-use Rattle.plan_check.specs.Says.{DeviceIsGone, IsBelow, IsBroken, IsFaulted, IsHeld, IsMisgranted, IsMisshapen, IsShort, IsUnmet}
+use Rattle.plan_check.specs.Failing.{failing_in, failing_shaped, failing_standing, failing_tolerated}
+use Rattle.plan_check.specs.Says.{DeviceIsGone, IsBelow, IsBroken, IsFaulted, IsHeld, IsMisgranted, IsMisshapen, IsShort, IsTainted, IsUnmet}
 use Rattle.plan_check.specs.Shaped.{is_shaped, misshapen, shape_from}
-use Rattle.plan_check.specs.Standing.{HeldPairs, agree, all_results, broken_by, constraint_broken, counter_short, device_gone, disagreed_from, held, held_behind, held_by, held_from, holder_of, is_no, is_off, is_short, is_unmet, selector_fault, selector_no, short_for, short_on, shortfall, taker_of, takes}
+use Rattle.plan_check.specs.Standing.{HeldPairs, agree, all_results, broken_by, constraint_broken, counter_short, device_gone, disagreed_from, held, held_behind, held_by, held_from, holder_of, is_no, is_off, is_short, is_unmet, is_untolerated, selector_fault, selector_no, short_for, short_on, shortfall, tainted, taker_of, takes}
 use Rattle.plan_check.proofs.Clearing.{holder_there}
 use Rattle.plan_check.proofs.Cuts.{AllShaped, results_for, shaped_all}
 use Rattle.plan_check.proofs.Elements.{Contains-from_get, each_join, each_to_map, found_at, get-from_contains, get-left, map-at}
+use Rattle.plan_check.proofs.Tolerating.{OnlyLaw, taint_of}
 use Rattle.plan_check.proofs.Tests.{equal_devices, found_parts, image_twice, is_false, left_of, right_of, same_from_device_eq, same_from_key_eq, some_is, truth_isnt}
 
 -- a law of `request_rules`
@@ -53,6 +54,7 @@ Tells w grants (failure.DeviceGone d) = DeviceIsGone w grants d
 Tells w grants (failure.Shape k) = IsMisshapen w grants k
 Tells w grants (failure.SelectorNo d) = IsUnmet w grants d
 Tells w grants (failure.SelectorFault d) = IsFaulted w grants d
+Tells w grants (failure.Tainted d) = IsTainted w grants d
 Tells w grants (failure.Held d k) = IsHeld w grants d k
 Tells w grants (failure.Counter c) = IsShort w grants c
 Tells w grants (failure.Constraint k n) = IsBroken w grants k n
@@ -180,6 +182,23 @@ fault_by law w grants f (Some p) e g = subst (Tells w grants) (some_is (failure.
 
 fault_tells : (law : FaultLaw) (w : SearchInput) (grants : List Grant) (f : Failure) → selector_fault w (choice_of w grants) ≡ Some f → Tells w grants f
 fault_tells law w grants f e = fault_by law w grants f (fault_of w (choice_of w grants)) refl e
+
+-- ---- taints
+
+taint_tells : (law : OnlyLaw) (w : SearchInput) (grants : List Grant) (f : Failure) → tainted w (dues w grants) ≡ Some f → Tells w grants f
+taint_tells law w grants f e =
+    let r = found_of (λ (d : Due). failure.Tainted d.result.device) (is_untolerated w) (dues w grants) f e in
+    let t = taint_of law w r.it.asked (place_of w r.it.result) (is_false (tolerated_at w r.it.asked.ask (place_of w r.it.result)) r.passes) in
+    subst (Tells w grants) r.is (record {
+      due = r.it;
+      granted = Contains-from_get (dues w grants) r.at r.it r.get;
+      device_is = refl;
+      offered = t.offered;
+      on_node = t.on_node;
+      taint = t.taint;
+      has = t.has;
+      untolerated = t.untolerated;
+    })
 
 -- ---- holders
 
@@ -402,17 +421,18 @@ broken_tells law w grants f e =
 
 -- ---- all of them
 
-pub grants_tell : (faults : FaultLaw) (agreed : AgreedLaw) (w : SearchInput) (grants : List Grant) (f : Failure) → failing_in w grants ≡ Some f → Tells w grants f
+pub grants_tell : (faults : FaultLaw) (only : OnlyLaw) (agreed : AgreedLaw) (w : SearchInput) (grants : List Grant) (f : Failure) → failing_in w grants ≡ Some f → Tells w grants f
 unfolding failing_in
-grants_tell faults agreed w grants f e =
+grants_tell faults only agreed w grants f e =
     let c = choice_of w grants in
     let ds = dues w grants in
     let ps = picks_of w grants in
     let T = Tells w grants f in
     either_by (device_gone w.devices grants) (or_else (misshapen w grants) (failing_shaped w c ds)) f T e (gone_tells w grants f)
     (λ gone e. either_by (misshapen w grants) (failing_shaped w c ds) f T e (shape_tells w grants f)
-    (λ shape e. either_by (selector_no w ds) (or_else (selector_fault w c) (failing_standing w ds)) f T e (unmet_tells w grants f)
-    (λ unmet e. either_by (selector_fault w c) (failing_standing w ds) f T e (fault_tells faults w grants f)
-    (λ fault e. either_by (held w.held ds) (or_else (counter_short w ps) (constraint_broken w ps)) f T e (held_tells w grants f (shaped_all w 0 w.claims grants shape))
+    (λ shape e. either_by (selector_no w ds) (or_else (selector_fault w c) (failing_tolerated w ds)) f T e (unmet_tells w grants f)
+    (λ unmet e. either_by (selector_fault w c) (failing_tolerated w ds) f T e (fault_tells faults w grants f)
+    (λ fault e. either_by (tainted w ds) (failing_standing w ds) f T e (taint_tells only w grants f)
+    (λ tolerated e. either_by (held w.held ds) (or_else (counter_short w ps) (constraint_broken w ps)) f T e (held_tells w grants f (shaped_all w 0 w.claims grants shape))
     (λ taken e. either_by (counter_short w ps) (constraint_broken w ps) f T e (short_tells w grants f)
-    (λ short e. broken_tells agreed w grants f e))))))
+    (λ short e. broken_tells agreed w grants f e)))))))

@@ -1,17 +1,15 @@
 -- Totals of what claims hold and of results have what each counter's check needs.
-use Rattle.std.proofs.Common.{ℕ, ℤ, zero, suc, ◌+◌, ◌<◌, ◌≡◌, ◌∙◌, ◌⊎◌, inl, inr, ⊎_elim, List, [], ◌∷◌, ◌++◌, Bool, true, false, not, ◌&&◌, ◌||◌, cond, Option, None, Some, find, length, map, refl, sym, ap, subst, arith, append_assoc, append-nil}
-use Rattle.std.specs.List.{AllByRecursion, Contains, flat_map, list_any, slice_get, sum_by}
-use Rattle.std.specs.Cmp.Lexicographic.{same_text}
+use Rattle.std.proofs.Common.{ℕ, zero, suc, ◌+◌, ◌<◌, ◌≡◌, ◌∙◌, List, [], ◌∷◌, ◌++◌, Bool, true, false, not, ◌&&◌, ◌||◌, cond, Option, None, Some, find, length, map, refl, sym, ap, subst, arith, append_assoc, append-nil}
+use Rattle.std.specs.List.{Contains, flat_map, list_any, slice_get, sum_by}
 use Rattle.std.specs.Option.{option_map}
-use Rattle.std.proofs.lemmas.List.Elements.{All-from_recursion, Contains-append_left, Contains-append_right}
+use Rattle.std.proofs.lemmas.List.Elements.{Contains-append_left, Contains-append_right}
 use Rattle.std.proofs.lemmas.List.Sums.{sum_by-cons}
 use Rattle.std.proofs.lemmas.Option.{slice_get_read}
 use Rattle.object_fields.specs.declared.key.DeviceId.{DeviceId}
 use Rattle.object_fields.specs.declared.key.Key.{Key}
 use Rattle.api_slice.specs.declared.types.CounterConsumption.{CounterConsumption}
-use Rattle.api_slice.specs.declared.types.ResourceSlice.{ResourceSlice}
 use Rattle.pool_view.specs.Differing.{offers, usable_devices}
-use Rattle.pool_view.specs.Names.{device_eq, text_eq}
+use Rattle.pool_view.specs.Names.{device_eq}
 use Rattle.pool_view.specs.Pools.{Offered, id_in, offered_by}
 use Rattle.pool_view.specs.Usable.{node_devices, usable_slices}
 use Rattle.pool_view.specs.Views.{position_from, position_of}
@@ -19,8 +17,8 @@ use Rattle.pool_view.specs.declared.inventory.Inventory.{Inventory}
 use Rattle.cluster.specs.declared.plan.DeviceResult.{DeviceResult}
 use Rattle.cluster.specs.declared.state.State.{State}
 use Rattle.cluster.specs.Held as cluster
-use Rattle.counter_sets.specs.Draws.{CounterId, Draw, counter_for, counter_value, draws_from, draws_of, drawn, drawn_from, natural, sets_for, value_in}
-use Rattle.counter_sets.specs.Totals.{Tabled, keeps}
+use Rattle.counter_sets.specs.Draws.{CounterId, Draw, draws_from, draws_of, drawn, drawn_from}
+use Rattle.counter_sets.specs.Totals.{KeptCounters}
 use Rattle.cluster.specs.declared.failure.Failure.{Failure}
 use Rattle.cluster.specs.declared.failure.Failure.TheVariants as failure
 use Rattle.request_rules.specs.Input.{SearchInput}
@@ -28,12 +26,12 @@ use Rattle.request_rules.specs.Lists.{Each, first_some, or_else}
 use Rattle.request_rules.specs.Rules.{Pick, amount, device_draws, draws, draws_by, total}
 use Rattle.request_rows.specs.Wanted as rows
 use Rattle.request_rows.specs.Wanted.{RowsFields}
-use Rattle.allocations.specs.Input.{input_of, value_among}
-use Rattle.node_search.specs.Apart.{AreListed, AreOne}
-use Rattle.node_search.specs.NodeTotals.{HaveDrawn}
+use Rattle.allocations.specs.Input.{input_of}
+use Rattle.node_search.specs.Apart.{AreListed}
+use Rattle.node_search.specs.Drawn.{AreDrawnByBoth}
 use Rattle.plan_check.specs.Chosen.{Due, pick_of, place_by}
 use Rattle.plan_check.specs.Rows as code
-use Rattle.plan_check.specs.Rows.{AreKept, AreRowsOf, DueFields, HasDrawn, IsDue, due_seen, pairs_of}
+use Rattle.plan_check.specs.Rows.{AreRowsOf, DueFields, HasDrawn, IsDue, due_seen, pairs_of}
 use Rattle.plan_check.specs.Shaped.{is_nil}
 use Rattle.plan_check.specs.Standing.{counter_short, held, held_behind, held_by, held_from, holder_of, is_short, short_for, short_on, shortfall, taker_of}
 use Rattle.plan_check.proofs.Alike.{picks_same}
@@ -137,58 +135,6 @@ drawing i v w c d same listed ids h =
           (device_at v w d at.device same h (ap (slice_get v.devices) (omega (arith, at.sum)) ∙ at.at));
     }
 
--- ---- the values of counters
-
-none_first : {X : Type 0} (f : X → Option ℕ) (xs : List X) → ((i : ℕ) (x : X) → slice_get xs i ≡ Some x → (f x ≡ None) ⊎ (f x ≡ None)) → first_some f xs ≡ None
-none_first f [] h = refl
-none_first f (x ∷ xs) h =
-    ap (λ (o : Option ℕ). or_else o (first_some f xs)) (⊎_elim (λ (e : f x ≡ None). e) (λ (e : f x ≡ None). e) (h 0 x refl)) ∙ none_first f xs (λ i y e. h (suc i) y e)
-
-some_first : {X : Type 0} (f : X → Option ℕ) (n : ℕ) (xs : List X) (j : ℕ) (y : X) → ((i : ℕ) (x : X) → slice_get xs i ≡ Some x → (f x ≡ None) ⊎ (f x ≡ Some n)) → slice_get xs j ≡ Some y → f y ≡ Some n → first_some f xs ≡ Some n
-some_first f n [] j y h at e = absurd (cc)
-some_first f n (x ∷ xs) zero y h at e =
-    let same : x ≡ y = cc in
-    ap (λ (o : Option ℕ). or_else o (first_some f xs)) (ap f same ∙ e)
-some_first f n (x ∷ xs) (suc j) y h at e =
-    ⊎_elim
-    (λ (none : f x ≡ None). ap (λ (o : Option ℕ). or_else o (first_some f xs)) none ∙ some_first f n xs j y (λ i z g. h (suc i) z g) at e)
-    (λ (some : f x ≡ Some n). ap (λ (o : Option ℕ). or_else o (first_some f xs)) some)
-    (h 0 x refl)
-
-first_is : {X : Type 0} (f : X → Option ℕ) (v : Option ℕ) (xs : List X) (j : ℕ) (y : X) → ((i : ℕ) (x : X) → slice_get xs i ≡ Some x → (f x ≡ None) ⊎ (f x ≡ v)) → slice_get xs j ≡ Some y → f y ≡ v → first_some f xs ≡ v
-first_is f None xs j y h at e = none_first f xs h
-first_is f (Some n) xs j y h at e = some_first f n xs j y h at e
-
-all_joined : {X : Type 0} (P : X → Type 0) (xs ys : List X) → AllByRecursion P xs → AllByRecursion P ys → AllByRecursion P (xs ++ ys)
-all_joined P [] ys h k = k
-all_joined P (x ∷ xs) ys h k = (h.0, all_joined P xs ys h.1 k)
-
-all_in : {X : Type 0} (P : X → Type 0) (xs : List X) (x : X) → AllByRecursion P xs → Contains xs x → P x
-all_in P xs x h i = subst P i.2 (All-from_recursion P xs h i.0 x i.1)
-
-amounts_own : (x : ResourceSlice) (set : List ℕ) (es : List (List ℕ × ℤ)) → AllByRecursion (λ (d : Draw). d.counter.slice ≡ x.name) (map (λ e. record { counter = counter_for x set e.0; amount = natural e.1 }) es)
-amounts_own x set [] = tt
-amounts_own x set (e ∷ es) = (refl, amounts_own x set es)
-
-draws_own : (x : ResourceSlice) (ks : List CounterConsumption) → AllByRecursion (λ (d : Draw). d.counter.slice ≡ x.name) (flat_map (draws_from x) ks)
-draws_own x [] = tt
-draws_own x (k ∷ ks) = all_joined (λ (d : Draw). d.counter.slice ≡ x.name) (draws_from x k) (flat_map (draws_from x) ks) (amounts_own x k.set k.amounts) (draws_own x ks)
-
--- a device draws from counters of its slice
-own_counter : (o : Offered) (d : Draw) → Contains (draws_of o) d → d.counter.slice ≡ o.slice.name
-unfolding draws_of
-own_counter o d h = all_in (λ (e : Draw). e.counter.slice ≡ o.slice.name) (draws_of o) d (draws_own o.slice o.device.consumes) h
-
-value_by : (x y : ResourceSlice) (c : CounterId) (b : Bool) → text_eq x.name c.slice ≡ b → c.slice ≡ y.name → (x.name ≡ y.name → x ≡ y) → (counter_value x c ≡ None) ⊎ (counter_value x c ≡ counter_value y c)
-unfolding counter_value
-value_by x y c true e own one = let same : x ≡ y = one (same_text x.name c.slice (sym e) ∙ own) in inr (ap (λ z. counter_value z c) same)
-value_by x y c false e own one = inl (ap (λ (t : Bool). cond t (value_in (sets_for x) c.set c.counter) None) e)
-
-value_is : (xs : List ResourceSlice) (y : ResourceSlice) (c : CounterId) → Contains xs y → c.slice ≡ y.name → AreOne xs → value_among xs c ≡ counter_value y c
-value_is xs y c there own one =
-    first_is (λ x. counter_value x c) (counter_value y c) xs there.0 y
-    (λ i x e. value_by x y c (text_eq x.name c.slice) refl own (λ same. one.same x y (in_list xs i x e) there same)) (at_place xs y there) refl
-
 -- ---- all of it
 
 drawing_at : (i : Inventory) (v w : SearchInput) (c : CounterId) (ds : List DueFields) → w.devices ≡ v.devices → AreListed v.devices (usable_slices i) → IdsDiffer i → Each (IsDue v) ds → (j : ℕ) (d : Due) → slice_get (map (due_seen v) ds) j ≡ Some d → Drawing i w c d
@@ -222,43 +168,35 @@ results_sum i v w c ds pairs same listed ids each free =
     let none : drawn (usable_slices i) [] c ≡ 0 = drawn_none i c in
     omega (arith, whole, none)
 
-pub has_drawn : (s : State) (node : List ℕ) (r : RowsFields) (totals : Tabled (Tabled (Tabled ℕ))) (ds : List DueFields) → AreRowsOf s node r → Each (IsDue (rows.input_of r)) ds
+pub has_drawn : (s : State) (node : List ℕ) (r : RowsFields) (totals : KeptCounters) (ds : List DueFields) → AreRowsOf s node r → Each (IsDue (rows.input_of r)) ds
     → held (cluster.held s) (map (due_seen (rows.input_of r)) ds) ≡ None
-    → HaveDrawn totals r.devices (usable_slices s.inventory) (cluster.held s) (pairs_of (map (due_seen (rows.input_of r)) ds))
-    → AreOne (usable_slices s.inventory) → AreListed (node_devices s.inventory node) (usable_slices s.inventory) → IdsDiffer s.inventory
+    → AreDrawnByBoth s.inventory (cluster.held s) (pairs_of (map (due_seen (rows.input_of r)) ds)) totals
+    → AreListed (node_devices s.inventory node) (usable_slices s.inventory) → IdsDiffer s.inventory
     → HasDrawn (rows.input_of r) (input_of s r.wants.claims node) totals (map (pick_of (input_of s r.wants.claims node)) (map (due_seen (rows.input_of r)) ds))
 unfolding input_of total
-has_drawn s node r totals ds are each free t one listed ids =
+has_drawn s node r totals ds are each free t listed ids =
     let w : SearchInput = input_of s r.wants.claims node in
     let v : SearchInput = rows.input_of r in
     let same : w.devices ≡ v.devices = sym are.devices in
     record {
       devices = same;
-      counters = λ j o at. record {
-        values = λ d h. value_is (usable_slices s.inventory) o.slice d.counter (listed.in_slices j o at) (own_counter o d h) one;
-      };
-      drawn = λ j o d at own.
-          t.drawn_is j o d (ap (λ (l : List Offered). slice_get l j) are.devices ∙ at) own
-          ∙ ap (λ (n : ℕ). drawn (usable_slices s.inventory) (cluster.held s) d.counter + n)
-          (results_sum s.inventory v w d.counter ds (cluster.held s) same (subst (λ l. AreListed l (usable_slices s.inventory)) (sym are.devices) listed) ids each free);
-      most = λ j o d at own. t.most j o d (ap (λ (l : List Offered). slice_get l j) are.devices ∙ at) own;
+      value = λ c. t.value_is c;
+      drawn = λ c.
+          t.drawn_is c
+          ∙ ap (λ (n : ℕ). drawn (usable_slices s.inventory) (cluster.held s) c + n)
+          (results_sum s.inventory v w c ds (cluster.held s) same (subst (λ l. AreListed l (usable_slices s.inventory)) (sym are.devices) listed) ids each free);
+      most = λ c. t.most c;
     }
 
 -- ---- as the code has them
 
-pub drawn_are : (s : State) (i j : Inventory) (node : List ℕ) (r : RowsFields) (totals : Tabled (Tabled (Tabled ℕ))) (ds : List DueFields) → i ≡ s.inventory → j ≡ s.inventory → AreRowsOf s node r → Each (IsDue (rows.input_of r)) ds
+pub drawn_are : (s : State) (j : Inventory) (node : List ℕ) (r : RowsFields) (totals : KeptCounters) (ds : List DueFields) → j ≡ s.inventory → AreRowsOf s node r → Each (IsDue (rows.input_of r)) ds
     → held (cluster.held s) (map (due_seen (rows.input_of r)) ds) ≡ None
-    → HaveDrawn totals r.devices (usable_slices s.inventory) (cluster.held s) (pairs_of (map (due_seen (rows.input_of r)) ds))
-    → AreOne (usable_slices i) → AreListed (node_devices j node) (usable_slices j) → IdsDiffer s.inventory
+    → AreDrawnByBoth s.inventory (cluster.held s) (pairs_of (map (due_seen (rows.input_of r)) ds)) totals
+    → AreListed (node_devices j node) (usable_slices j) → IdsDiffer s.inventory
     → HasDrawn (rows.input_of r) (input_of s r.wants.claims node) totals (map (pick_of (input_of s r.wants.claims node)) (map (due_seen (rows.input_of r)) ds))
-drawn_are s i j node r totals ds e f are each free t one listed ids =
-    has_drawn s node r totals ds are each free t (subst (λ (k : Inventory). AreOne (usable_slices k)) e one) (subst (λ (k : Inventory). AreListed (node_devices k node) (usable_slices k)) f listed) ids
-
-pub totals_are : (s : State) (i : Inventory) (t : Tabled (Tabled (Tabled ℕ))) (os qs : List Offered) (pairs others : List (DeviceId × Key)) → i ≡ s.inventory → os ≡ qs → HaveDrawn t os (usable_slices i) pairs others → HaveDrawn t qs (usable_slices s.inventory) pairs others
-totals_are s i t os qs pairs others e f h = subst (λ (j : Inventory). HaveDrawn t qs (usable_slices j) pairs others) e (subst (λ (l : List Offered). HaveDrawn t l (usable_slices i) pairs others) f h)
-
-pub kept_are : (r : RowsFields) (t : Tabled (Tabled (Tabled ℕ))) (os : List Offered) → os ≡ r.devices → Each (λ (o : Offered). (c : CounterId) → keeps t c ≡ false → drawn_from c o ≡ 0) os → AreKept (rows.input_of r) t
-kept_are r t os e h = subst (λ (l : List Offered). Each (λ (o : Offered). (c : CounterId) → keeps t c ≡ false → drawn_from c o ≡ 0) l) e h
+drawn_are s j node r totals ds f are each free t listed ids =
+    has_drawn s node r totals ds are each free t (subst (λ (k : Inventory). AreListed (node_devices k node) (usable_slices k)) f listed) ids
 
 -- ---- none draws on a counter
 

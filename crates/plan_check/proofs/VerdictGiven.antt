@@ -25,6 +25,7 @@ use Rattle.plan_check.specs.Fits.{FitsPod, IsAsKnown}
 use Rattle.plan_check.specs.Known.{changed, claim_changed, claim_full, claim_gone, is_changed, is_full, is_gone, is_known, is_other, pod_changed, same_node}
 use Rattle.plan_check.proofs.Allocated.{KeepLaw, allocation_of}
 use Rattle.plan_check.proofs.Elements.{found_none, get-from_contains}
+use Rattle.plan_check.proofs.Tolerating.{FitLaw}
 use Rattle.plan_check.proofs.Tests.{both_none, cond_parts, is_true, left_of, no_image, number_is, right_of, same_from_text_eq}
 
 -- ---- the node and the grants
@@ -37,11 +38,11 @@ unless : (b : Bool) (f : Failure) → cond b (Some f) None ≡ None → b ≡ fa
 unless true f e = absurd (cc)
 unless false f e = refl
 
-pub allocation_at : (law : KeepLaw) (s : State) (claims : List ResourceClaim) (node : List ℕ) (grants : List Grant) → failing_at s claims node grants ≡ None → (choice : List ℕ) × IsAllocation s claims node choice grants
+pub allocation_at : (law : KeepLaw) (fit : FitLaw) (s : State) (claims : List ResourceClaim) (node : List ℕ) (grants : List Grant) → failing_at s claims node grants ≡ None → (choice : List ℕ) × IsAllocation s claims node choice grants
 unfolding failing_at
-allocation_at law s claims node grants e =
+allocation_at law fit s claims node grants e =
     let p = both_none (node_gone s node) (failing_in (input_of s claims node) grants) e in
-    let r = allocation_of law (input_of s claims node) grants p.1 in (
+    let r = allocation_of law fit (input_of s claims node) grants p.1 in (
       choice_of (input_of s claims node) grants,
       record {
         node_known = there_by (at_name s.inventory.nodes node) (unless (is_none (at_name s.inventory.nodes node)) (failure.NodeGone node) p.0);
@@ -82,12 +83,12 @@ unfailing s pod plan e =
 same_pod : (s : State) (pod : Key) (p q : PodState) → at_key s.pods pod ≡ Some p → at_key s.pods pod ≡ Some q → p ≡ q
 same_pod s pod p q e f = cc
 
-pub plan_allocates : (law : KeepLaw) (s : State) (pod : Key) (plan : Plan) (p : PodState) → at_key s.pods pod ≡ Some p → failing s pod plan ≡ None
+pub plan_allocates : (law : KeepLaw) (fit : FitLaw) (s : State) (pod : Key) (plan : Plan) (p : PodState) → at_key s.pods pod ≡ Some p → failing s pod plan ≡ None
     → (choice : List ℕ) × IsAllocation s (wanted s p.pod.object) plan.node choice plan.grants
-plan_allocates law s pod plan p e f =
+plan_allocates law fit s pod plan p e f =
     let r = unfailing s pod plan f in
     let g = subst (λ (q : PodState). failing_at s (wanted s q.pod.object) plan.node plan.grants ≡ None) (same_pod s pod r.0 p r.1 e) r.2.grants in
-    allocation_at law s (wanted s p.pod.object) plan.node plan.grants g
+    allocation_at law fit s (wanted s p.pod.object) plan.node plan.grants g
 
 -- ---- what the plan knew
 
@@ -131,9 +132,9 @@ plan_fits s pod plan e = let r = unfailing s pod plan e in (r.0, fits_by s pod r
 
 -- ---- status writes
 
-pub status_allocates : (law : KeepLaw) (s : State) (claim : Key) (status : ClaimStatus) (c : ClaimState) → at_key s.claims claim ≡ Some c → failing_status s claim status ≡ None
+pub status_allocates : (law : KeepLaw) (fit : FitLaw) (s : State) (claim : Key) (status : ClaimStatus) (c : ClaimState) → at_key s.claims claim ≡ Some c → failing_status s claim status ≡ None
     → (choice : List ℕ) × IsAllocation s (record c.claim.object { key = claim } ∷ []) status.node choice (granted_by claim status ∷ [])
 unfolding failing_status
-status_allocates law s claim status c e f =
-    allocation_at law s (record c.claim.object { key = claim } ∷ []) status.node (granted_by claim status ∷ [])
+status_allocates law fit s claim status c e f =
+    allocation_at law fit s (record c.claim.object { key = claim } ∷ []) status.node (granted_by claim status ∷ [])
     (sym (ap (failing_write s claim status) e) ∙ f)

@@ -18,19 +18,23 @@ use Rattle.request_rules.specs.Lists.{or_else}
 use Rattle.plan_check.specs.Chosen.{Due, choice_of, dues, pick_of}
 use Rattle.plan_check.specs.Known.{changed, claim_full, claim_gone}
 use Rattle.plan_check.specs.Shaped.{misshapen}
-use Rattle.plan_check.specs.Standing.{constraint_broken, counter_short, device_gone, held, selector_fault, selector_no}
+use Rattle.plan_check.specs.Standing.{constraint_broken, counter_short, device_gone, held, selector_fault, selector_no, tainted}
 use Rattle.cluster.specs.declared.failure.Failure.{Failure}
 use Rattle.cluster.specs.declared.failure.Failure.TheVariants.{ClaimChanged, NodeGone}
 
--- the first failure of results that meet their requests
+-- the first failure of results that meet their requests, which tolerate their devices' taints
 abbrev pub failing_standing : SearchInput → List Due → Option Failure
 failing_standing w ds =
     or_else (held w.held ds)
     (or_else (counter_short w (map (pick_of w) ds)) (constraint_broken w (map (pick_of w) ds)))
 
+-- the first failure of results that meet their requests
+abbrev pub failing_tolerated : SearchInput → List Due → Option Failure
+failing_tolerated w ds = or_else (tainted w ds) (failing_standing w ds)
+
 -- the first failure of results of the right shape, whose devices are the node's
 abbrev pub failing_shaped : SearchInput → List ℕ → List Due → Option Failure
-failing_shaped w choice ds = or_else (selector_no w ds) (or_else (selector_fault w choice) (failing_standing w ds))
+failing_shaped w choice ds = or_else (selector_no w ds) (or_else (selector_fault w choice) (failing_tolerated w ds))
 
 -- the first failure of the grants on a node that exists
 unfoldable pub failing_in : SearchInput → List Grant → Option Failure

@@ -1,5 +1,5 @@
 -- Results by rows.
-use Rattle.std.specs.Prelude.{ℕ, ◌+◌, ◌<◌, ◌≤◌, ◌≡◌, List, [], ◌∷◌, ◌++◌, Bool, false, not, slice_get, nat_eq, ◌&&◌, ◌==◌, Option, None, Some, Contains, map, length, drop, take, if◌then◌else◌}
+use Rattle.std.specs.Prelude.{ℕ, ◌+◌, ◌<◌, ◌≤◌, ◌≡◌, List, [], ◌∷◌, ◌++◌, Bool, false, not, slice_get, nat_eq, ◌&&◌, ◌==◌, Option, None, Some, map, length, drop, take, if◌then◌else◌}
 use Rattle.object_fields.specs.declared.key.DeviceId.{DeviceId}
 use Rattle.object_fields.specs.declared.key.Key.{Key}
 use Rattle.std.specs.Cmp.Lexicographic.{pointwise}
@@ -12,10 +12,10 @@ use Rattle.pool_view.specs.Views.{ViewFields}
 use Rattle.request_rows.specs.Wanted.{RowsFields}
 use Rattle.cluster.specs.declared.state.State.{State}
 use Rattle.cluster.specs.declared.plan.DeviceResult.{DeviceResult}
-use Rattle.counter_sets.specs.Draws.{CounterId, Draw, drawn_from, draws_of}
-use Rattle.counter_sets.specs.Totals.{Tabled, drawn_in, keeps, sum_most}
+use Rattle.counter_sets.specs.Draws.{CounterId}
+use Rattle.counter_sets.specs.Totals.{KeptCounters, drawn_in, sum_most, value_of}
 use Rattle.constraints.specs.Agreeing as agreeing
-use Rattle.request_rules.specs.Joining.{HasItsCounters, seen_some}
+use Rattle.request_rules.specs.Joining.{seen_some}
 use Rattle.request_rules.specs.Rules.{Pick, total}
 use Rattle.counter_sets.specs.Holding.{Holders, holder_in}
 use Rattle.request_rules.specs.Asked.{Asked, Wish}
@@ -130,16 +130,12 @@ held_among holders own d = if d.result.admin then None else held_by d (or_else (
 
 -- ---- counters
 
--- each counter that one of the devices draws from is kept
-abbrev pub AreKept : SearchInput → Tabled (Tabled (Tabled ℕ)) → Type 0
-AreKept w totals = Each (λ o. (c : CounterId) → keeps totals c ≡ false → drawn_from c o ≡ 0) w.devices
-
--- The totals have what the held devices and the results draw, of each counter that one of the devices draws from.
-pub record HasDrawn (v w : SearchInput) (totals : Tabled (Tabled (Tabled ℕ))) (ps : List Pick) : Type 0 where
+-- The totals have the value of each counter, and what the held devices and the results draw from it.
+pub record HasDrawn (v w : SearchInput) (totals : KeptCounters) (ps : List Pick) : Type 0 where
   pub devices : w.devices ≡ v.devices
-  pub counters : Each (HasItsCounters w) w.devices
-  pub drawn : (i : ℕ) (o : Offered) (d : Draw) → slice_get w.devices i ≡ Some o → Contains (draws_of o) d → drawn_in totals d.counter ≡ total w d.counter ps
-  pub most : (i : ℕ) (o : Offered) (d : Draw) → slice_get w.devices i ≡ Some o → Contains (draws_of o) d → drawn_in totals d.counter ≤ sum_most
+  pub value : (c : CounterId) → value_of totals c ≡ w.value c
+  pub drawn : (c : CounterId) → drawn_in totals c ≡ total w c ps
+  pub most : (c : CounterId) → drawn_in totals c ≤ sum_most
 
 -- the device lists counters from which it draws
 abbrev pub draws_by : Option Offered → Bool

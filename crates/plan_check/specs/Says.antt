@@ -6,6 +6,8 @@ use Rattle.api_claim.specs.declared.types.DeviceConstraint.{DeviceConstraint}
 use Rattle.api_claim.specs.declared.types.ResourceClaim.{ResourceClaim}
 use Rattle.constraints.specs.Keeping.{KeepsConstraint}
 use Rattle.counter_sets.specs.Draws.{Draw}
+use Rattle.device_taints.specs.Tolerating.{IsTolerated}
+use Rattle.device_taints.specs.declared.types.Taint.{Taint}
 use Rattle.device_match.specs.declared.matching.Match.TheVariants.{No}
 use Rattle.pool_view.specs.Names.{at_key, at_name, key_eq}
 use Rattle.pool_view.specs.Pools.{Offered, id_in}
@@ -108,6 +110,17 @@ pub record IsFaulted (w : SearchInput) (grants : List Grant) (device : DeviceId)
   pub first : IsFirstFault w (choice_of w grants) fault
   pub device_is : fault.device ≡ device
 
+-- the device is granted for a request that doesn't tolerate one of its taints
+pub record IsTainted (w : SearchInput) (grants : List Grant) (device : DeviceId) : Type 0 where
+  pub due : Due
+  pub granted : Contains (dues w grants) due
+  pub device_is : due.result.device ≡ device
+  pub offered : Offered
+  pub on_node : slice_get w.devices (place_of w due.result) ≡ Some offered
+  pub taint : Taint
+  pub has : Contains offered.device.taints taint
+  pub untolerated : IsTolerated due.asked.ask.tolerations taint → ⊥
+
 -- a grant of the claim has the device without admin access
 pub record IsGiven (grants : List Grant) (device : DeviceId) (claim : Key) : Type 0 where
   pub grant : Grant
@@ -163,6 +176,7 @@ GrantsSay s claims node grants (failure.DeviceGone d) = DeviceIsGone (input_of s
 GrantsSay s claims node grants (failure.Shape k) = IsMisshapen (input_of s claims node) grants k
 GrantsSay s claims node grants (failure.SelectorNo d) = IsUnmet (input_of s claims node) grants d
 GrantsSay s claims node grants (failure.SelectorFault d) = IsFaulted (input_of s claims node) grants d
+GrantsSay s claims node grants (failure.Tainted d) = IsTainted (input_of s claims node) grants d
 GrantsSay s claims node grants (failure.Held d k) = IsHeld (input_of s claims node) grants d k
 GrantsSay s claims node grants (failure.Counter c) = IsShort (input_of s claims node) grants c
 GrantsSay s claims node grants (failure.Constraint k n) = IsBroken (input_of s claims node) grants k n
@@ -183,6 +197,7 @@ PlanSays s pod plan (failure.DeviceGone d) = PodSays s pod plan (failure.DeviceG
 PlanSays s pod plan (failure.Shape k) = PodSays s pod plan (failure.Shape k)
 PlanSays s pod plan (failure.SelectorNo d) = PodSays s pod plan (failure.SelectorNo d)
 PlanSays s pod plan (failure.SelectorFault d) = PodSays s pod plan (failure.SelectorFault d)
+PlanSays s pod plan (failure.Tainted d) = PodSays s pod plan (failure.Tainted d)
 PlanSays s pod plan (failure.Held d k) = PodSays s pod plan (failure.Held d k)
 PlanSays s pod plan (failure.Counter c) = PodSays s pod plan (failure.Counter c)
 PlanSays s pod plan (failure.Constraint k n) = PodSays s pod plan (failure.Constraint k n)

@@ -15,7 +15,7 @@ use Rattle.constraints.specs.Agreeing.{each_agrees}
 use Rattle.counter_sets.specs.Draws.{CounterId, Draw}
 use Rattle.cluster.specs.declared.plan.DeviceResult.{DeviceResult}
 use Rattle.cluster.specs.declared.plan.Grant.{Grant}
-use Rattle.request_rules.specs.Asked.{match_at}
+use Rattle.request_rules.specs.Asked.{match_at, tolerated_at}
 use Rattle.request_rules.specs.Faults.{fault_of}
 use Rattle.request_rules.specs.Input.{SearchInput}
 use Rattle.request_rules.specs.Joining.{seen_all}
@@ -55,6 +55,15 @@ selector_no w ds = option_map (λ d. failure.SelectorNo d.result.device) (find (
 -- the device of the first request of the choice that has an evaluation error, on which it has it first
 abbrev pub selector_fault : SearchInput → List ℕ → Option Failure
 selector_fault w choice = option_map (λ f. failure.SelectorFault f.device) (fault_of w choice)
+
+-- ---- taints
+
+abbrev pub is_untolerated : SearchInput → Due → Bool
+is_untolerated w d = not (tolerated_at w d.asked.ask (place_of w d.result))
+
+-- the first result whose device has a taint that its request doesn't tolerate
+abbrev pub tainted : SearchInput → List Due → Option Failure
+tainted w ds = option_map (λ d. failure.Tainted d.result.device) (find (is_untolerated w) ds)
 
 -- ---- holders
 

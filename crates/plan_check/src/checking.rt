@@ -3,13 +3,12 @@ ghost use Rattle.counter_sets.specs.Holding.{AreHeld};
 ghost use Rattle.allocations.specs.Input.{input_of};
 ghost use Rattle.cluster.specs.Held.{held};
 ghost use Rattle.pool_view.specs.Names.{at_key};
-ghost use Rattle.pool_view.specs.Usable.{usable_slices};
 ghost use Rattle.request_rules.specs.Lists.{Each};
-ghost use Rattle.node_search.specs.NodeTotals.{HaveDrawn};
+ghost use Rattle.node_search.specs.Drawn.{AreDrawnByBoth};
 ghost use Rattle.request_rows.specs.Wanted as wanting;
 ghost use Rattle.plan_check.specs.Failing as spec;
 ghost use Rattle.plan_check.specs.Chosen.{pick_of};
-ghost use Rattle.plan_check.specs.Rows.{AreByClaim, AreKept, AreRowsOf, IsDue, IsViewOf, due_seen, pairs_of};
+ghost use Rattle.plan_check.specs.Rows.{AreByClaim, AreRowsOf, IsDue, IsViewOf, due_seen, pairs_of};
 ghost use Rattle.plan_check.specs.Standing as standing;
 
 use crate::agreeing::constraint_broken;
@@ -18,43 +17,39 @@ use crate::due::Due;
 use crate::holding::{held, put_all};
 use crate::known::{changed, claim_full, claim_gone};
 use crate::naming::Named;
-use crate::results::{device_gone, selector_fault, selector_no};
+use crate::results::{device_gone, selector_fault, selector_no, tainted};
 use crate::shape::misshapen;
 use api_claim::ClaimStatus;
 use cluster::{DeviceResult, Failure, Grant, Plan, PodState, State};
 use counter_sets::{Held, Totals};
 use dra_values::{Seq, Text};
-use node_search::{devices_differ, slices_differ, totals_at_node, wanted_claims};
+use node_search::{devices_differ, totals_of_both, wanted_claims};
 use object_fields::Key;
 use pool_view::{PoolView, usable_slices_differ};
 use ready_objects::ReadyClaim;
 use request_rows::{Rows, WantedClaim, Wants};
 use std::alloc::{AllocError, Global};
 
-/// The counters of the slices that the node's devices are of, with what is drawn by the devices of these
-/// slices that claims hold, and by those of the results, which nobody holds.
+/// The counters of the usable pools, with what is drawn by the devices that claims hold, and by those of the
+/// results, which nobody holds.
 fn totals_with<'a>(
     alloc: Global,
     state: &State,
     holders: &Held,
     rows: &'a Rows<'a>,
-    node: &Text,
     dues: &[Due],
 ) -> Result<Totals, AllocError>
     requires holders { AreHeld holders.now (held state.now) }
-    requires rows { AreRowsOf state.now node.now rows.now }
     requires free { standing.held (held state.now) (map (due_seen (wanting.input_of rows.now)) dues.now) ≡ None }
-    ensures kept { IfOk result (λ totals. AreKept (wanting.input_of rows.now) totals) }
-    ensures drawn { IfOk result (λ totals. HaveDrawn totals rows.now.devices (usable_slices state.now.inventory) (held state.now) (pairs_of (map (due_seen (wanting.input_of rows.now)) dues.now))) }
+    ensures { IfOk result (AreDrawnByBoth state.now.inventory (held state.now) (pairs_of (map (due_seen (wanting.input_of rows.now)) dues.now))) }
 {
     let mut own = Held::new(alloc);
     put_all(alloc, &mut own, dues)?;
-    let devices = rows.devices();
-    totals_at_node(alloc, &state.inventory, node, devices, holders, &own)
+    totals_of_both(alloc, &state.inventory, holders, &own)
 }
 
 /// The first counter that doesn't have enough for the results, whose devices nobody holds. If one of them
-/// draws on a counter, it takes a pass over the devices of the slices that the node's devices are of.
+/// draws on a counter, it takes two passes over the slices of usable pools that counters are about.
 fn failing_counters<'a>(
     alloc: Global,
     state: &State,
@@ -74,14 +69,13 @@ fn failing_counters<'a>(
         return Ok(None);
     }
     usable_slices_differ();
-    slices_differ(&state.inventory);
     devices_differ(&state.inventory, node);
-    let mut totals = totals_with(alloc, state, holders, rows, node, dues)?;
+    let mut totals = totals_with(alloc, state, holders, rows, dues)?;
     counter_short(alloc, rows, &mut totals, dues)
 }
 
-/// The first failure of results which meet their requests: a holder, a counter, or a
-/// constraint.
+/// The first failure of results which meet their requests, which tolerate their devices' taints: a holder,
+/// a counter, or a constraint.
 fn failing_held<'a>(
     alloc: Global,
     state: &State,
@@ -105,6 +99,29 @@ fn failing_held<'a>(
         return Ok(Some(found));
     }
     constraint_broken(alloc, rows, claims, dues)
+}
+
+/// The first failure of results which meet their requests: a taint, or what comes after the taints.
+fn failing_tolerated<'a>(
+    alloc: Global,
+    state: &State,
+    holders: &Held,
+    rows: &'a Rows<'a>,
+    node: &Text,
+    claims: &'a [WantedClaim<'a>],
+    dues: &[Due],
+) -> Result<Option<Failure>, AllocError>
+    requires holders { AreHeld holders.now (held state.now) }
+    requires rows { AreRowsOf state.now node.now rows.now }
+    requires claims { claims.now ≡ rows.now.wants.claims }
+    requires dues { Each (IsDue (wanting.input_of rows.now)) dues.now }
+    requires in_order { AreByClaim 0 (map (due_seen (wanting.input_of rows.now)) dues.now) }
+    ensures { IfOk result (λ found. found ≡ spec.failing_tolerated (input_of state.now rows.now.wants.claims node.now) (map (due_seen (wanting.input_of rows.now)) dues.now)) }
+{
+    if let Some(found) = tainted(alloc, rows, dues)? {
+        return Ok(Some(found));
+    }
+    failing_held(alloc, state, holders, rows, node, claims, dues)
 }
 
 /// The first failure of results of the right shape.
@@ -131,7 +148,7 @@ fn failing_shaped<'a>(
     if let Some(found) = selector_fault(alloc, rows, choice)? {
         return Ok(Some(found));
     }
-    failing_held(alloc, state, holders, rows, node, claims, dues)
+    failing_tolerated(alloc, state, holders, rows, node, claims, dues)
 }
 
 /// The first failure of grants whose devices are the node's.
@@ -244,11 +261,11 @@ fn failing_for(
 ///
 /// It is one of a claim that is gone, changed, or full, of the claims that the plan knew; the node that
 /// is gone; a device that isn't the node's; results that aren't of the shape that their claim asks for;
-/// a device that doesn't meet its request, or on which a selector has an evaluation error; a device that is held;
-/// a counter without enough; or a constraint that the results don't keep, in this order. A pod that
-/// doesn't exist is changed. It takes one pass over the devices of the node and the results, and one over
-/// the devices of the slices that the node's devices are of only if a result draws on a counter.
-/// `AllocError` only if memory runs out.
+/// a device that doesn't meet its request, or on which a selector has an evaluation error; a device with a
+/// taint that its request doesn't tolerate; a device that is held; a counter without enough; or a constraint
+/// that the results don't keep, in this order. A pod that doesn't exist is changed. It takes one pass over
+/// the devices of the node and the results, and, only if a result draws on a counter, two over the slices of
+/// usable pools that have counter sets or devices that draw from some. `AllocError` only if memory runs out.
 pub fn check(
     alloc: Global,
     state: &State,

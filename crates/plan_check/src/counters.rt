@@ -1,14 +1,12 @@
 //! Whether counters have enough for what results draw.
 
 ghost use Rattle.std.specs.Prelude.{◌≡◌, ℕ, List, None, Some, false, IfOk, map, option_map, slice_get};
-ghost use Rattle.counter_sets.specs.Draws.{CounterId};
-ghost use Rattle.counter_sets.specs.Totals.{keeps};
 ghost use Rattle.request_rules.specs.Input.{SearchInput};
 ghost use Rattle.request_rules.specs.Lists.{Each};
 ghost use Rattle.request_rules.specs.Rules.{Pick};
 ghost use Rattle.request_rows.specs.Wanted.{input_of};
 ghost use Rattle.plan_check.specs.Chosen.{pick_of};
-ghost use Rattle.plan_check.specs.Rows.{AreKept, HasDrawn, IsDue, draws_any, draws_one, due_seen};
+ghost use Rattle.plan_check.specs.Rows.{HasDrawn, IsDue, draws_any, draws_one, due_seen};
 ghost use Rattle.plan_check.specs.Standing as spec;
 
 use crate::due::Due;
@@ -42,9 +40,7 @@ pub fn draws_any(rows: &Rows, dues: &[Due]) -> bool
 /// The first counter of a device that doesn't cover what is drawn from it with all results, among which the
 /// device's is. The totals have what all results draw, and are the same after it if there is none.
 fn short_of<'a>(rows: &'a Rows<'a>, totals: &mut Totals, due: &Due) -> Option<Shortage<'a>>
-    requires due { IsDue (input_of rows.now) due.now }
-    requires kept { AreKept (input_of rows.now) totals.old }
-    ensures keeps { (c : CounterId) → keeps totals.new c ≡ keeps totals.old c }
+    requires { IsDue (input_of rows.now) due.now }
     ensures found { (w : SearchInput) (ps : List Pick) (i : ℕ) → HasDrawn (input_of rows.now) w totals.old ps → slice_get ps i ≡ Some (pick_of w (due_seen (input_of rows.now) due.now)) → due.now.result.admin ≡ false →
         option_map (λ s. record { set = s.set.now; counter = s.counter.now; drawn = s.drawn; value = s.value }) result ≡ spec.short_on w ps (pick_of w (due_seen (input_of rows.now) due.now)) }
     ensures same { (w : SearchInput) (ps : List Pick) (i : ℕ) → HasDrawn (input_of rows.now) w totals.old ps → slice_get ps i ≡ Some (pick_of w (due_seen (input_of rows.now) due.now)) → due.now.result.admin ≡ false →
@@ -78,9 +74,7 @@ fn short_for<'a>(
     totals: &mut Totals,
     due: &Due,
 ) -> Result<Option<Failure>, AllocError>
-    requires due { IsDue (input_of rows.now) due.now }
-    requires kept { AreKept (input_of rows.now) totals.old }
-    ensures keeps { (c : CounterId) → keeps totals.new c ≡ keeps totals.old c }
+    requires { IsDue (input_of rows.now) due.now }
     ensures found { (w : SearchInput) (ps : List Pick) (i : ℕ) → HasDrawn (input_of rows.now) w totals.old ps → slice_get ps i ≡ Some (pick_of w (due_seen (input_of rows.now) due.now)) →
         IfOk result (λ found. found ≡ spec.short_for w ps (pick_of w (due_seen (input_of rows.now) due.now))) }
     ensures same { (w : SearchInput) (ps : List Pick) (i : ℕ) → HasDrawn (input_of rows.now) w totals.old ps → slice_get ps i ≡ Some (pick_of w (due_seen (input_of rows.now) due.now)) →
@@ -103,8 +97,7 @@ pub fn counter_short<'a>(
     totals: &mut Totals,
     dues: &[Due],
 ) -> Result<Option<Failure>, AllocError>
-    requires dues { Each (IsDue (input_of rows.now)) dues.now }
-    requires kept { AreKept (input_of rows.now) totals.old }
+    requires { Each (IsDue (input_of rows.now)) dues.now }
     ensures { (w : SearchInput) → HasDrawn (input_of rows.now) w totals.old (map (pick_of w) (map (due_seen (input_of rows.now)) dues.now)) →
         IfOk result (λ found. found ≡ spec.counter_short w (map (pick_of w) (map (due_seen (input_of rows.now)) dues.now))) }
 {

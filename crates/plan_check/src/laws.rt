@@ -1,4 +1,4 @@
-ghost use Rattle.std.specs.Prelude.{◌≡◌, ℕ, List, [], ◌∷◌, Option, None, Some};
+ghost use Rattle.std.specs.Prelude.{◌≡◌, ◌↔◌, ℕ, List, [], ◌∷◌, Option, None, Some};
 ghost use Rattle.object_fields.specs.declared.key.Key.{Key};
 ghost use Rattle.api_claim.specs.declared.types.ClaimStatus.{ClaimStatus};
 ghost use Rattle.pool_view.specs.Names.{at_key};
@@ -10,11 +10,12 @@ ghost use Rattle.cluster.specs.declared.state.State.{State};
 ghost use Rattle.allocations.specs.Allocation.{IsAllocation};
 ghost use Rattle.allocations.specs.Claims.{wanted};
 ghost use Rattle.plan_check.specs.Failing.{failing, failing_status, granted_by};
-ghost use Rattle.plan_check.specs.Fits.{FitsPod, IsOfPod};
+ghost use Rattle.plan_check.specs.Fits.{FitsPod, IsAllocated, IsOfPod, IsStatusAllocated};
 ghost use Rattle.plan_check.specs.Meant.{KeepLimits, KnewItsPod};
 ghost use Rattle.plan_check.specs.Says.{GrantsSay, PlanSays};
 
 use constraints::results_keep_constraint;
+use device_taints::tolerations_are_by_facts;
 use pool_view::devices_of_a_view_differ;
 use request_rules::faults_are_first;
 
@@ -27,6 +28,7 @@ pub fn checked_is_allocation()
         (choice : List ℕ) × IsAllocation s (record c.claim.object { key = claim } ∷ []) status.node choice (granted_by claim status ∷ []) }
 {
     results_keep_constraint();
+    tolerations_are_by_facts();
 }
 
 /// The pod of a plan without a failure exists with the uid that the plan knew, and each claim that it
@@ -45,6 +47,7 @@ pub fn allocations_pass()
         IsAllocation s (record c.claim.object { key = claim } ∷ []) status.node choice (granted_by claim status ∷ []) → failing_status s claim status ≡ None }
 {
     results_keep_constraint();
+    tolerations_are_by_facts();
     devices_of_a_view_differ();
 }
 
@@ -55,6 +58,7 @@ pub fn failures_are_true()
         GrantsSay s (record c.claim.object { key = claim } ∷ []) status.node (granted_by claim status ∷ []) f }
 {
     results_keep_constraint();
+    tolerations_are_by_facts();
     faults_are_first();
 }
 
@@ -63,3 +67,17 @@ pub fn fitting_is_of_pod()
     ensures of_pod { (s : State) (pod : Key) (p : PodState) (plan : Plan) → KnewItsPod p plan → FitsPod s pod p plan → IsOfPod s pod p plan }
     ensures fits { (s : State) (pod : Key) (p : PodState) (plan : Plan) → IsOfPod s pod p plan → KnewItsPod p plan × FitsPod s pod p plan }
 {}
+
+/// A plan has no failure if and only if its pod exists with the uid that the plan knew, each claim that it
+/// knew exists as it knew it and has room for the pod, and its grants are an allocation, on its node, of the
+/// claims that the pod needs. A status write has none if and only if its results are an allocation of its
+/// claim, on its node. The claims of the state keep the limits of their API.
+pub fn unfailing_is_allocated()
+    ensures plan { (s : State) (pod : Key) (plan : Plan) → KeepLimits s → failing s pod plan ≡ None ↔ IsAllocated s pod plan }
+    ensures status { (s : State) (claim : Key) (status : ClaimStatus) (c : ClaimState) → KeepLimits s → at_key s.claims claim ≡ Some c →
+        failing_status s claim status ≡ None ↔ IsStatusAllocated s claim c status }
+{
+    checked_is_allocation();
+    checked_is_known();
+    allocations_pass();
+}

@@ -14,5 +14,6 @@ mod shape;
 
 pub use checking::{check, check_status};
 pub use laws::{
-    allocations_pass, checked_is_allocation, checked_is_known, failures_are_true, fitting_is_of_pod,
+    allocations_pass, checked_is_allocation, checked_is_known, failures_are_true,
+    fitting_is_of_pod, unfailing_is_allocated,
 };

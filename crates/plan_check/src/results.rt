@@ -1,4 +1,4 @@
-//! The devices of results, and what the selectors of their requests evaluate to for them.
+//! The devices of results, what the selectors of their requests evaluate to for them, and their taints.
 
 ghost use Rattle.std.specs.Prelude.{◌≡◌, IfOk, find, option_copied, map};
 ghost use Rattle.request_rules.specs.Lists.{Each};
@@ -80,4 +80,26 @@ pub fn selector_fault(
         None => Ok(None),
         Some(fault) => Ok(Some(Failure::SelectorFault(fault.device))),
     }
+}
+
+/// Whether the device of a result has a taint that its request doesn't tolerate.
+fn is_untolerated(rows: &Rows, due: &Due) -> bool
+    requires { IsDue (input_of rows.now) due.now }
+    ensures { result ≡ spec.is_untolerated (input_of rows.now) (due_seen (input_of rows.now) due.now) }
+{
+    !rows.tolerates(due.row, due.position)
+}
+
+/// The failure of the first result, with admin access or without, whose device has a taint that its request
+/// doesn't tolerate.
+pub fn tainted(alloc: Global, rows: &Rows, dues: &[Due]) -> Result<Option<Failure>, AllocError>
+    requires { Each (IsDue (input_of rows.now)) dues.now }
+    ensures { IfOk result (λ found. found ≡ spec.tainted (input_of rows.now) (map (due_seen (input_of rows.now)) dues.now)) }
+{
+    for due in dues {
+        if is_untolerated(rows, due) {
+            return Ok(Some(Failure::Tainted(due.result.device.copy(alloc)?)));
+        }
+    }
+    Ok(None)
 }

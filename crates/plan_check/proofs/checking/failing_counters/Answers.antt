@@ -15,5 +15,5 @@ pub returns : goal.returns
 returns c =
     if_ok _ _ c.counter_short.result (λ found e. e ∙ ap (counter_short (states.input_of c.args.state.now c.args.rows.now.wants.claims c.args.node.now)) (sym (picks_same c.args.state.now c.args.node.now c.args.rows.now (map (due_seen (input_of c.args.rows.now)) c.args.dues.now) c.requires.rows)))
     (c.counter_short.ensures (states.input_of c.args.state.now c.args.rows.now.wants.claims c.args.node.now)
-    (drawn_are c.args.state.now _ _ c.args.node.now c.args.rows.now c.in_ok-totals.totals c.args.dues.now c.deref.ensures c.deref-2.ensures c.requires.rows c.requires.dues c.requires.free c.in_ok-totals.ensures.drawn
-    c.slices_differ.ensures.one c.devices_differ.ensures.listed (c.usable_slices_differ.ensures.ids c.args.state.now.inventory)))
+    (drawn_are c.args.state.now _ c.args.node.now c.args.rows.now c.in_ok-totals.totals c.args.dues.now c.deref.ensures c.requires.rows c.requires.dues c.requires.free c.in_ok-totals.ensures
+    c.devices_differ.ensures.listed (c.usable_slices_differ.ensures.ids c.args.state.now.inventory)))

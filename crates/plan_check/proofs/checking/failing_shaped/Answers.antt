@@ -13,6 +13,6 @@ returns-in-Some-2 c = shaped_fault c.args.state.now c.args.node.now c.args.rows.
 
 pub returns : goal.returns
 returns c =
-    if_ok _ _ c.failing_held.result
+    if_ok _ _ c.failing_tolerated.result
     (λ found e. shaped_rest c.args.state.now c.args.node.now c.args.rows.now c.args.choice.now (map (due_seen (input_of c.args.rows.now)) c.args.dues.now) found c.requires.rows (sym c.in_default.is ∙ c.in_ok-found.ensures) (sym c.in_default-2.is ∙ c.in_ok-found-2.ensures) e)
-    c.failing_held.ensures
+    c.failing_tolerated.ensures
