@@ -64,9 +64,14 @@ alone_at path spec sets =
     unless (field_error path (codes "sharedCounters") NotOne)
     (not (has_no_items sets) && not (is_empty_or_none (member_of (codes "devices") spec))) tt
 
--- the sets may be missing, and are missing or empty where the slice has devices
+abbrev pub sets_at : List Step → Items → Result (List CounterSet) FieldError
+sets_at path items = sets_from (path ++ Member (codes "sharedCounters") ∷ []) 0 0 [] items
+
+-- the sets, of which there are none where the slice has devices
+abbrev pub sets_alone : List Step → Data → Items → Result (List CounterSet) FieldError
+sets_alone path spec items = alone_at path spec items >>= λ nothing. sets_at path items
+
+-- the sets may be missing
 abbrev pub counter_sets_at : List Step → Data → Result (List CounterSet) FieldError
 counter_sets_at path spec =
-    optional_at list_at path (codes "sharedCounters") spec >>= λ items.
-    alone_at path spec (items_or_none items) >>= λ nothing.
-    sets_from (path ++ Member (codes "sharedCounters") ∷ []) 0 0 [] (items_or_none items)
+    optional_at list_at path (codes "sharedCounters") spec >>= λ items. sets_alone path spec (items_or_none items)

@@ -1,10 +1,11 @@
-ghost use Rattle.std.specs.Prelude.{◌≡◌, []};
+ghost use Rattle.std.specs.Prelude.{◌≡◌, ◌&&◌, [], codes, not};
 ghost use Rattle.serde_json.specs.View.{items_view, members_view, view};
-ghost use Rattle.object_fields.specs.Fields.{Reads};
+ghost use Rattle.object_fields.specs.Fields.{Reads, has_no_items, member_of};
 ghost use Rattle.api_slice.specs.Counters as fields;
+ghost use Rattle.api_slice.specs.Lists.{is_empty_or_none};
 
 use crate::amount::read_amount;
-use crate::lists::{count_on, is_empty_or_none, items_or_none};
+use crate::lists::{count_on, is_empty_or_none, items_or_none, no_items};
 use crate::types::CounterSet;
 use dra_values::{Seq, Table, Text};
 use object_fields::{
@@ -28,16 +29,41 @@ pub(crate) fn read_counter_sets(
     ensures { Reads result (fields.counter_sets_at path.now (view spec.now)) }
 {
     let values = items_or_none(optional_list(alloc, spec, path, "sharedCounters")?);
+    sets_alone(alloc, spec, path, values)
+}
+
+/// The counter sets of a list; where it has any, the slice has no devices.
+fn sets_alone(
+    alloc: Global,
+    spec: &Value,
+    path: &Path,
+    values: &[Value],
+) -> Result<Seq<CounterSet>, FieldError>
+    ensures { Reads result (fields.sets_alone path.now (view spec.now) (items_view values.now)) }
+{
     check_alone(alloc, spec, path, values)?;
+    sets_at(alloc, path, values)
+}
+
+fn sets_at(alloc: Global, path: &Path, values: &[Value]) -> Result<Seq<CounterSet>, FieldError>
+    ensures { Reads result (fields.sets_at path.now (items_view values.now)) }
+{
     let path = path.member(alloc, "sharedCounters")?;
     each_set(alloc, values, &path)
+}
+
+/// Whether there are counter sets, and devices besides.
+fn stand_beside(spec: &Value, sets: &[Value]) -> bool
+    ensures { result ≡ (not (has_no_items (items_view sets.now)) && not (is_empty_or_none (member_of (codes "devices") (view spec.now)))) }
+{
+    !no_items(sets) && !is_empty_or_none(member(spec, "devices"))
 }
 
 /// Nothing where there are no counter sets or no devices, else NotOne.
 fn check_alone(alloc: Global, spec: &Value, path: &Path, sets: &[Value]) -> Result<(), FieldError>
     ensures { Reads result (fields.alone_at path.now (view spec.now) (items_view sets.now)) }
 {
-    if !sets.is_empty() && !is_empty_or_none(member(spec, "devices")) {
+    if stand_beside(spec, sets) {
         Err(FieldError::of_field(alloc, path, "sharedCounters", FieldErrorKind::NotOne))
     } else {
         Ok(())

@@ -30,7 +30,7 @@ pub(crate) fn is_empty_or_none(value: Option<&Value>) -> bool
 }
 
 /// Whether a list has no items.
-fn no_items(items: &[Value]) -> bool
+pub(crate) fn no_items(items: &[Value]) -> bool
     ensures { result ≡ has_no_items (items_view items.now) }
 {
     match items.first() {
