@@ -10,6 +10,11 @@ use Rattle.node_select.specs.declared.requirement.Requirement.{Requirement}
 use Rattle.node_select.specs.declared.requirement.Test.{Test}
 use Rattle.node_select.specs.declared.requirement.Test.TheVariants.{OneOf, NoneOf, Present, Absent, Above, Below}
 use Rattle.node_select.specs.declared.selector.Selector.{Selector}
+use Rattle.device_taints.specs.declared.types.Taint.{Taint}
+use Rattle.device_taints.specs.declared.types.TaintEffect.{TaintEffect}
+use Rattle.device_taints.specs.declared.types.Toleration.{Toleration}
+use Rattle.device_taints.specs.declared.types.TolerationOperator.{TolerationOperator}
+use Rattle.device_taints.specs.declared.types.TolerationOperator.TheVariants.{Equal, Exists}
 use Rattle.api_slice.specs.declared.types.Attribute.{Attribute}
 use Rattle.api_slice.specs.declared.types.Attribute.TheVariants as attribute
 use Rattle.api_slice.specs.declared.types.CounterConsumption.{CounterConsumption}
@@ -54,7 +59,8 @@ use Rattle.api_print.specs.Selectors.{all_nodes_if, node_name_if, node_selector_
 use Rattle.api_print.specs.Shapes.{own_text}
 use Rattle.api_print.specs.Slices.{slice_all_nodes, slice_json, slice_node_name, slice_node_selector, slice_per_device, slice_spec_json}
 use Rattle.api_print.specs.Status.{allocation_json, claim_json, items_if, result_json, status_if, status_json, user_by, user_of, written_users}
-use Rattle.api_print.proofs.Plain.{HavePlain, Plain, PlainIf, and_then_plain, appended, are_plain, flag_plain, in_object, list_if_plain, list_plain, missing, none, option_plain, plain_depth, plain_floats, some, table_if_plain, table_plain, text, with_if, with_one}
+use Rattle.api_print.specs.Taints.{effect_if, taint_json, toleration_json, value_if}
+use Rattle.api_print.proofs.Plain.{HavePlain, Plain, PlainIf, and_then_plain, appended, are_plain, flag_plain, in_object, list_if_plain, list_plain, missing, none, option_plain, plain_depth, plain_floats, some, table_if_plain, table_plain, text, text_if_plain, with_if, with_one}
 
 -- ---- metadata and the object around
 
@@ -149,6 +155,14 @@ consumption_plain : (n : ℕ) (c : CounterConsumption) → Plain (suc (suc (suc 
 consumption_plain n c =
     in_object (suc (suc n)) (with_one (codes "counterSet") text (with_one (codes "counters") (counters_plain n c.amounts) none))
 
+effect_plain : (n : ℕ) (o : Option TaintEffect) → PlainIf n (effect_if o)
+effect_plain n None = missing
+effect_plain n (Some effect) = some text
+
+taint_plain : (n : ℕ) (t : Taint) → Plain (suc n) (taint_json t)
+taint_plain n t =
+    in_object n (with_one (codes "effect") text (with_one (codes "key") text (with_if (codes "value") (text_if_plain t.value) none)))
+
 int_plain : (z : ℤ) → Plain 16 (attribute_json (attribute.Int z))
 int_plain (pos n) = record { holds = refl }
 int_plain (negsuc n) = record { holds = refl }
@@ -169,7 +183,8 @@ device_plain d =
     (with_if (codes "consumesCounters") (list_if_plain 16 consumption_json d.consumes (consumption_plain 13))
     (with_one (codes "name") text
     (with_if (codes "nodeName") (and_then_plain 17 node_name_if d.nodes (name_plain 17))
-    (with_if (codes "nodeSelector") (and_then_plain 17 node_selector_if d.nodes (selected_plain 11)) none)))))))
+    (with_if (codes "nodeSelector") (and_then_plain 17 node_selector_if d.nodes (selected_plain 11))
+    (with_if (codes "taints") (list_if_plain 16 taint_json d.taints (taint_plain 15)) none))))))))
 
 slice_all : (x : SliceNodes) → PlainIf 19 (slice_all_nodes x)
 slice_all (slice.Nodes n) = all_plain 19 n
@@ -211,6 +226,18 @@ count_plain : (n : ℕ) (m : AllocationMode) → PlainIf n (count_if m)
 count_plain n (ExactCount k) = record { holds = refl }
 count_plain n All = missing
 
+value_plain : (n : ℕ) (o : TolerationOperator) → PlainIf n (value_if o)
+value_plain n (Equal value) = text_if_plain value
+value_plain n Exists = missing
+
+toleration_plain : (n : ℕ) (k : Toleration) → Plain (suc n) (toleration_json k)
+toleration_plain n k =
+    in_object n
+    (with_if (codes "effect") (effect_plain n k.effect)
+    (with_if (codes "key") (text_if_plain k.key)
+    (with_one (codes "operator") text
+    (with_if (codes "value") (value_plain n k.operator) none))))
+
 exactly_plain : (e : ExactDeviceRequest) → Plain 16 (exactly_json e)
 exactly_plain e =
     in_object 15
@@ -218,7 +245,8 @@ exactly_plain e =
     (with_one (codes "allocationMode") text
     (with_if (codes "count") (count_plain 15 e.ask.mode)
     (with_one (codes "deviceClassName") text
-    (with_if (codes "selectors") (selectors_plain 12 e.ask.selectors) none)))))
+    (with_if (codes "selectors") (selectors_plain 12 e.ask.selectors)
+    (with_if (codes "tolerations") (list_if_plain 14 toleration_json e.ask.tolerations (toleration_plain 13)) none))))))
 
 subrequest_plain : (s : DeviceSubRequest) → Plain 15 (subrequest_json s)
 subrequest_plain s =
@@ -227,7 +255,8 @@ subrequest_plain s =
     (with_if (codes "count") (count_plain 14 s.ask.mode)
     (with_one (codes "deviceClassName") text
     (with_one (codes "name") text
-    (with_if (codes "selectors") (selectors_plain 11 s.ask.selectors) none)))))
+    (with_if (codes "selectors") (selectors_plain 11 s.ask.selectors)
+    (with_if (codes "tolerations") (list_if_plain 13 toleration_json s.ask.tolerations (toleration_plain 12)) none))))))
 
 kind_plain : (k : RequestKind) (name : List ℕ) → HavePlain 16 (kind_before k (member (codes "name") (string name) no_members))
 kind_plain (kind.Exactly e) name = with_one (codes "exactly") (exactly_plain e) (with_one (codes "name") text none)

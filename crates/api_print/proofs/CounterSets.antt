@@ -1,5 +1,5 @@
 -- Counter sets, and what devices draw from them, read as they are.
-use Rattle.std.proofs.Common.{◌≡◌, ℕ, ◌+◌, ◌≤◌, ◌≢◌, ℤ, pos, map, Bool, true, false, ◌||◌, List, [], ◌∷◌, ◌++◌, length, Ok, refl, sym, ap, ◌∙◌, append_assoc, arith, inl, inr}
+use Rattle.std.proofs.Common.{◌≡◌, ℕ, ◌+◌, ◌≤◌, ◌≢◌, ℤ, pos, map, Bool, true, false, ◌||◌, List, [], ◌∷◌, ◌++◌, length, None, Ok, refl, sym, ap, ◌∙◌, append_assoc, arith, inl, inr}
 use Rattle.std.specs.Prelude.{codes}
 use Rattle.std.proofs.lemmas.Bool.{cases_Bool}
 use Rattle.std.proofs.lemmas.Cmp.{nat_list_cmp_total}
@@ -23,8 +23,10 @@ use Rattle.api_slice.specs.Amounts.{amount_of}
 use Rattle.api_slice.specs.Counters.{counter_name, counter_sets_at, counters_at, counters_most, counters_with, has_set, new_set_name, sets_from}
 use Rattle.api_slice.specs.Limits.{IsAmount, IsCounterSet, IsLabel}
 use Rattle.api_slice.specs.Lists.{members_length}
+use Rattle.api_slice.specs.Nodes.{is_empty}
 use Rattle.api_slice.specs.declared.types.CounterSet.{CounterSet}
-use Rattle.api_print.specs.Devices.{amount_json, counter_set_json}
+use Rattle.api_slice.specs.declared.types.Device.{Device}
+use Rattle.api_print.specs.Devices.{amount_json, counter_set_json, device_json}
 use Rattle.api_print.specs.Ranges.{QuantityInRange, SetInRange}
 use Rattle.api_print.specs.Shapes.{list_if, listed, own_text, with_entries}
 use Rattle.api_print.proofs.Decimals.{not_longer}
@@ -149,7 +151,12 @@ set_total_is : (ss : List CounterSet) → set_total ss ≡ sum_by (λ s. length 
 set_total_is [] = refl
 set_total_is (s ∷ ss) = omega (arith, set_total_is ss, sum_by-cons (λ (x : CounterSet). length x.counters) s ss)
 
-pub counter_sets_back : (path : List Step) (d : Data) (ss : List CounterSet) → get (codes "sharedCounters") d ≡ list_if counter_set_json ss → AreDifferent (map (λ s. s.name) ss) → AllByRecursion SetReads ss → sum_by (λ s. length s.counters) ss ≤ counters_most → counter_sets_at path d ≡ Ok ss
-counter_sets_back path d [] h differ all few = rw h refl
-counter_sets_back path d (s ∷ ss) h differ all few =
-    rw h (sets_read (path ++ Member (codes "sharedCounters") ∷ []) 0 0 [] (s ∷ ss) differ all (omega (arith, set_total_is (s ∷ ss))))
+no_devices : (d : Data) (ds : List Device) → get (codes "devices") d ≡ list_if device_json ds → is_empty ds ≡ true → get (codes "devices") d ≡ None
+no_devices d [] h empty = h
+no_devices d (x ∷ xs) h empty = cc
+
+-- of a slice without devices or without sets
+pub counter_sets_back : (path : List Step) (d : Data) (ss : List CounterSet) (ds : List Device) → get (codes "sharedCounters") d ≡ list_if counter_set_json ss → get (codes "devices") d ≡ list_if device_json ds → (is_empty ss || is_empty ds) ≡ true → AreDifferent (map (λ s. s.name) ss) → AllByRecursion SetReads ss → sum_by (λ s. length s.counters) ss ≤ counters_most → counter_sets_at path d ≡ Ok ss
+counter_sets_back path d [] ds h hd one differ all few = rw h refl
+counter_sets_back path d (s ∷ ss) ds h hd one differ all few =
+    rw (h, no_devices d ds hd one) (sets_read (path ++ Member (codes "sharedCounters") ∷ []) 0 0 [] (s ∷ ss) differ all (omega (arith, set_total_is (s ∷ ss))))

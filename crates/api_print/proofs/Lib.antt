@@ -18,3 +18,4 @@ mod SelectorsBack
 mod SliceBack
 mod Statuses
 mod Tables
+mod TaintsBack

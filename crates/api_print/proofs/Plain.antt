@@ -7,7 +7,7 @@ use Rattle.serde_json.specs.Data.{Num, unsigned, negative, float, Data, null, bo
 use Rattle.serde_json.specs.Find.{is_float}
 use Rattle.serde_json.specs.View.{items_of}
 use Rattle.serde_json.specs.Written.{has_float, items_have_float, members_have_float}
-use Rattle.api_print.specs.Shapes.{flag_if, list_if, list_json, listed, member_if, table_if, table_json, with_entries}
+use Rattle.api_print.specs.Shapes.{flag_if, list_if, list_json, listed, member_if, table_if, table_json, text_if, with_entries}
 
 -- no float, and at most n levels of lists and objects
 abbrev mutual
@@ -135,6 +135,10 @@ with_one key p q = record { holds = both _ _ p.holds q.holds }
 pub flag_plain : {n : ℕ} (b : Bool) → PlainIf n (flag_if b)
 flag_plain true = record { holds = refl }
 flag_plain false = record { holds = refl }
+
+pub text_if_plain : {n : ℕ} (t : List ℕ) → PlainIf n (text_if t)
+text_if_plain [] = record { holds = refl }
+text_if_plain (b ∷ bs) = record { holds = refl }
 
 -- each of a list's items
 listed_holds : {A : Type 0} (n : ℕ) (json : A → Data) (xs : List A) → ((x : A) → Plain n (json x)) → are_plain n (listed json xs) ≡ true

@@ -15,7 +15,7 @@ use Rattle.object_fields.specs.Selectors.{selector_at, selectors_most}
 use Rattle.object_fields.specs.declared.error.FieldError.{FieldError}
 use Rattle.object_fields.specs.declared.path.Step.{Step}
 use Rattle.object_fields.specs.declared.path.Step.TheVariants.{Member, Place}
-use Rattle.api_claim.specs.Asks.{admin_at, ask_at, asked_at, exactly_in, left_out_at, mode_at, subrequest_in}
+use Rattle.api_claim.specs.Asks.{admin_at, ask_with, asked_at, exactly_in, mode_at, selection_at, subrequest_in}
 use Rattle.api_claim.specs.Limits.{AskKept, CountKept, EachOf, KindKept, RequestsKept}
 use Rattle.object_fields.specs.Names.{is_dns_label}
 use Rattle.api_claim.specs.Lists.{new_name_at}
@@ -31,9 +31,12 @@ use Rattle.api_claim.specs.declared.types.RequestKind.TheVariants as kind
 use Rattle.api_print.specs.Classes.{selector_json, selectors_if}
 use Rattle.api_print.specs.Claims.{count_if, exactly_json, kind_before, mode_text, request_json, subrequest_json}
 use Rattle.api_print.specs.Shapes.{flag_if, list_json, listed, member_if}
+use Rattle.api_print.specs.Taints.{tolerations_if}
 use Rattle.api_print.proofs.CounterSets.{is_new}
 use Rattle.api_print.proofs.Decimals.{not_longer}
+use Rattle.api_print.proofs.OptionalMembers.{found, members_of, or_none}
 use Rattle.api_print.proofs.Readings.{each_found, label_read, listed_length}
+use Rattle.api_print.proofs.TaintsBack.{tolerations_back}
 
 -- ---- a member after others that may be missing
 
@@ -62,7 +65,7 @@ record HasAsk (d : Data) (ask : DeviceAsk) : Type 0 where
   selectors : get (codes "selectors") d ≡ selectors_if ask.selectors
   mode : get (codes "allocationMode") d ≡ Some (string (mode_text ask.mode))
   count : get (codes "count") d ≡ count_if ask.mode
-  tolerations : get (codes "tolerations") d ≡ None
+  tolerations : get (codes "tolerations") d ≡ tolerations_if ask.tolerations
   capacity : get (codes "capacity") d ≡ None
 
 mode_back : (path : List Step) (d : Data) (m : AllocationMode) → get (codes "allocationMode") d ≡ Some (string (mode_text m)) → get (codes "count") d ≡ count_if m → CountKept m → mode_at path d ≡ Ok m
@@ -72,56 +75,74 @@ mode_back path d (ExactCount (suc n)) hm hc kept =
     rw (hm, hc, within) refl
 mode_back path d All hm hc kept = rw (hm, hc) refl
 
-ask_back : (path : List Step) (d : Data) (ask : DeviceAsk) → HasAsk d ask → AskKept ask → ask_at path d ≡ Ok ask
-ask_back path d ask h kept =
+selection_back : (path : List Step) (d : Data) (ask : DeviceAsk) → HasAsk d ask → AskKept ask → selection_at path d ≡ Ok (record { class = ask.class; selectors = ask.selectors; mode = ask.mode })
+selection_back path d ask h kept =
     let class : text_at path (codes "deviceClassName") d ≡ Ok ask.class = rw h.class refl in
     let selectors = each_found selectors_most selector_at selector_json path (codes "selectors") d ask.selectors h.selectors kept.selectors (λ p x. refl) in
     rw (class, selectors, mode_back path d ask.mode h.mode h.count kept.count) refl
+
+ask_back : (path : List Step) (d : Data) (ask : DeviceAsk) → HasAsk d ask → AskKept ask → ask_with (record { class = ask.class; selectors = ask.selectors; mode = ask.mode }) path d ≡ Ok ask
+ask_back path d ask h kept =
+    rw (tolerations_back path d ask.tolerations h.tolerations kept.tolerations, h.capacity) refl
 
 admin_back : (path : List Step) (d : Data) (b : Bool) → get (codes "adminAccess") d ≡ flag_if b → admin_at path d ≡ Ok b
 admin_back path d true h = rw h refl
 admin_back path d false h = rw h refl
 
-left_out_back : (path : List Step) (d : Data) → get (codes "tolerations") d ≡ None → get (codes "capacity") d ≡ None → left_out_at path d ≡ Ok tt
-left_out_back path d t c = rw (t, c) refl
-
 exactly_from : (path : List Step) (d : Data) (e : ExactDeviceRequest) → HasAsk d e.ask → get (codes "adminAccess") d ≡ flag_if e.admin → AskKept e.ask → exactly_in path d ≡ Ok e
 exactly_from path d e h admin kept =
-    rw (ask_back path d e.ask h kept, admin_back path d e.admin admin, left_out_back path d h.tolerations h.capacity) refl
+    rw (selection_back path d e.ask h kept, admin_back path d e.admin admin, ask_back path d e.ask h kept) refl
+
+abbrev exactly_members : ExactDeviceRequest → List (List ℕ × Option Data)
+exactly_members e =
+    (codes "adminAccess", flag_if e.admin) ∷
+    (codes "allocationMode", Some (string (mode_text e.ask.mode))) ∷
+    (codes "count", count_if e.ask.mode) ∷
+    (codes "deviceClassName", Some (string e.ask.class)) ∷
+    (codes "selectors", selectors_if e.ask.selectors) ∷
+    (codes "tolerations", tolerations_if e.ask.tolerations) ∷ []
 
 exactly_has : (e : ExactDeviceRequest) → HasAsk (exactly_json e) e.ask
 exactly_has e = record {
-  class = skip (codes "deviceClassName") (codes "adminAccess") (flag_if e.admin) _ refl ∙ skip (codes "deviceClassName") (codes "count") (count_if e.ask.mode) _ refl;
-  selectors = skip (codes "selectors") (codes "adminAccess") (flag_if e.admin) _ refl ∙ (skip (codes "selectors") (codes "count") (count_if e.ask.mode) _ refl ∙ hit (codes "selectors") (selectors_if e.ask.selectors) no_members refl refl);
-  mode = skip (codes "allocationMode") (codes "adminAccess") (flag_if e.admin) _ refl;
-  count = skip (codes "count") (codes "adminAccess") (flag_if e.admin) _ refl ∙ hit (codes "count") (count_if e.ask.mode) _ refl (skip (codes "count") (codes "selectors") (selectors_if e.ask.selectors) no_members refl);
-  tolerations = skip (codes "tolerations") (codes "adminAccess") (flag_if e.admin) _ refl ∙ (skip (codes "tolerations") (codes "count") (count_if e.ask.mode) _ refl ∙ skip (codes "tolerations") (codes "selectors") (selectors_if e.ask.selectors) no_members refl);
-  capacity = skip (codes "capacity") (codes "adminAccess") (flag_if e.admin) _ refl ∙ (skip (codes "capacity") (codes "count") (count_if e.ask.mode) _ refl ∙ skip (codes "capacity") (codes "selectors") (selectors_if e.ask.selectors) no_members refl);
+  class = found (codes "deviceClassName") (exactly_members e);
+  selectors = found (codes "selectors") (exactly_members e) ∙ or_none _;
+  mode = found (codes "allocationMode") (exactly_members e);
+  count = found (codes "count") (exactly_members e) ∙ or_none _;
+  tolerations = found (codes "tolerations") (exactly_members e) ∙ or_none _;
+  capacity = found (codes "capacity") (exactly_members e);
 }
 
 exactly_admin : (e : ExactDeviceRequest) → get (codes "adminAccess") (exactly_json e) ≡ flag_if e.admin
-exactly_admin e =
-    hit (codes "adminAccess") (flag_if e.admin) _ refl (skip (codes "adminAccess") (codes "count") (count_if e.ask.mode) _ refl ∙ skip (codes "adminAccess") (codes "selectors") (selectors_if e.ask.selectors) no_members refl)
+exactly_admin e = found (codes "adminAccess") (exactly_members e) ∙ or_none _
 
 exactly_back : (path : List Step) (e : ExactDeviceRequest) → AskKept e.ask → exactly_in path (exactly_json e) ≡ Ok e
 exactly_back path e kept = exactly_from path (exactly_json e) e (exactly_has e) (exactly_admin e) kept
 
 subrequest_from : (path : List Step) (ms : Members) (ask : DeviceAsk) → HasAsk (object ms) ask → AskKept ask → subrequest_in path (object ms) ≡ Ok ask
 subrequest_from path ms ask h kept =
-    rw (ask_back path (object ms) ask h kept, left_out_back path (object ms) h.tolerations h.capacity) refl
+    rw (selection_back path (object ms) ask h kept, ask_back path (object ms) ask h kept) refl
+
+abbrev subrequest_members : DeviceSubRequest → List (List ℕ × Option Data)
+subrequest_members s =
+    (codes "allocationMode", Some (string (mode_text s.ask.mode))) ∷
+    (codes "count", count_if s.ask.mode) ∷
+    (codes "deviceClassName", Some (string s.ask.class)) ∷
+    (codes "name", Some (string s.name)) ∷
+    (codes "selectors", selectors_if s.ask.selectors) ∷
+    (codes "tolerations", tolerations_if s.ask.tolerations) ∷ []
 
 subrequest_has : (s : DeviceSubRequest) → HasAsk (subrequest_json s) s.ask
 subrequest_has s = record {
-  class = skip (codes "deviceClassName") (codes "count") (count_if s.ask.mode) _ refl;
-  selectors = skip (codes "selectors") (codes "count") (count_if s.ask.mode) _ refl ∙ hit (codes "selectors") (selectors_if s.ask.selectors) no_members refl refl;
-  mode = refl;
-  count = hit (codes "count") (count_if s.ask.mode) _ refl (skip (codes "count") (codes "selectors") (selectors_if s.ask.selectors) no_members refl);
-  tolerations = skip (codes "tolerations") (codes "count") (count_if s.ask.mode) _ refl ∙ skip (codes "tolerations") (codes "selectors") (selectors_if s.ask.selectors) no_members refl;
-  capacity = skip (codes "capacity") (codes "count") (count_if s.ask.mode) _ refl ∙ skip (codes "capacity") (codes "selectors") (selectors_if s.ask.selectors) no_members refl;
+  class = found (codes "deviceClassName") (subrequest_members s);
+  selectors = found (codes "selectors") (subrequest_members s) ∙ or_none _;
+  mode = found (codes "allocationMode") (subrequest_members s);
+  count = found (codes "count") (subrequest_members s) ∙ or_none _;
+  tolerations = found (codes "tolerations") (subrequest_members s) ∙ or_none _;
+  capacity = found (codes "capacity") (subrequest_members s);
 }
 
 subrequest_back : (path : List Step) (s : DeviceSubRequest) → AskKept s.ask → subrequest_in path (subrequest_json s) ≡ Ok s.ask
-subrequest_back path s kept = subrequest_from path _ s.ask (subrequest_has s) kept
+subrequest_back path s kept = subrequest_from path (members_of (subrequest_members s)) s.ask (subrequest_has s) kept
 
 -- ---- lists whose items keep something
 
@@ -154,8 +175,7 @@ name_step p before ms n h label new = rw (label_read p (object ms) (codes "name"
 
 subrequest_step : (p : List Step) (before : List (List ℕ)) (s : DeviceSubRequest) → is_dns_label s.name ≡ true → is_among s.name before ≡ false → subrequest_name_at p before (subrequest_json s) ≡ Ok s.name
 subrequest_step p before s label new =
-    let rest = member (codes "deviceClassName") (string s.ask.class) (member (codes "name") (string s.name) (member_if (codes "selectors") (selectors_if s.ask.selectors) no_members)) in
-    name_step p before (member (codes "allocationMode") (string (mode_text s.ask.mode)) (member_if (codes "count") (count_if s.ask.mode) rest)) s.name (skip (codes "name") (codes "count") (count_if s.ask.mode) rest refl) label new
+    name_step p before (members_of (subrequest_members s)) s.name (found (codes "name") (subrequest_members s)) label new
 
 -- ---- kinds of requests
 

@@ -62,10 +62,10 @@ spec_from version path s kept range =
     let driver = judged_right (path ++ Member (codes "driver") ∷ []) driver_most (is_dns_name s.driver) s.driver kept.driver.size kept.driver.form in
     let pool = pool_back (path ++ Member (codes "pool") ∷ []) s.pool kept.pool in
     let nodes = slice_nodes_back path d s.nodes (found (codes "nodeName") (slice_members s) ∙ or_none _) (found (codes "nodeSelector") (slice_members s) ∙ or_none _) (found (codes "allNodes") (slice_members s) ∙ or_none _) (found (codes "perDeviceNodeSelection") (slice_members s) ∙ or_none _) kept.nodes range.nodes in
-    let sets = counter_sets_back path d s.counters (found (codes "sharedCounters") (slice_members s) ∙ or_none _) kept.set_names
+    let sets = counter_sets_back path d s.counters s.devices (found (codes "sharedCounters") (slice_members s) ∙ or_none _) (found (codes "devices") (slice_members s) ∙ or_none _) kept.one_kind kept.set_names
     (both_values IsCounterSet SetInRange SetReads set_reads s.counters (recursion_from_All IsCounterSet s.counters kept.sets) range.counters) kept.counters in
-    let devices = devices_back s.driver s.counters (is_per_device s.nodes) path d s.devices (found (codes "devices") (slice_members s) ∙ or_none _) kept.device_count kept.device_names_differ (recursion_from_All IsLabel (map (λ x. x.name) s.devices) kept.device_names)
-    (recursion_from_All (KeepsLimits s.counters (is_per_device s.nodes)) s.devices kept.devices) range.devices in
+    let devices = devices_back s.driver (is_per_device s.nodes) path d s.devices (found (codes "devices") (slice_members s) ∙ or_none _) kept.device_count kept.device_names_differ (recursion_from_All IsLabel (map (λ x. x.name) s.devices) kept.device_names)
+    (recursion_from_All (KeepsLimits (is_per_device s.nodes)) s.devices kept.devices) range.devices in
     let has_driver : get_member (codes "driver") ms ≡ Some (string s.driver) = found (codes "driver") (slice_members s) in
     let has_pool : get_member (codes "pool") ms ≡ Some (pool_json s.pool) = found (codes "pool") (slice_members s) in
     rw (has_driver, driver, has_pool, pool, nodes, sets, devices) refl

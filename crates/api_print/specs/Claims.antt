@@ -13,6 +13,7 @@ use Rattle.api_claim.specs.declared.types.ResourceClaim.{ResourceClaim}
 use Rattle.api_print.specs.Classes.{selectors_if}
 use Rattle.api_print.specs.Devices.{full_name}
 use Rattle.api_print.specs.Shapes.{flag_if, list_if, list_json, member_if}
+use Rattle.api_print.specs.Taints.{tolerations_if}
 
 -- ---- what is asked for
 
@@ -31,7 +32,8 @@ exactly_json e =
     (member (codes "allocationMode") (string (mode_text e.ask.mode))
     (member_if (codes "count") (count_if e.ask.mode)
     (member (codes "deviceClassName") (string e.ask.class)
-    (member_if (codes "selectors") (selectors_if e.ask.selectors) no_members)))))
+    (member_if (codes "selectors") (selectors_if e.ask.selectors)
+    (member_if (codes "tolerations") (tolerations_if e.ask.tolerations) no_members))))))
 
 abbrev pub subrequest_json : DeviceSubRequest → Data
 subrequest_json s =
@@ -39,7 +41,8 @@ subrequest_json s =
     (member_if (codes "count") (count_if s.ask.mode)
     (member (codes "deviceClassName") (string s.ask.class)
     (member (codes "name") (string s.name)
-    (member_if (codes "selectors") (selectors_if s.ask.selectors) no_members)))))
+    (member_if (codes "selectors") (selectors_if s.ask.selectors)
+    (member_if (codes "tolerations") (tolerations_if s.ask.tolerations) no_members))))))
 
 -- ---- requests
 

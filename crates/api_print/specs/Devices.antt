@@ -11,6 +11,7 @@ use Rattle.api_slice.specs.declared.types.CounterSet.{CounterSet}
 use Rattle.api_slice.specs.declared.types.Device.{Device}
 use Rattle.api_print.specs.Selectors.{all_nodes_if, node_name_if, node_selector_if}
 use Rattle.api_print.specs.Shapes.{list_if, member_if, own_text, table_if, table_json}
+use Rattle.api_print.specs.Taints.{taints_if}
 
 -- ---- amounts
 
@@ -54,4 +55,5 @@ device_json d =
     (member_if (codes "consumesCounters") (list_if consumption_json d.consumes)
     (member (codes "name") (string d.name)
     (member_if (codes "nodeName") (option_and_then node_name_if d.nodes)
-    (member_if (codes "nodeSelector") (option_and_then node_selector_if d.nodes) no_members)))))))
+    (member_if (codes "nodeSelector") (option_and_then node_selector_if d.nodes)
+    (member_if (codes "taints") (taints_if d.taints) no_members))))))))

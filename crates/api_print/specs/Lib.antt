@@ -4,6 +4,7 @@ pub mod Nodes
 pub mod Classes
 pub mod Pods
 pub mod Selectors
+pub mod Taints
 pub mod Devices
 pub mod Slices
 pub mod Claims

@@ -2,7 +2,7 @@
 use Rattle.std.specs.Prelude.{ℕ, Bool, true, false, List, [], ◌∷◌, map, Option, Some, None}
 use Rattle.std.specs.Ordering.{nat_cmp, is_lt}
 use Rattle.std.specs.Cmp.Lexicographic.{slice_cmp}
-use Rattle.serde_json.specs.Data.{Data, boolean, array, object, Items, Members, no_members, member, put}
+use Rattle.serde_json.specs.Data.{Data, boolean, string, array, object, Items, Members, no_members, member, put}
 use Rattle.serde_json.specs.View.{items_of}
 
 -- a member that may be missing, before others
@@ -19,6 +19,11 @@ comes_before key (member other d ms) = is_lt (slice_cmp nat_cmp key other)
 abbrev pub flag_if : Bool → Option Data
 flag_if false = None
 flag_if true = Some (boolean true)
+
+-- a text, left out if it is empty
+abbrev pub text_if : List ℕ → Option Data
+text_if [] = None
+text_if (b ∷ bs) = Some (string (b ∷ bs))
 
 -- an item for each element, in order
 abbrev pub listed : {A : Type 0} → (A → Data) → List A → Items

@@ -4,6 +4,7 @@ ghost use Rattle.serde_json.specs.View.{members_view, view};
 ghost use Rattle.api_print.specs.Devices.{amount_json, attribute_json, consumption_json, device_json, full_name};
 ghost use Rattle.api_print.specs.Selectors.{all_nodes_if, node_name_if, node_selector_if};
 ghost use Rattle.api_print.specs.Shapes.{list_if, member_if, table_if};
+ghost use Rattle.api_print.specs.Taints.{taints_if};
 
 use crate::fields::{Members, before, before_if, none};
 use crate::listing::{Printed, some_list, some_table};
@@ -39,17 +40,27 @@ fn own_selector(alloc: Global, nodes: &Option<Nodes>) -> Result<Option<Value>, A
     }
 }
 
+/// `taints`, if there are any.
+fn with_taints(alloc: Global, device: &Device) -> Result<Members, AllocError>
+    ensures { IfOk result (λ m. members_view m.entries ≡ member_if (codes "taints") (taints_if device.now.taints) no_members) }
+{
+    let taints = some_list(alloc, device.taints.as_slice())?;
+    before_if(none(alloc), alloc, "taints", taints)
+}
+
 /// The members from `name` on.
 #[tactic(auto, using(crate::proofs::Order::before_member_if))]
 fn name_and_nodes(alloc: Global, device: &Device) -> Result<Members, AllocError>
     ensures { IfOk result (λ m. members_view m.entries ≡ member (codes "name") (string device.now.name)
         (member_if (codes "nodeName") (option_and_then node_name_if device.now.nodes)
-        (member_if (codes "nodeSelector") (option_and_then node_selector_if device.now.nodes) no_members))) }
+        (member_if (codes "nodeSelector") (option_and_then node_selector_if device.now.nodes)
+        (member_if (codes "taints") (taints_if device.now.taints) no_members)))) }
 {
     let name = Value::try_from_str(alloc, device.name.as_str())?;
     let node_name = own_node_name(alloc, &device.nodes)?;
     let selector = own_selector(alloc, &device.nodes)?;
-    let members = before_if(none(alloc), alloc, "nodeSelector", selector)?;
+    let members = with_taints(alloc, device)?;
+    let members = before_if(members, alloc, "nodeSelector", selector)?;
     let members = before_if(members, alloc, "nodeName", node_name)?;
     before(members, alloc, "name", name)
 }

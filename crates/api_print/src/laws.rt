@@ -39,7 +39,7 @@ pub fn node_reads_back(node: &Node, version: u64, uid: u64)
 
 /// The JSON of a slice reads as the slice, with the version that it has in the state: its name, driver
 /// and pool, where its devices are, its counter sets, and of each device its name, attributes,
-/// capacities, what it draws from counter sets, and its own nodes. Allocates nothing.
+/// capacities, what it draws from counter sets, its own nodes and its taints. Allocates nothing.
 pub fn slice_reads_back(slice: &ResourceSlice, version: u64, uid: u64)
     ensures { slice_of (slice_json (record { object = slice.now; uid = uid; version = version })) ≡ Ok (slice_read (record { object = slice.now; uid = uid; version = version })) }
 {

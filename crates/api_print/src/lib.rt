@@ -4,7 +4,9 @@
 //! fields of `spec` that are kept and set, and the status of a claim whose grant is published. Where
 //! several texts would read as the same object, these are printed (this project's own choice):
 //!
-//! - optional lists and tables without entries and flags that are false are left out
+//! - optional lists and tables without entries, flags that are false, and empty values, keys and
+//!   effects of taints and tolerations are left out
+//! - the operator of a toleration is always printed, also if it is Equal
 //! - `allocationMode` is always printed, and with ExactCount also a `count` of 1
 //! - names of attributes and capacities are printed in full, `domain/id`, even if the domain is the
 //!   driver
@@ -35,6 +37,7 @@ mod selector;
 mod slice;
 mod spec;
 mod status;
+mod taints;
 #[cfg(test)]
 mod tests;
 

@@ -1,7 +1,7 @@
 ghost use Rattle.std.specs.Prelude.{◌≡◌, ℕ, List, option_map, IfOk};
 ghost use Rattle.serde_json.specs.Data.{Data, no_members, string};
 ghost use Rattle.serde_json.specs.View.{view};
-ghost use Rattle.api_print.specs.Shapes.{flag_if, list_if, list_json, own_text, table_if, table_json};
+ghost use Rattle.api_print.specs.Shapes.{flag_if, list_if, list_json, own_text, table_if, table_json, text_if};
 
 use dra_values::{Table, Text};
 use serde_json::{Map, Value, put};
@@ -23,6 +23,17 @@ impl Printed for Text {
     fn value(&self, alloc: Global) -> Result<Value, AllocError> {
         Value::try_from_str(alloc, self.as_str())
     }
+}
+
+/// A text that isn't empty. `AllocError` only if memory runs out.
+pub fn some_text(alloc: Global, text: &Text) -> Result<Option<Value>, AllocError>
+    ensures { IfOk result (λ o. option_map view o ≡ text_if text.now) }
+{
+    let text = text.as_str();
+    if text.is_empty() {
+        return Ok(None);
+    }
+    Ok(Some(Value::try_from_str(alloc, text)?))
 }
 
 /// What names a member of an object.

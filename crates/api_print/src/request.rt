@@ -4,10 +4,11 @@ ghost use Rattle.serde_json.specs.View.{members_view, view};
 ghost use Rattle.api_print.specs.Classes.{selectors_if};
 ghost use Rattle.api_print.specs.Claims.{count_if, exactly_json, kind_before, mode_text, request_json, subrequest_json};
 ghost use Rattle.api_print.specs.Shapes.{member_if};
+ghost use Rattle.api_print.specs.Taints.{tolerations_if};
 
 use crate::class::some_selectors;
 use crate::fields::{Members, before, before_if, none};
-use crate::listing::{Printed, flag, list};
+use crate::listing::{Printed, flag, list, some_list};
 use api_claim::{
     AllocationMode, DeviceAsk, DeviceRequest, DeviceSubRequest, ExactDeviceRequest, RequestKind,
 };
@@ -32,12 +33,16 @@ fn count(mode: AllocationMode) -> Option<Value>
     }
 }
 
-/// `selectors`, if there are any.
-fn with_selectors(alloc: Global, ask: &DeviceAsk) -> Result<Members, AllocError>
-    ensures { IfOk result (λ m. members_view m.entries ≡ member_if (codes "selectors") (selectors_if ask.now.selectors) no_members) }
+/// `selectors` and `tolerations`, each if there are any.
+#[tactic(auto, using(crate::proofs::Order::before_member_if))]
+fn with_lists(alloc: Global, ask: &DeviceAsk) -> Result<Members, AllocError>
+    ensures { IfOk result (λ m. members_view m.entries ≡ member_if (codes "selectors") (selectors_if ask.now.selectors)
+        (member_if (codes "tolerations") (tolerations_if ask.now.tolerations) no_members)) }
 {
+    let tolerations = some_list(alloc, ask.tolerations.as_slice())?;
     let selectors = some_selectors(alloc, ask.selectors.as_slice())?;
-    before_if(none(alloc), alloc, "selectors", selectors)
+    let members = before_if(none(alloc), alloc, "tolerations", tolerations)?;
+    before_if(members, alloc, "selectors", selectors)
 }
 
 #[tactic(auto, using(crate::proofs::Order::before_member_if))]
@@ -47,7 +52,7 @@ fn exactly(alloc: Global, exactly: &ExactDeviceRequest) -> Result<Value, AllocEr
     let ask = &exactly.ask;
     let class = Value::try_from_str(alloc, ask.class.as_str())?;
     let mode = Value::try_from_str(alloc, mode_text(ask.mode))?;
-    let members = with_selectors(alloc, ask)?;
+    let members = with_lists(alloc, ask)?;
     let members = before(members, alloc, "deviceClassName", class)?;
     let members = before_if(members, alloc, "count", count(ask.mode))?;
     let members = before(members, alloc, "allocationMode", mode)?;
@@ -64,7 +69,7 @@ impl Printed for DeviceSubRequest {
         let name = Value::try_from_str(alloc, self.name.as_str())?;
         let class = Value::try_from_str(alloc, ask.class.as_str())?;
         let mode = Value::try_from_str(alloc, mode_text(ask.mode))?;
-        let members = with_selectors(alloc, ask)?;
+        let members = with_lists(alloc, ask)?;
         let members = before(members, alloc, "name", name)?;
         let members = before(members, alloc, "deviceClassName", class)?;
         let members = before_if(members, alloc, "count", count(ask.mode))?;

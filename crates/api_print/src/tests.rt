@@ -240,12 +240,12 @@ fn prints_slices(rt: HostRuntime) -> Result<(), Fail> {
     let alloc = rt.alloc();
     let whole = slice_text(
         alloc,
-        "{\"metadata\":{\"name\":\"s0\"},\"spec\":{\"driver\":\"gpu.example.com\",\"nodeName\":\"n0\",\"pool\":{\"name\":\"n0\",\"generation\":1,\"resourceSliceCount\":2},\"sharedCounters\":[{\"name\":\"set\",\"counters\":{\"memory\":{\"value\":\"1Ki\"}}}],\"devices\":[{\"name\":\"d0\",\"attributes\":{\"model\":{\"string\":\"a\"},\"example.com/ecc\":{\"bool\":true},\"slot\":{\"int\":-3},\"rev\":{\"version\":\"1.2.3\"}},\"capacity\":{\"memory\":{\"value\":\"1500m\"}},\"consumesCounters\":[{\"counterSet\":\"set\",\"counters\":{\"memory\":{\"value\":\"1k\"}}}]}]}}",
+        "{\"metadata\":{\"name\":\"s0\"},\"spec\":{\"driver\":\"gpu.example.com\",\"nodeName\":\"n0\",\"pool\":{\"name\":\"n0\",\"generation\":1,\"resourceSliceCount\":2},\"devices\":[{\"name\":\"d0\",\"attributes\":{\"model\":{\"string\":\"a\"},\"example.com/ecc\":{\"bool\":true},\"slot\":{\"int\":-3},\"rev\":{\"version\":\"1.2.3\"}},\"capacity\":{\"memory\":{\"value\":\"1500m\"}},\"consumesCounters\":[{\"counterSet\":\"set\",\"counters\":{\"memory\":{\"value\":\"1k\"}}}]}]}}",
     );
     assert!(rt;
         is(
             whole,
-            "{\"apiVersion\":\"resource.k8s.io/v1\",\"kind\":\"ResourceSlice\",\"metadata\":{\"name\":\"s0\",\"resourceVersion\":\"300\",\"uid\":\"00000000-0000-4000-8000-00000000000a\"},\"spec\":{\"devices\":[{\"attributes\":{\"example.com/ecc\":{\"bool\":true},\"gpu.example.com/model\":{\"string\":\"a\"},\"gpu.example.com/rev\":{\"version\":\"1.2.3\"},\"gpu.example.com/slot\":{\"int\":-3}},\"capacity\":{\"gpu.example.com/memory\":{\"value\":\"1.5\"}},\"consumesCounters\":[{\"counterSet\":\"set\",\"counters\":{\"memory\":{\"value\":\"1000\"}}}],\"name\":\"d0\"}],\"driver\":\"gpu.example.com\",\"nodeName\":\"n0\",\"pool\":{\"generation\":1,\"name\":\"n0\",\"resourceSliceCount\":2},\"sharedCounters\":[{\"counters\":{\"memory\":{\"value\":\"1024\"}},\"name\":\"set\"}]}}"
+            "{\"apiVersion\":\"resource.k8s.io/v1\",\"kind\":\"ResourceSlice\",\"metadata\":{\"name\":\"s0\",\"resourceVersion\":\"300\",\"uid\":\"00000000-0000-4000-8000-00000000000a\"},\"spec\":{\"devices\":[{\"attributes\":{\"example.com/ecc\":{\"bool\":true},\"gpu.example.com/model\":{\"string\":\"a\"},\"gpu.example.com/rev\":{\"version\":\"1.2.3\"},\"gpu.example.com/slot\":{\"int\":-3}},\"capacity\":{\"gpu.example.com/memory\":{\"value\":\"1.5\"}},\"consumesCounters\":[{\"counterSet\":\"set\",\"counters\":{\"memory\":{\"value\":\"1000\"}}}],\"name\":\"d0\"}],\"driver\":\"gpu.example.com\",\"nodeName\":\"n0\",\"pool\":{\"generation\":1,\"name\":\"n0\",\"resourceSliceCount\":2}}}"
         )
     );
     let each = slice_text(
@@ -273,6 +273,49 @@ fn prints_claims(rt: HostRuntime) -> Result<(), Fail> {
         is(
             forms,
             "{\"apiVersion\":\"resource.k8s.io/v1\",\"kind\":\"ResourceClaim\",\"metadata\":{\"name\":\"c0\",\"namespace\":\"team\",\"resourceVersion\":\"301\",\"uid\":\"00000000-0000-4000-8000-00000000000b\"},\"spec\":{\"devices\":{\"constraints\":[{\"matchAttribute\":\"example.com/numa\",\"requests\":[\"a\"]}],\"requests\":[{\"firstAvailable\":[{\"allocationMode\":\"ExactCount\",\"count\":2,\"deviceClassName\":\"gpu\",\"name\":\"big\"},{\"allocationMode\":\"All\",\"deviceClassName\":\"gpu\",\"name\":\"all\"}],\"name\":\"a\"},{\"exactly\":{\"adminAccess\":true,\"allocationMode\":\"ExactCount\",\"count\":1,\"deviceClassName\":\"gpu\",\"selectors\":[{\"cel\":{\"expression\":\"true\"}}]},\"name\":\"b\"}]}}}"
+        )
+    );
+    Ok(())
+}
+
+#[test]
+fn prints_counter_sets_and_taints(rt: HostRuntime) -> Result<(), Fail> {
+    let alloc = rt.alloc();
+    let sets = slice_text(
+        alloc,
+        "{\"metadata\":{\"name\":\"s0\"},\"spec\":{\"driver\":\"gpu.example.com\",\"nodeName\":\"n0\",\"pool\":{\"name\":\"n0\",\"generation\":1,\"resourceSliceCount\":2},\"sharedCounters\":[{\"name\":\"set\",\"counters\":{\"memory\":{\"value\":\"1Ki\"}}}]}}",
+    );
+    assert!(rt;
+        is(
+            sets,
+            "{\"apiVersion\":\"resource.k8s.io/v1\",\"kind\":\"ResourceSlice\",\"metadata\":{\"name\":\"s0\",\"resourceVersion\":\"300\",\"uid\":\"00000000-0000-4000-8000-00000000000a\"},\"spec\":{\"driver\":\"gpu.example.com\",\"nodeName\":\"n0\",\"pool\":{\"generation\":1,\"name\":\"n0\",\"resourceSliceCount\":2},\"sharedCounters\":[{\"counters\":{\"memory\":{\"value\":\"1024\"}},\"name\":\"set\"}]}}"
+        )
+    );
+    let tainted = slice_text(
+        alloc,
+        "{\"metadata\":{\"name\":\"s0\"},\"spec\":{\"driver\":\"gpu.example.com\",\"nodeName\":\"n0\",\"pool\":{\"name\":\"n0\",\"generation\":1,\"resourceSliceCount\":1},\"devices\":[{\"name\":\"d0\",\"taints\":[{\"key\":\"example.com/broken\",\"effect\":\"NoExecute\"},{\"timeAdded\":\"2026-01-01T00:00:00Z\",\"effect\":\"NoSchedule\",\"value\":\"old\",\"key\":\"age\"}]},{\"name\":\"d1\",\"taints\":[]}]}}",
+    );
+    assert!(rt;
+        is(
+            tainted,
+            "{\"apiVersion\":\"resource.k8s.io/v1\",\"kind\":\"ResourceSlice\",\"metadata\":{\"name\":\"s0\",\"resourceVersion\":\"300\",\"uid\":\"00000000-0000-4000-8000-00000000000a\"},\"spec\":{\"devices\":[{\"name\":\"d0\",\"taints\":[{\"effect\":\"NoExecute\",\"key\":\"example.com/broken\"},{\"effect\":\"NoSchedule\",\"key\":\"age\",\"value\":\"old\"}]},{\"name\":\"d1\"}],\"driver\":\"gpu.example.com\",\"nodeName\":\"n0\",\"pool\":{\"generation\":1,\"name\":\"n0\",\"resourceSliceCount\":1}}}"
+        )
+    );
+    Ok(())
+}
+
+#[test]
+fn prints_tolerations(rt: HostRuntime) -> Result<(), Fail> {
+    let alloc = rt.alloc();
+    let tolerant = claim_text(
+        alloc,
+        "{\"metadata\":{\"name\":\"c0\"},\"spec\":{\"devices\":{\"requests\":[{\"name\":\"a\",\"exactly\":{\"deviceClassName\":\"gpu\",\"selectors\":[{\"cel\":{\"expression\":\"true\"}}],\"tolerations\":[{\"operator\":\"Exists\",\"value\":\"x\"},{\"key\":\"age\",\"value\":\"old\",\"effect\":\"NoSchedule\"},{\"key\":\"k\",\"operator\":\"Equal\",\"value\":\"\",\"effect\":\"\"}]}},{\"name\":\"b\",\"firstAvailable\":[{\"name\":\"s\",\"deviceClassName\":\"gpu\",\"allocationMode\":\"All\",\"tolerations\":[{\"tolerationSeconds\":5,\"key\":\"age\",\"operator\":\"Exists\",\"effect\":\"NoExecute\"}]},{\"name\":\"t\",\"deviceClassName\":\"gpu\",\"tolerations\":[]}]}]}}}",
+        None,
+    );
+    assert!(rt;
+        is(
+            tolerant,
+            "{\"apiVersion\":\"resource.k8s.io/v1\",\"kind\":\"ResourceClaim\",\"metadata\":{\"name\":\"c0\",\"namespace\":\"default\",\"resourceVersion\":\"301\",\"uid\":\"00000000-0000-4000-8000-00000000000b\"},\"spec\":{\"devices\":{\"requests\":[{\"exactly\":{\"allocationMode\":\"ExactCount\",\"count\":1,\"deviceClassName\":\"gpu\",\"selectors\":[{\"cel\":{\"expression\":\"true\"}}],\"tolerations\":[{\"operator\":\"Exists\"},{\"effect\":\"NoSchedule\",\"key\":\"age\",\"operator\":\"Equal\",\"value\":\"old\"},{\"key\":\"k\",\"operator\":\"Equal\"}]},\"name\":\"a\"},{\"firstAvailable\":[{\"allocationMode\":\"All\",\"deviceClassName\":\"gpu\",\"name\":\"s\",\"tolerations\":[{\"effect\":\"NoExecute\",\"key\":\"age\",\"operator\":\"Exists\"}]},{\"allocationMode\":\"ExactCount\",\"count\":1,\"deviceClassName\":\"gpu\",\"name\":\"t\"}],\"name\":\"b\"}]}}}"
         )
     );
     Ok(())
