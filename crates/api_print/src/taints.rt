@@ -72,7 +72,7 @@ impl Printed for Toleration {
         let members = before_if(none(alloc), alloc, "value", value)?;
         let members = before(members, alloc, "operator", operator)?;
         let members = before_if(members, alloc, "key", key)?;
-        let members = before_if(members, alloc, "effect", None)?;
+        let members = before_if(members, alloc, "effect", effect)?;
         Ok(Value::Object(members))
     }
 }
