@@ -1,12 +1,14 @@
-//! When a plan and a verdict are true in a state, and the decision on a pod.
+//! The check of a plan against a state: the first of its failures, if there is one.
 #![tactic(auto)]
 
-mod claims;
-mod decision;
-mod holders;
-mod laws;
-mod nodes;
+mod agreeing;
+mod checking;
+mod counters;
+mod due;
+mod holding;
+mod known;
+mod naming;
+mod results;
+mod shape;
 
-pub use decision::{Decision, decide, may_schedule};
-pub use holders::one_holder_is_kept;
-pub use laws::plan_holds;
+pub use checking::{check, check_status};

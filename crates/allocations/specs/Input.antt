@@ -4,7 +4,7 @@ use Rattle.api_claim.specs.declared.types.ResourceClaim.{ResourceClaim}
 use Rattle.api_cluster.specs.declared.types.Pod.{Pod}
 use Rattle.walk.specs.Walk.{Item, walk}
 use Rattle.walk.specs.Outcome.{Outcome, outcome}
-use Rattle.counter_sets.specs.Draws.{drawn, value_among}
+use Rattle.request_rules.specs.Draws.{drawn, value_among}
 use Rattle.pool_view.specs.Usable.{has_broken, node_devices, usable_slices}
 use Rattle.cluster.specs.declared.plan.DeviceResult.{DeviceResult}
 use Rattle.cluster.specs.declared.plan.Grant.{Grant}
@@ -16,7 +16,7 @@ use Rattle.request_rules.specs.Faults.{FaultPlace}
 use Rattle.request_rules.specs.Grants.{ClaimResults, NamedResult, grants_of}
 use Rattle.request_rules.specs.Input.{SearchInput}
 use Rattle.request_rules.specs.Problem.{problem_of}
-use Rattle.request_rows.specs.Match.{matched_by}
+use Rattle.request_rules.specs.Match.{matched_by}
 use Rattle.allocations.specs.Claims.{wanted}
 
 unfoldable pub input_of : State → List ResourceClaim → List ℕ → SearchInput

@@ -10,7 +10,7 @@ use Rattle.cluster.specs.declared.plan.Grant.{Grant}
 use Rattle.object_fields.specs.declared.key.DeviceId.{DeviceId}
 use Rattle.object_fields.specs.declared.key.Key.{Key}
 use Rattle.pool_view.specs.Pools.{Offered}
-use Rattle.counter_sets.specs.Draws.{CounterId}
+use Rattle.request_rules.specs.Draws.{CounterId}
 use Rattle.counter_sets.specs.Holding.{AreHeld, Holders}
 use Rattle.walk.specs.Walk.{Item, Mark, Part, Full, Fault, Problem, Shape, walk}
 use Rattle.walk.specs.Outcome as walks

@@ -10,14 +10,14 @@ use Rattle.object_fields.specs.declared.key.DeviceId.{DeviceId}
 use Rattle.object_fields.specs.declared.key.Key.{Key}
 use Rattle.api_claim.specs.declared.types.ResourceClaim.{ResourceClaim}
 use Rattle.pool_view.specs.Pools.{Offered}
-use Rattle.counter_sets.specs.Draws.{CounterId}
+use Rattle.request_rules.specs.Draws.{CounterId}
 use Rattle.counter_sets.specs.Holding as holding
 use Rattle.counter_sets.specs.Holding.{AreHeld}
 use Rattle.request_rules.specs.Input.{SearchInput}
 use Rattle.request_rules.specs.Asked.{rules_from, rules_of}
 use Rattle.request_rules.specs.Problem.{problem_of, shape_of}
 use Rattle.request_rows.specs.Wanted.{WantsFields}
-use Rattle.request_rows.specs.Match.{ClassTable}
+use Rattle.request_rules.specs.Match.{ClassTable}
 use Rattle.allocator.specs.declared.agreements.ClaimAgreement.{ClaimAgreement}
 use Rattle.allocator.specs.declared.outcome.Outcome as outcomes
 use Rattle.allocator.specs.Agreeing.{AreAgreed}

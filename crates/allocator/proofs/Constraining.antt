@@ -5,7 +5,7 @@ use Rattle.std.proofs.lemmas.List.{length-append, length-take-le, map-append}
 use Rattle.api_claim.specs.declared.types.DeviceConstraint.{DeviceConstraint}
 use Rattle.api_claim.specs.declared.types.ResourceClaim.{ResourceClaim}
 use Rattle.pool_view.specs.Pools.{Offered}
-use Rattle.constraints.specs.Agreeing as constraints
+use Rattle.request_rules.specs.Agreeing as constraints
 use Rattle.constraints.specs.Keeping.{IsOf, named_count}
 use Rattle.request_rules.specs.Lists.{Each}
 use Rattle.request_rules.specs.Names.{Label}

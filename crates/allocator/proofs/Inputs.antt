@@ -6,7 +6,7 @@ use Rattle.std.proofs.lemmas.List.Sums.{sum_by-append}
 use Rattle.object_fields.specs.declared.key.DeviceId.{DeviceId}
 use Rattle.object_fields.specs.declared.key.Key.{Key}
 use Rattle.pool_view.specs.Pools.{Offered}
-use Rattle.counter_sets.specs.Draws.{CounterId, Draw, drawn_from, is_covered}
+use Rattle.request_rules.specs.Draws.{CounterId, Draw, drawn_from, is_covered}
 use Rattle.counter_sets.specs.Totals.{KeptCounters, drawn_in, value_of}
 use Rattle.request_rules.specs.Input.{SearchInput}
 use Rattle.request_rules.specs.Rules.{Pick, amount, covers, device_draws, draws, draws_by, total}

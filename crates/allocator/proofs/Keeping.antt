@@ -5,9 +5,9 @@ use Rattle.std.specs.Option.{option_to_list}
 use Rattle.std.proofs.lemmas.List.{length-append}
 use Rattle.object_fields.specs.declared.key.DeviceId.{DeviceId}
 use Rattle.object_fields.specs.declared.key.Key.{Key}
-use Rattle.counter_sets.specs.Draws.{CounterId}
+use Rattle.request_rules.specs.Draws.{CounterId}
 use Rattle.counter_sets.specs.Totals.{KeptCounters, drawn_in, value_of}
-use Rattle.constraints.specs.Agreeing as constraints
+use Rattle.request_rules.specs.Agreeing as constraints
 use Rattle.request_rules.specs.Lists.{Each}
 use Rattle.request_rules.specs.Input.{SearchInput}
 use Rattle.request_rules.specs.Asked.{rules_of}
@@ -17,7 +17,7 @@ use Rattle.request_rules.specs.Asked as asking
 use Rattle.request_rules.specs.Rules.{agrees, amount, draws, picks}
 use Rattle.request_rows.specs.declared.choice.Slot.{Slot}
 use Rattle.request_rows.specs.Seen.{slot_seen}
-use Rattle.request_rows.specs.Ways.{all_asked}
+use Rattle.request_rules.specs.Ways.{all_asked}
 use Rattle.allocator.specs.declared.agreements.ClaimAgreement.{ClaimAgreement}
 use Rattle.allocator.specs.declared.pick.Pick.{Pick}
 use Rattle.allocator.specs.declared.run.Run.{Run}

@@ -12,7 +12,7 @@ use Rattle.request_rules.specs.Rules.{apart, excludes, id_by, id_of, least_after
 use Rattle.request_rows.specs.declared.choice.Slot.{Slot}
 use Rattle.request_rows.specs.Seen.{slot_seen}
 use Rattle.allocator.specs.declared.pick.Pick.{Pick}
-use Rattle.allocator.specs.Input.{AreApart}
+use Rattle.request_rules.specs.Apart.{AreApart}
 use Rattle.allocator.specs.Placing.{IsNext, IsPlacing, pick_seen, placed}
 use Rattle.allocator.proofs.Tests.{both_false, same_number}
 use Rattle.allocator.proofs.Equal.{same_from_device_eq}

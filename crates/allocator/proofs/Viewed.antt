@@ -7,7 +7,7 @@ use Rattle.walk.specs.Walk.{Faulty, Hopeless, Open}
 use Rattle.object_fields.specs.declared.key.DeviceId.{DeviceId}
 use Rattle.object_fields.specs.declared.key.Key.{Key}
 use Rattle.cluster.specs.declared.plan.SelectorFault.{SelectorFault}
-use Rattle.counter_sets.specs.Draws.{CounterId}
+use Rattle.request_rules.specs.Draws.{CounterId}
 use Rattle.counter_sets.specs.Totals.{drawn_in, value_of}
 use Rattle.api_claim.specs.declared.types.ResourceClaim.{ResourceClaim}
 use Rattle.request_rules.specs.Input.{SearchInput}
@@ -23,7 +23,7 @@ use Rattle.request_rules.specs.Rules.{least_after, picks}
 use Rattle.request_rows.specs.declared.choice.Slot.{Slot}
 use Rattle.request_rows.specs.Seen.{slot_seen}
 use Rattle.request_rows.specs.Wanted.{RowsFields, input_of}
-use Rattle.request_rows.specs.Ways.{all_asked}
+use Rattle.request_rules.specs.Ways.{all_asked}
 use Rattle.allocator.specs.declared.run.Run.{Run}
 use Rattle.allocator.specs.Agreeing.{AreAgreed}
 use Rattle.allocator.specs.Answered.{grant_of, grants_at}

@@ -1,6 +1,6 @@
 -- Constraints over the devices that are placed.
 use Rattle.std.specs.Prelude.{ℕ, ◌+◌, ◌^◌, ◌<◌, ◌≡◌, List, [], ◌∷◌, ◌++◌, true, length, slice_get}
-use Rattle.constraints.specs.Agreeing as constraints
+use Rattle.request_rules.specs.Agreeing as constraints
 use Rattle.constraints.specs.Keeping.{IsOf}
 use Rattle.request_rules.specs.Input.{SearchInput}
 use Rattle.request_rules.specs.Lists.{Each}

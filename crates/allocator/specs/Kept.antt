@@ -2,7 +2,7 @@
 use Rattle.std.specs.Prelude.{ℕ, ◌≤◌, ◌≡◌, List, map}
 use Rattle.object_fields.specs.declared.key.DeviceId.{DeviceId}
 use Rattle.object_fields.specs.declared.key.Key.{Key}
-use Rattle.counter_sets.specs.Draws.{CounterId}
+use Rattle.request_rules.specs.Draws.{CounterId}
 use Rattle.counter_sets.specs.Totals.{KeptCounters, drawn_in}
 use Rattle.request_rules.specs.Input.{SearchInput}
 use Rattle.request_rules.specs.Asked.{rules_of}
@@ -12,7 +12,7 @@ use Rattle.request_rows.specs.Seen.{slot_seen}
 use Rattle.request_rows.specs.Wanted.{RowsFields, input_of}
 use Rattle.allocator.specs.declared.run.Run.{Run}
 use Rattle.allocator.specs.Holding.{Holders}
-use Rattle.allocator.specs.Input.{AreApart}
+use Rattle.request_rules.specs.Apart.{AreApart}
 use Rattle.allocator.specs.Placing.{IsPlacing, input_at, placed, placed_draws}
 use Rattle.allocator.specs.Agreeing.{AreAgreed}
 

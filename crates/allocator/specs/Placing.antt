@@ -4,7 +4,7 @@ use Rattle.std.specs.List.{sum_by}
 use Rattle.object_fields.specs.declared.key.DeviceId.{DeviceId}
 use Rattle.object_fields.specs.declared.key.Key.{Key}
 use Rattle.pool_view.specs.Pools.{Offered}
-use Rattle.counter_sets.specs.Draws.{CounterId, is_covered}
+use Rattle.request_rules.specs.Draws.{CounterId, is_covered}
 use Rattle.counter_sets.specs.Totals.{KeptCounters, drawn_in, value_of}
 use Rattle.request_rules.specs.Lists.{Each}
 use Rattle.request_rules.specs.Input.{SearchInput}
@@ -13,7 +13,7 @@ use Rattle.request_rules.specs.Rules as rules
 use Rattle.request_rules.specs.Rules.{amount, draws, fills, may_join, picks}
 use Rattle.request_rows.specs.declared.choice.Slot.{Slot}
 use Rattle.request_rows.specs.Seen.{slot_seen}
-use Rattle.request_rows.specs.Ways.{all_asked, asked_at}
+use Rattle.request_rules.specs.Ways.{all_asked, asked_at}
 use Rattle.allocator.specs.declared.pick.Pick.{Pick}
 use Rattle.allocator.specs.Input.{with_counters}
 

@@ -1,6 +1,6 @@
 ghost use Rattle.request_rows.specs.Wanted.{input_of};
 ghost use Rattle.std.specs.Prelude.{◌≡◌, ◌<◌, ◌≤◌, ℕ, List, [], ◌∷◌, ◌++◌, false, Some, option_map, map, length, slice_get, IfOk};
-ghost use Rattle.counter_sets.specs.Draws.{CounterId};
+ghost use Rattle.request_rules.specs.Draws.{CounterId};
 ghost use Rattle.counter_sets.specs.Totals.{drawn_in, value_of};
 ghost use Rattle.request_rules.specs.Input.{SearchInput};
 ghost use Rattle.request_rules.specs.Rules as rules;
@@ -8,7 +8,8 @@ ghost use Rattle.request_rules.specs.Asked.{rules_of};
 ghost use Rattle.request_rules.specs.Rules.{least_after};
 ghost use Rattle.request_rows.specs.Seen.{slot_seen};
 ghost use Rattle.allocator.specs.Agreeing.{AreAgreed};
-ghost use Rattle.allocator.specs.Input.{AreApart, with_counters};
+ghost use Rattle.allocator.specs.Input.{with_counters};
+ghost use Rattle.request_rules.specs.Apart.{AreApart};
 ghost use Rattle.allocator.specs.Kept.{board_setting};
 ghost use Rattle.allocator.specs.Placing.{next_by};
 ghost use Rattle.allocator.specs.Answered.{grants_at, selector_fault};

@@ -8,14 +8,14 @@ ghost use Rattle.counter_sets.specs.Totals.{drawn_in, value_of};
 ghost use Rattle.request_rules.specs.Asked.{rules_of};
 ghost use Rattle.request_rules.specs.Lists.{Each};
 ghost use Rattle.request_rules.specs.Rules as rules;
-ghost use Rattle.counter_sets.specs.Draws.{CounterId};
+ghost use Rattle.request_rules.specs.Draws.{CounterId};
 ghost use Rattle.request_rows.specs.Seen.{shape_seen};
 ghost use Rattle.request_rules.specs.Rules.{agrees, least_after, may_join};
 ghost use Rattle.request_rules.specs.Problem.{good, shape_of};
 ghost use Rattle.request_rows.specs.Seen.{slot_seen};
-ghost use Rattle.request_rows.specs.Ways.{all_asked};
+ghost use Rattle.request_rules.specs.Ways.{all_asked};
 ghost use Rattle.allocator.specs.Agreeing.{AreAgreed};
-ghost use Rattle.allocator.specs.Input.{AreApart};
+ghost use Rattle.request_rules.specs.Apart.{AreApart};
 ghost use Rattle.allocator.specs.Kept.{IsRun, setting_of};
 ghost use Rattle.allocator.specs.Placing.{IsNext, IsPick, IsPlacing, covered_by, input_at, next_by, pick_seen, placed, placed_draws};
 

@@ -3,7 +3,7 @@ ghost use Rattle.object_fields.specs.declared.key.DeviceId.{DeviceId};
 ghost use Rattle.object_fields.specs.declared.key.Key.{Key};
 ghost use Rattle.counter_sets.specs.Holding.{AreHeld};
 ghost use Rattle.walk.specs.Walk.{Faulty, Open};
-ghost use Rattle.counter_sets.specs.Draws.{CounterId};
+ghost use Rattle.request_rules.specs.Draws.{CounterId};
 ghost use Rattle.counter_sets.specs.Totals.{drawn_in, value_of};
 ghost use Rattle.deep_search.specs.Progress.{told};
 ghost use Rattle.deep_search.specs.declared.answer.Answer.TheVariants as ended;
@@ -13,7 +13,8 @@ ghost use Rattle.request_rows.specs.Wanted.{asking, input_of};
 ghost use Rattle.allocator.specs.Agreeing.{AreAgreed};
 ghost use Rattle.allocator.specs.Answered.{answer_by, answer_of};
 ghost use Rattle.allocator.specs.Kept.{board_setting};
-ghost use Rattle.allocator.specs.Input.{AreApart, with_counters};
+ghost use Rattle.allocator.specs.Input.{with_counters};
+ghost use Rattle.request_rules.specs.Apart.{AreApart};
 
 use crate::agreements::{ClaimAgreement, agreements_of};
 use crate::board::RequestBoard;

@@ -1,15 +1,15 @@
 ghost use Rattle.request_rows.specs.Wanted.{input_of};
 ghost use Rattle.std.specs.Prelude.{◌≡◌, ◌==◌, ◌&&◌, ◌+◌, ◌-◌, ◌≤◌, ◌<◌, ◌∷◌, [], ℕ, true, All, not, ◌||◌, length};
 ghost use Rattle.std.specs.List.{list_all};
-ghost use Rattle.counter_sets.specs.Draws.{CounterId};
+ghost use Rattle.request_rules.specs.Draws.{CounterId};
 ghost use Rattle.counter_sets.specs.Totals.{drawn_in, value_of};
 ghost use Rattle.request_rules.specs.Rules as rules;
 ghost use Rattle.request_rules.specs.Rules.{amount, draws, least_after};
 ghost use Rattle.request_rows.specs.Seen.{seat_seen, slot_seen};
-ghost use Rattle.request_rows.specs.Ways.{all_asked, asked_at};
+ghost use Rattle.request_rules.specs.Ways.{all_asked, asked_at};
 ghost use Rattle.allocator.specs.Agreeing.{result_at};
 ghost use Rattle.allocator.specs.Holding.{held_at};
-ghost use Rattle.allocator.specs.Input.{AreApart};
+ghost use Rattle.request_rules.specs.Apart.{AreApart};
 ghost use Rattle.allocator.specs.Placing.{IsPick, IsPlacing, covered_by, least_by, pick_seen, placed};
 
 use crate::held::HeldDevices;

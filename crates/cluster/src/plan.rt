@@ -32,7 +32,7 @@ pub struct SelectorFault {
     /// The selector's index among those of the class and then of the request, from 0.
     pub selector: usize,
     pub device: DeviceId,
-    pub cause: device_match::Cause,
+    pub cause: selector_meaning::Cause,
 }
 
 /// Why a node wasn't taken.

@@ -5,7 +5,7 @@ use Rattle.std.proofs.Common.{append_assoc, append-nil}
 use Rattle.api_claim.specs.declared.types.DeviceConstraint.{DeviceConstraint}
 use Rattle.api_slice.specs.declared.types.Attribute.{Attribute}
 use Rattle.api_slice.specs.declared.types.Attribute.TheVariants as attribute
-use Rattle.constraints.specs.Agreeing.{Pick, agrees, agrees_by, all_same, attribute_of, each_agrees, is_named, same_by}
+use Rattle.request_rules.specs.Agreeing.{Pick, agrees, agrees_by, all_same, attribute_of, each_agrees, is_named, same_by}
 use Rattle.constraints.specs.Keeping.{AllHave, KeepsConstraint}
 use Rattle.constraints.proofs.SameValues.{same_from_by, same_value-same}
 use Rattle.constraints.proofs.Taken.{have_more}

@@ -5,7 +5,7 @@ use Rattle.std.proofs.lemmas.Bool.Decides.{Decides-int_eq}
 use Rattle.std.proofs.lemmas.Slice.Eq.{bytes_eq-Decides}
 use Rattle.api_slice.specs.declared.types.Attribute.{Attribute}
 use Rattle.api_slice.specs.declared.types.Attribute.TheVariants as attribute
-use Rattle.constraints.specs.Agreeing.{same_by, same_value}
+use Rattle.request_rules.specs.Agreeing.{same_by, same_value}
 
 same_from_beq : (b c : Bool) → beq b c ≡ true → b ≡ c
 same_from_beq true true e = refl

@@ -3,7 +3,7 @@ use Rattle.std.proofs.Common.{◌≡◌, ℕ, ◌+◌, ◌-◌, ◌==◌, List, 
 use Rattle.std.proofs.lemmas.Bool.Decides.{nat_tests}
 use Rattle.api_claim.specs.declared.types.DeviceConstraint.{DeviceConstraint}
 use Rattle.api_slice.specs.declared.types.Attribute.{Attribute}
-use Rattle.constraints.specs.Agreeing.{Pick, agrees, agrees_by, all_same, attribute_of, is_named, same_by}
+use Rattle.request_rules.specs.Agreeing.{Pick, agrees, agrees_by, all_same, attribute_of, is_named, same_by}
 use Rattle.constraints.specs.Keeping.{AgreementFields, AllHave, IsOf, named_count}
 use Rattle.constraints.specs.Steps.{fits_by, fits_value, has_by, left_by, taken_by}
 use Rattle.constraints.proofs.SameValues.{same_from_by}

@@ -2,7 +2,7 @@
 use Rattle.std.specs.Prelude.{ℕ, ◌+◌, ◌≡◌, List, [], ◌∷◌, true, Option, Some, if◌then◌else◌}
 use Rattle.api_claim.specs.declared.types.DeviceConstraint.{DeviceConstraint}
 use Rattle.api_slice.specs.declared.types.Attribute.{Attribute}
-use Rattle.constraints.specs.Agreeing.{Pick, attribute_of, is_named}
+use Rattle.request_rules.specs.Agreeing.{Pick, attribute_of, is_named}
 
 -- each result that the constraint names has this at its attribute
 abbrev pub AllHave : DeviceConstraint → Option Attribute → List Pick → Type 0

@@ -1,7 +1,7 @@
 -- What an agreement's calls do, from what it keeps.
 use Rattle.std.specs.Prelude.{ℕ, ◌==◌, ◌+◌, ◌-◌, Bool, true, false, not, ◌||◌, Option, None, Some, if◌then◌else◌}
 use Rattle.api_slice.specs.declared.types.Attribute.{Attribute}
-use Rattle.constraints.specs.Agreeing.{Pick, attribute_of, is_named, same_by}
+use Rattle.request_rules.specs.Agreeing.{Pick, attribute_of, is_named, same_by}
 use Rattle.constraints.specs.Keeping.{AgreementFields}
 
 -- nothing was taken, or the value is that of the first

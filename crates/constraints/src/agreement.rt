@@ -1,5 +1,5 @@
 ghost use Rattle.std.specs.Prelude.{◌≡◌, ◌+◌, ◌^◌, ◌<◌, ◌++◌, ◌∷◌, [], List, None, true, option_copied};
-ghost use Rattle.constraints.specs.Agreeing.{Pick, agrees, is_named};
+ghost use Rattle.request_rules.specs.Agreeing.{Pick, agrees, is_named};
 ghost use Rattle.constraints.specs.Keeping.{IsOf};
 ghost use Rattle.constraints.specs.Steps.{fits_by, has_by, left_by, taken_by};
 
@@ -67,7 +67,7 @@ impl<'a> Agreement<'a> {
         self.remove(picked);
     }
 
-    #[tactic(auto, unfolding(crate::specs::Agreeing::is_named))]
+    #[tactic(auto, unfolding(request_rules::specs::Agreeing::is_named))]
     fn names(&self, picked: &Picked<'_>) -> bool
         ensures { result ≡ is_named self.now.constraint picked.now }
     {

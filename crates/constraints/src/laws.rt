@@ -1,6 +1,6 @@
 ghost use Rattle.std.specs.Prelude.{◌≡◌, List, [], true};
 ghost use Rattle.api_claim.specs.declared.types.DeviceConstraint.{DeviceConstraint};
-ghost use Rattle.constraints.specs.Agreeing.{Pick, each_agrees};
+ghost use Rattle.request_rules.specs.Agreeing.{Pick, each_agrees};
 ghost use Rattle.constraints.specs.Keeping.{KeepsConstraint};
 
 /// Results keep a constraint if and only if each of them agrees with those before it: there is one

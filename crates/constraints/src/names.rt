@@ -1,7 +1,7 @@
 //! Which results a constraint names.
 
 ghost use Rattle.std.specs.Prelude.{◌≡◌};
-ghost use Rattle.constraints.specs.Agreeing as spec;
+ghost use Rattle.request_rules.specs.Agreeing as spec;
 
 use dra_values::Text;
 

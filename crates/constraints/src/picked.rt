@@ -14,7 +14,7 @@ pub struct Picked<'a> {
 }
 
 impl<'a> Model for Picked<'a> {
-    ghost use Rattle.constraints.specs.Agreeing.{Pick};
+    ghost use Rattle.request_rules.specs.Agreeing.{Pick};
 
     ghost Value = { Pick };
 
@@ -23,7 +23,7 @@ impl<'a> Model for Picked<'a> {
 
 impl<'a> Picked<'a> {
     ghost use Rattle.std.specs.Prelude.{◌≡◌};
-    ghost use Rattle.constraints.specs.Agreeing as spec;
+    ghost use Rattle.request_rules.specs.Agreeing as spec;
 
     /// A result of that name.
     pub fn of(request: &'a Text, device: DeviceRef<'a>, admin: bool) -> Picked<'a>

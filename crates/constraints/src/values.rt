@@ -1,7 +1,7 @@
 //! Attributes of devices, and which values are the same.
 
 ghost use Rattle.std.specs.Prelude.{◌≡◌, option_copied};
-ghost use Rattle.constraints.specs.Agreeing as spec;
+ghost use Rattle.request_rules.specs.Agreeing as spec;
 
 use api_slice::Attribute;
 use dra_values::Text;
@@ -9,7 +9,7 @@ use object_fields::QualName;
 use pool_view::DeviceRef;
 
 /// What the device has at the attribute's full name.
-#[tactic(auto, unfolding(crate::specs::Agreeing::attribute_of))]
+#[tactic(auto, unfolding(request_rules::specs::Agreeing::attribute_of))]
 pub fn attribute_of<'a>(device: &DeviceRef<'a>, name: &QualName) -> Option<&'a Attribute>
     ensures { option_copied result ≡ spec.attribute_of device.now name.now }
 {

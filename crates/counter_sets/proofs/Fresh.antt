@@ -9,7 +9,7 @@ use Rattle.api_slice.specs.declared.types.CounterSet.{CounterSet}
 use Rattle.api_slice.specs.declared.types.ResourceSlice.{ResourceSlice}
 use Rattle.pool_view.specs.Names.{at_name, text_cmp, text_eq}
 use Rattle.pool_view.specs.Pools.{set_named}
-use Rattle.counter_sets.specs.Draws.{CounterId, counter_value, is_of_pool, natural, or_value}
+use Rattle.request_rules.specs.Draws.{CounterId, counter_value, is_of_pool, natural, or_value}
 use Rattle.counter_sets.specs.Totals.{KeptCounters, PoolCounters, SetCounters, Tabled, changed_at, counter_at, counter_in, drawn_in, drawn_kept, grown_set, grown_sets, or_empty, pool_in, pools_with, undrawn, value_kept, value_of, with_counters, with_grown, with_room, with_set, with_sets, with_slice}
 use Rattle.counter_sets.specs.declared.added.GrownSet.{GrownSet}
 use Rattle.counter_sets.specs.declared.counter.Counter.{Counter}

@@ -9,7 +9,7 @@ use Rattle.api_slice.specs.declared.types.Device.{Device}
 use Rattle.api_slice.specs.declared.types.ResourceSlice.{ResourceSlice}
 use Rattle.pool_view.specs.Names.{at_name, device_eq, text_cmp, text_eq}
 use Rattle.pool_view.specs.Pools.{Offered, id_in, id_of, offered_by}
-use Rattle.counter_sets.specs.Draws.{CounterId, drawn_by, drawn_from}
+use Rattle.request_rules.specs.Draws.{CounterId, drawn_by, drawn_from}
 use Rattle.counter_sets.specs.Holding.{Holders, added_held, held_device, holder_in, offered_held, put_device, put_driver, put_pool}
 use Rattle.counter_sets.specs.Totals.{KeptCounters, Tabled, drawn_in, keeps, moved_by, or_empty, sum_most, value_of}
 use Rattle.counter_sets.specs.declared.change.Change.TheVariants as change

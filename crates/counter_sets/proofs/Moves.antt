@@ -15,7 +15,7 @@ use Rattle.api_slice.specs.declared.types.CounterConsumption.{CounterConsumption
 use Rattle.api_slice.specs.declared.types.ResourceSlice.{ResourceSlice}
 use Rattle.pool_view.specs.Names.{at_name, text_eq}
 use Rattle.pool_view.specs.Pools.{Offered}
-use Rattle.counter_sets.specs.Draws.{CounterId, Draw, counter_eq, counter_for, draws_from, draws_of, drawn_at, drawn_from, has_enough, is_covered, is_of_pool, is_within, natural}
+use Rattle.request_rules.specs.Draws.{CounterId, Draw, counter_eq, counter_for, draws_from, draws_of, drawn_at, drawn_from, has_enough, is_covered, is_of_pool, is_within, natural}
 use Rattle.counter_sets.specs.Totals.{KeptCounters, PoolCounters, SetCounters, Tabled, changed_at, counter_at, counter_in, counter_moved, covers_all, covers_counter, covers_sets, drawn_in, drawn_kept, has_room, keeps, moved, moved_by, moved_counter, moved_counters, moved_pools, moved_sets, or_empty, pool_in, sum_from, sum_most, sum_of, value_kept, value_of}
 use Rattle.counter_sets.specs.declared.change.Change.{Change}
 use Rattle.counter_sets.specs.declared.change.Change.TheVariants as change

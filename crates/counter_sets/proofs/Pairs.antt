@@ -13,7 +13,7 @@ use Rattle.object_fields.specs.declared.key.Key.{Key}
 use Rattle.api_slice.specs.declared.types.ResourceSlice.{ResourceSlice}
 use Rattle.pool_view.specs.Names.{device_eq, text_eq}
 use Rattle.pool_view.specs.Pools.{Offered, id_in, offered_by}
-use Rattle.counter_sets.specs.Draws.{CounterId, drawn, drawn_by, drawn_from, held_devices, held_in, is_held}
+use Rattle.request_rules.specs.Draws.{CounterId, drawn, drawn_by, drawn_from, held_devices, held_in, is_held}
 use Rattle.counter_sets.specs.Holding.{AreHeld, Holders, holder_in, offered_held, put_driver}
 use Rattle.counter_sets.specs.Totals.{KeptCounters, drawn_in}
 use Rattle.counter_sets.proofs.Holding.{holder_after}

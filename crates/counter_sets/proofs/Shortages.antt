@@ -6,7 +6,7 @@ use Rattle.std.proofs.lemmas.List.Folds.{find-append}
 use Rattle.api_slice.specs.declared.types.CounterConsumption.{CounterConsumption}
 use Rattle.pool_view.specs.Names.{at_name}
 use Rattle.pool_view.specs.Pools.{Offered}
-use Rattle.counter_sets.specs.Draws.{CounterId, Draw, counter_for, draws_from, draws_of, drawn_from, first_short, has_enough}
+use Rattle.request_rules.specs.Draws.{CounterId, Draw, counter_for, draws_from, draws_of, drawn_from, first_short, has_enough}
 use Rattle.counter_sets.specs.Totals.{KeptCounters, PoolCounters, counter_in, covers_counter, drawn_in, drawn_kept, or_empty, or_short, short_in, short_name, short_set, sum_from, sum_most, value_kept, value_of}
 use Rattle.counter_sets.proofs.Moves.{counter_covered, draw_at, drawn_own, sets_at}
 

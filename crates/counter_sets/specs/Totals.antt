@@ -9,7 +9,7 @@ use Rattle.api_slice.specs.declared.types.CounterSet.{CounterSet}
 use Rattle.api_slice.specs.declared.types.ResourceSlice.{ResourceSlice}
 use Rattle.pool_view.specs.Names.{at_name, text_cmp, text_eq}
 use Rattle.pool_view.specs.Pools.{Offered}
-use Rattle.counter_sets.specs.Draws.{CounterId, natural}
+use Rattle.request_rules.specs.Draws.{CounterId, natural}
 use Rattle.counter_sets.specs.declared.counter.Counter.{Counter}
 use Rattle.counter_sets.specs.declared.added.GrownSet.{GrownSet}
 use Rattle.counter_sets.specs.declared.change.Change.{Change}

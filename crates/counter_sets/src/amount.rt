@@ -1,7 +1,7 @@
 //! Amounts in 10^-9.
 
 ghost use Rattle.std.specs.Prelude.{◌≡◌, ◌+◌, min};
-ghost use Rattle.counter_sets.specs.Draws.{natural};
+ghost use Rattle.request_rules.specs.Draws.{natural};
 ghost use Rattle.counter_sets.specs.Totals.{sum_from, sum_most, sum_of};
 
 use api_slice::CounterConsumption;

@@ -1,5 +1,5 @@
 ghost use Rattle.std.specs.Prelude.{◌≡◌, Option, None, Some, IfSome, min, option_map, List, ◌∷◌, ◌++◌, ◌+◌, ◌-◌, ◌<◌, ◌≤◌, [], true, false, OnOk, OnErr, IfOk, is_some};
-ghost use Rattle.counter_sets.specs.Draws.{CounterId, counter_for, counter_value, first_short, drawn, drawn_by, drawn_from, is_covered, or_value};
+ghost use Rattle.request_rules.specs.Draws.{CounterId, counter_for, counter_value, first_short, drawn, drawn_by, drawn_from, is_covered, or_value};
 ghost use Rattle.counter_sets.specs.Totals as spec;
 ghost use Rattle.counter_sets.specs.Totals.{drawn_in, keeps, value_of};
 ghost use Rattle.counter_sets.specs.Holding.{AreHeld, added_held, offered_held};

@@ -1,4 +1,2 @@
-pub mod Given
 pub mod Matched
-pub mod Deciding
 pub mod Valued

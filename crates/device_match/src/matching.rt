@@ -1,26 +1,14 @@
-ghost use Rattle.std.specs.Prelude.{◌≡◌, ◌≢◌, ◌↔◌, ◌++◌, ℕ, List, IfOk};
+ghost use Rattle.std.specs.Prelude.{◌≡◌, ◌≢◌, ◌++◌, ℕ, IfOk};
 ghost use Rattle.cel_value.specs.declared.error.EvalError.TheVariants.{Memory};
-ghost use Rattle.cel_value.specs.Device.{Device};
-ghost use Rattle.device_match.specs.declared.matching.Match.TheVariants.{Yes, No, Fault};
-ghost use Rattle.device_match.specs.declared.verdict.Cause.{Cause};
-ghost use Rattle.device_match.specs.declared.verdict.Cause.TheVariants.{Error};
-ghost use Rattle.device_match.specs.declared.verdict.Verdict.TheVariants as verdict;
-ghost use Rattle.device_match.specs.Match.{AreTrue, SaysBehindTrue, match_from};
+ghost use Rattle.selector_meaning.specs.declared.matching.Match.TheVariants.{Fault};
+ghost use Rattle.selector_meaning.specs.declared.verdict.Cause.TheVariants.{Error};
+ghost use Rattle.selector_meaning.specs.Match.{match_from};
 
-use crate::{Cause, DeviceSelector, Verdict};
+use crate::verdict::matches;
 use cel_value::DeviceEnv;
+use device_selector::DeviceSelector;
+use selector_meaning::{Match, Verdict};
 use std::alloc::{AllocError, Global};
-
-/// What selectors, one after another, evaluate to on a device.
-#[derive(Clone, Copy, Debug, PartialEq, Eq, Drop)]
-pub enum Match {
-    /// Each is true of the device.
-    Yes,
-    /// The first that isn't true is false.
-    No,
-    /// The first that isn't true is neither true nor false; `place` is its index.
-    Fault { place: usize, cause: Cause },
-}
 
 /// What a class's selectors and then a request's evaluate to on a device: the first that isn't true decides.
 /// The only error is out of memory, and no Fault has it.
@@ -54,7 +42,7 @@ fn match_list(
     for i in 0..selectors.len() {
         // Lists of more than 2^64 selectors together don't fit in memory.
         let place = before.checked_add(i).ok_or(AllocError)?;
-        match selectors[i].matches(alloc, device)? {
+        match matches(alloc, &selectors[i], device)? {
             Verdict::Yes => {}
             Verdict::No => return Ok(Match::No),
             Verdict::Fault(cause) => return Ok(Match::Fault { place, cause }),
@@ -62,13 +50,3 @@ fn match_list(
     }
     Ok(Match::Yes)
 }
-
-/// The first selector that isn't true of a device decides: the result is Yes if all are true, No
-/// if the first that isn't true is false, and else Fault, with its index and its cause.
-pub fn first_that_is_not_true_decides()
-    ensures yes { (d : Device) (texts : List (List ℕ)) → match_from d 0 texts ≡ Yes ↔ AreTrue d texts }
-    ensures no { (d : Device) (texts : List (List ℕ)) →
-        match_from d 0 texts ≡ No ↔ ((place : ℕ) × SaysBehindTrue d texts place verdict.No) }
-    ensures fault { (d : Device) (texts : List (List ℕ)) (place : ℕ) (cause : Cause) →
-        match_from d 0 texts ≡ Fault place cause ↔ SaysBehindTrue d texts place (verdict.Fault cause) }
-{}

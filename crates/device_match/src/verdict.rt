@@ -1,33 +1,53 @@
-ghost use Rattle.std.specs.Prelude.{◌≡◌, Ok};
-ghost use Rattle.device_match.specs.Matches as spec;
+ghost use Rattle.std.specs.Prelude.{◌≡◌, ◌≢◌, ◌≤◌, [], IfOk, Ok};
+ghost use Rattle.cel_meaning.specs.Cost.{cost};
+ghost use Rattle.cel_value.specs.declared.error.EvalError.TheVariants.{Memory};
+ghost use Rattle.selector_meaning.specs.declared.verdict.Cause.TheVariants.{Error};
+ghost use Rattle.selector_meaning.specs.declared.verdict.Verdict.TheVariants.{Fault};
+ghost use Rattle.selector_meaning.specs.Match.{text_verdict};
+ghost use Rattle.selector_meaning.specs.Matches as spec;
 
-use cel_value::{EvalError, Single, Value};
-use thiserror::Error;
+use cel_eval::{Steps, eval};
+use cel_value::{DeviceEnv, EvalError, Single, Value};
+use device_selector::{Compiled, DeviceSelector};
+use selector_meaning::{Cause, Verdict};
+use std::alloc::{AllocError, Global};
 
-/// What a selector evaluates to on a device.
-#[derive(Clone, Copy, Debug, PartialEq, Eq, Drop)]
-pub enum Verdict {
-    /// It is true of the device.
-    Yes,
-    /// It is false of the device.
-    No,
-    /// It is neither.
-    Fault(Cause),
+/// What a compiled selector evaluates to on a device: Yes if and only if it is true, No if and only if it is
+/// false, and else Fault with the error or with NotBool. The only error is out of memory, and no Fault
+/// has it. By the table of steps the selector takes at most 1,000,000 on the device; that is stated
+/// of the selector and the device, since the call returns no count of its own.
+pub fn evaluate(
+    alloc: Global,
+    selector: &Compiled,
+    device: &DeviceEnv,
+) -> Result<Verdict, AllocError>
+    ensures verdict { IfOk result (λ v. v ≡ spec.match_of device.now selector.now.tree) }
+    ensures no_memory { IfOk result (λ v. v ≢ Fault (Error Memory)) }
+    ensures bounded { cost device.now [] selector.now.tree ≤ 1000000 }
+{
+    let mut steps = Steps { count: 0 };
+    match eval(alloc, device, selector.tree(), &mut steps) {
+        Ok(value) => Ok(verdict_of(&value)),
+        Err(EvalError::Memory) => Err(AllocError),
+        Err(error) => Ok(Verdict::Fault(Cause::Error(error))),
+    }
 }
 
-/// Why a selector is neither true nor false of a device.
-#[derive(Clone, Copy, Debug, PartialEq, Eq, Drop, Error)]
-pub enum Cause {
-    /// It has no value on the device. The error is never Memory.
-    #[error(transparent)]
-    Error(EvalError),
-    /// It has a value on the device other than true and false, as an expression of type dyn may.
-    #[error("neither true nor false")]
-    NotBool,
+/// What a selector evaluates to on a device: Yes if and only if it is true, No if and only if it is
+/// false, and else Fault. The only error is out of memory, and no Fault has it.
+pub fn matches(
+    alloc: Global,
+    selector: &DeviceSelector,
+    device: &DeviceEnv,
+) -> Result<Verdict, AllocError>
+    ensures verdict { IfOk result (λ v. v ≡ text_verdict device.now selector.now) }
+    ensures no_memory { IfOk result (λ v. v ≢ Fault (Error Memory)) }
+{
+    evaluate(alloc, selector.compiled(), device)
 }
 
 /// The verdict by the value of a selector.
-pub(crate) fn verdict_of(value: &Value) -> Verdict
+fn verdict_of(value: &Value) -> Verdict
     ensures { result ≡ spec.verdict_of (Ok value.now) }
 {
     match value {

@@ -11,7 +11,7 @@ use Rattle.cluster.specs.declared.plan.Reason.{Reason}
 use Rattle.cluster.specs.declared.plan.Reason.TheVariants as reason
 use Rattle.cluster.specs.declared.plan.Verdict.{Verdict}
 use Rattle.cluster.specs.declared.state.State.{State}
-use Rattle.alloc_rules.specs.Plans.{CauseBy, ReasonBy, VerdictBy}
+use Rattle.plan_rules.specs.Plans.{CauseBy, ReasonBy, VerdictBy}
 use Rattle.replay_core.specs.declared.options.ReplayOptions.{ReplayOptions}
 use Rattle.dra_cli.specs.Headline.{NamesBudget}
 use Rattle.dra_cli.specs.Program.{AsksFor}

@@ -11,7 +11,7 @@ ghost use Rattle.dra_cli.specs.Words.{options_of};
 
 use crate::words::options_of;
 use dra_ports::{Sink, Source};
-use ledger_core::{
+use histories::{
     adoptions_are_allocations, denials_change_nothing, grants_are_allocations, legal_steps,
     objects_keep_limits, one_holder, pods_use_claims, users_are_busy, verdicts_are_true,
 };

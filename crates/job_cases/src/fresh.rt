@@ -2,7 +2,7 @@ ghost use Rattle.std.specs.Prelude.{◌≡◌, ◌<◌, ℕ, length, slice_index
 ghost use Rattle.std.specs.List.{list_any};
 ghost use Rattle.cluster.specs.declared.entry.JobState.TheVariants.{Fresh};
 ghost use Rattle.cluster.specs.History.{job_state_of};
-ghost use Rattle.sched_job.specs.Runs.{attempts_of};
+ghost use Rattle.histories.specs.JobRuns.{attempts_of};
 ghost use Rattle.sched_job.specs.Steps.{AllNew, Differ, jobs_of};
 ghost use Rattle.sched_job.specs.declared.work.Stage.TheVariants.{Ready};
 

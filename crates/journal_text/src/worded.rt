@@ -45,12 +45,12 @@ fn error_word(error: EvalError) -> &'static str
     }
 }
 
-fn why_word(why: device_match::Cause) -> &'static str
+fn why_word(why: selector_meaning::Cause) -> &'static str
     ensures { result.now ≡ why_word why }
 {
     match why {
-        device_match::Cause::Error(error) => error_word(error),
-        device_match::Cause::NotBool => "NotBool",
+        selector_meaning::Cause::Error(error) => error_word(error),
+        selector_meaning::Cause::NotBool => "NotBool",
     }
 }
 

@@ -9,7 +9,7 @@ use Rattle.cluster.specs.declared.entry.JobState.TheVariants.{Fresh}
 use Rattle.cluster.specs.Events.{after, job_state_after}
 use Rattle.cluster.specs.History.{next_job_state, next_state, job_state_of, state_of, told}
 use Rattle.cluster.specs.JobState.{failures}
-use Rattle.ledger_core.specs.Legal.{Step, LegalAfter, Legal}
+use Rattle.histories.specs.Legal.{Step, LegalAfter, Legal}
 
 told-more : {A : Type 0} (step : A → ℕ → Entry → A) (a : A) (n : ℕ) (es : List Entry) (e : Entry) → told step a n (es ++ e ∷ []) ≡ step (told step a n es) (n + length es + 1) e
 unfolding told

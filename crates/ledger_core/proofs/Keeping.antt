@@ -12,7 +12,7 @@ use Rattle.cluster.specs.Held.{HeldOnce, held}
 use Rattle.cluster.specs.History.{state_of}
 use Rattle.cluster.specs.JobState.{failures, has_failed}
 use Rattle.cluster.specs.State.{empty_state}
-use Rattle.ledger_core.specs.Legal.{Legal, Step}
+use Rattle.histories.specs.Legal.{Legal, Step}
 use Rattle.ledger_core.specs.Ledger.{IsKept, job_state_in}
 use Rattle.ledger_core.proofs.Histories.{Legal-empty, Legal-more, failures_within, job_state_of-empty, state_of-empty, state_of-more}
 use Rattle.ledger_core.proofs.Standing.{job_states_more}

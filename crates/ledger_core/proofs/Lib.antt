@@ -1,5 +1,4 @@
 pub mod Histories
-pub mod Always
 pub mod Rows
 pub mod Standing
 pub mod SameNames
@@ -11,15 +10,3 @@ pub mod Freeing
 pub mod Keeping
 pub mod Taking
 pub mod Reserving
-pub mod GoingOn
-pub mod Applying
-pub mod Headlines
-pub mod Busy
-pub mod Keyed
-pub mod Claiming
-pub mod Using
-pub mod Taken
-pub mod Uids
-pub mod Adopting
-pub mod Limits
-pub mod Holders

@@ -23,11 +23,11 @@ use Rattle.cluster.specs.History.{state_at, state_of}
 use Rattle.cluster.specs.State.{claims_of, may_use}
 use Rattle.allocations.specs.Allocation.{IsAllocation}
 use Rattle.allocations.specs.Claims.{has_grant, is_elsewhere, is_off, joined, missing_claim, other_claim, wanted}
-use Rattle.alloc_rules.specs.Plans.{Holds, IsIdle, PlanTrue}
-use Rattle.plan_check.specs.Failing.{failing}
-use Rattle.plan_check.specs.Fits.{FitsPod, IsAsKnown}
-use Rattle.ledger_core.specs.Legal.{Legal}
-use Rattle.ledger_core.specs.Reserved.{IsPlanned, MayReserve}
+use Rattle.plan_rules.specs.Plans.{Holds, IsIdle, PlanTrue}
+use Rattle.plan_rules.specs.Failing.{failing}
+use Rattle.plan_rules.specs.Fits.{FitsPod, IsAsKnown}
+use Rattle.histories.specs.Legal.{Legal}
+use Rattle.histories.specs.Reserved.{IsPlanned, MayReserve}
 
 -- ---- the claims that a plan knew, then and now
 

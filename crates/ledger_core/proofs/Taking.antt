@@ -18,9 +18,9 @@ use Rattle.cluster.specs.Adopted.{result_of, with_adopted}
 use Rattle.cluster.specs.Denied.{conflict_of, first_refusal, or_else, status_refusal, when}
 use Rattle.cluster.specs.History.{state_of}
 use Rattle.cluster.specs.Reserved.{with_reserved}
-use Rattle.ledger_core.specs.Denied.{grant_refusal}
+use Rattle.histories.specs.Denied.{grant_refusal}
 use Rattle.ledger_core.specs.Ledger.{IsKept}
-use Rattle.ledger_core.specs.Legal.{Step}
+use Rattle.histories.specs.Legal.{Step}
 use Rattle.ledger_core.proofs.Giving.{Adopts, Reserves, adopts, reserves}
 use Rattle.ledger_core.proofs.Keeping.{OneHolder, once_after}
 use Rattle.ledger_core.proofs.Opening.{Grantable, Open, allocation_opens}

@@ -8,7 +8,7 @@ use Rattle.cluster.specs.declared.entry.Refusal.{Refusal}
 use Rattle.cluster.specs.declared.state.PodState.{PodState}
 use Rattle.cluster.specs.Denied.{first_refusal}
 use Rattle.cluster.specs.History.{state_of}
-use Rattle.alloc_rules.specs.Plans.{IsIdle}
+use Rattle.plan_rules.specs.Plans.{IsIdle}
 use Rattle.ledger_core.specs.declared.ledger.Done.{Done}
 use Rattle.ledger_core.specs.declared.ledger.Start.{Start}
 use Rattle.ledger_core.specs.declared.ledger.Start.TheVariants as start

@@ -11,7 +11,7 @@ use Rattle.cluster.specs.Held.{held}
 use Rattle.cluster.specs.declared.state.State.{State}
 use Rattle.cluster.specs.declared.entry.Entry.{Entry}
 use Rattle.cluster.specs.declared.entry.Event.{Event}
-use Rattle.ledger_core.specs.Legal.{Legal}
+use Rattle.histories.specs.Legal.{Legal}
 use Rattle.cluster.specs.History.{job_state_of, state_of}
 
 -- its entries, and how many it may have

@@ -15,27 +15,27 @@ ghost use Rattle.cluster.specs.History.{entry_at, job_state_of, state_of};
 ghost use Rattle.cluster.specs.Ready.{object_of};
 ghost use Rattle.cluster.specs.JobState.{failures, has_failed, has_reserved, is_conflicted, is_fresh, may_try};
 ghost use Rattle.cluster.specs.State.{has_room, taken_node, use_in, version_of};
-ghost use Rattle.ledger_core.specs.Adopted.{MayAdopt, adoption};
-ghost use Rattle.ledger_core.specs.Applied.{MayApply, application};
+ghost use Rattle.histories.specs.Adopted.{MayAdopt, adoption};
+ghost use Rattle.histories.specs.Applied.{MayApply, application};
 ghost use Rattle.ledger_core.specs.Begun.{Begins};
-ghost use Rattle.ledger_core.specs.Bound.{MayBind};
-ghost use Rattle.ledger_core.specs.Conflict.{IsNextUse, MayConflict, assumed_by, status_event};
-ghost use Rattle.ledger_core.specs.Deleted.{MayDelete, deletion};
-ghost use Rattle.ledger_core.specs.Denied.{MayDeny};
-ghost use Rattle.ledger_core.specs.VerdictGiven.{MayJudge};
+ghost use Rattle.histories.specs.Bound.{MayBind};
+ghost use Rattle.histories.specs.Conflict.{IsNextUse, MayConflict, assumed_by, status_event};
+ghost use Rattle.histories.specs.Deleted.{MayDelete, deletion};
+ghost use Rattle.histories.specs.Denied.{MayDeny};
+ghost use Rattle.histories.specs.VerdictGiven.{MayJudge};
 ghost use Rattle.ledger_core.specs.Ledger.{appended, at, job_state_in};
-ghost use Rattle.ledger_core.specs.Legal.{Legal};
-ghost use Rattle.ledger_core.specs.Refused.{MayRefuse};
-ghost use Rattle.ledger_core.specs.Released.{MayRelease, release_of};
-ghost use Rattle.ledger_core.specs.Reserved.{IsPlanned, MayReserve, reservation};
-ghost use Rattle.ledger_core.specs.Unreserved.{MayUnreserve};
-ghost use Rattle.ledger_core.specs.Wrote.{MayWrite};
+ghost use Rattle.histories.specs.Legal.{Legal};
+ghost use Rattle.histories.specs.Refused.{MayRefuse};
+ghost use Rattle.histories.specs.Released.{MayRelease, release_of};
+ghost use Rattle.histories.specs.Reserved.{IsPlanned, MayReserve, reservation};
+ghost use Rattle.histories.specs.Unreserved.{MayUnreserve};
+ghost use Rattle.histories.specs.Wrote.{MayWrite};
 
 use crate::LedgerError;
-use crate::headline::{one_holder, uids_keep_claims};
 use crate::holding::{adopt, free, remove, reserve};
 use crate::room::{JobStates, append, failures, job_state_in, make_room};
 use crate::snapshot::Snapshot;
+use alloc_rules::{check, check_status};
 use api_claim::ClaimStatus;
 use cluster::{
     Command, Entry, Event, Failure, JobState, Kept, Mode, Outcome, Phase, Plan, Ready, ReadyParts,
@@ -43,9 +43,11 @@ use cluster::{
 };
 use counter_sets::Held;
 use dra_values::{Shared, Table, Text};
-use node_search::learn_full_slices;
+use full_nodes::learn_full_slices;
+use histories::{one_holder, uids_keep_claims};
+use node_inputs::wanted_in;
 use object_fields::{DeviceId, FieldError, FieldErrorKind, Key};
-use plan_check::{check, check_status, checked_is_allocation, checked_is_known};
+use plan_rules::{checked_is_allocation, checked_is_known};
 use std::alloc::{AllocError, Global};
 use std::marker::Model;
 
@@ -257,7 +259,7 @@ impl Ledger {
 
     /// Makes the grants of a plan that was true at its index, if the plan doesn't fail now, and takes the pod
     /// for the job. If the pod can't be scheduled any more, the entry is a denial, and if the plan fails
-    /// against the present state (`plan_check::check`), it is a refusal that carries the first failure; then
+    /// against the present state (`alloc_rules::check`), it is a refusal that carries the first failure; then
     /// the state stays as it was. `Full` is returned if the history has its limit of entries, and `Memory` only if
     /// memory runs out; then nothing changed.
     pub fn reserve(
@@ -433,7 +435,7 @@ impl Ledger {
 
     /// Grants a claim what a status write says, published and without users. If a refusal of the command
     /// holds (`State::status_refusal`), or else the grant isn't an allocation of the claim
-    /// (`plan_check::check_status`), the entry is a denial that carries the claim, the status and the first
+    /// (`alloc_rules::check_status`), the entry is a denial that carries the claim, the status and the first
     /// such, and the state stays as it was. `Full` is returned if the history has its limit of entries, and
     /// `Memory` only if memory runs out; then nothing changed.
     pub fn adopt(
@@ -908,13 +910,15 @@ fn learn(alloc: Global, state: &mut State, holders: &Held, pod: &Key) -> Result<
 {
     match state.pods.get(pod) {
         None => Ok(()),
-        Some(stored) => learn_full_slices(
-            alloc,
-            &mut state.inventory,
-            &state.classes,
-            &state.claims,
-            &stored.pod.object,
-            holders,
-        ),
+        Some(stored) => {
+            let claims = wanted_in(alloc, &state.claims, &stored.pod.object)?;
+            learn_full_slices(
+                alloc,
+                &mut state.inventory,
+                &state.classes,
+                &claims,
+                holders,
+            )
+        }
     }
 }

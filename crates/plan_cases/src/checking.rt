@@ -3,11 +3,11 @@ use crate::input::{CaseError, cut_word};
 use crate::planning::{Planned, read_plan};
 use crate::setup::Setup;
 use crate::spelling::key;
+use alloc_rules::{check, check_status};
 use api_claim::ClaimStatus;
 use cluster::{Command, Entry, Event, Failure, Refusal};
 use dra_values::Shared;
 use object_fields::{FieldError, FieldErrorKind, Key};
-use plan_check::{check, check_status};
 use serde_json::Value;
 use std::alloc::{AllocError, Global};
 

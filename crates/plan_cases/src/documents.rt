@@ -1,5 +1,5 @@
 ghost use Rattle.std.specs.Prelude.{◌<◌};
-ghost use Rattle.sched_job.specs.Runs.{attempts_of};
+ghost use Rattle.histories.specs.JobRuns.{attempts_of};
 
 use crate::input::{CaseError, cut_word, number};
 use crate::setup::Setup;

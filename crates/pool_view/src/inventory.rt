@@ -3,17 +3,18 @@ ghost use Rattle.pool_view.specs.Sorted.{AreSorted};
 ghost use Rattle.std.specs.List.Sorted.{IsStrictlySortedBy};
 ghost use Rattle.std.specs.Map.{keys_of};
 ghost use Rattle.pool_view.specs.Inventory.{AtOwnNames, device_count, devices_by, devices_most, empty_inventory, has_room_for, with_node, with_slice, without_node, without_slice};
+ghost use Rattle.pool_view.specs.Known.{is_sure};
 ghost use Rattle.pool_view.specs.Names.{at_name, text_cmp};
 
 use crate::Stored;
 use crate::kept::SortedSlices;
 use crate::known::{KnownList, KnownSlices};
-use crate::learning::{is_sure, position, share_lists, with_found};
+use crate::learning::{position, share_lists, with_found};
 use crate::sorting::sorted_slices;
 use crate::stored::put_named;
 use api_cluster::Node;
 use api_slice::ResourceSlice;
-use device_match::DeviceSelector;
+use device_selector::DeviceSelector;
 use dra_values::{Duplicate, Seq, Shared, Table, Text};
 use std::alloc::{AllocError, Global};
 use std::marker::Model;
@@ -212,22 +213,20 @@ impl Inventory {
         }
     }
 
-    /// Finds out whether the selectors of a class and then of a request have no evaluation error on any device
-    /// of the slice of a name, and keeps it until a slice changes; does nothing if no slice has that name. What
-    /// is kept of other selectors may be dropped. The inventory stays the same. `AllocError` only if memory runs out.
+    /// Keeps of the selectors of a class and then of a request whether they have no evaluation error on any
+    /// device of the slice of a name, until a slice changes. What is kept of other selectors may be dropped.
+    /// The inventory stays the same. `AllocError` only if memory runs out.
     pub fn learn(
         &mut self,
         alloc: Global,
         class: &[DeviceSelector],
         own: &[DeviceSelector],
         slice: &Text,
+        sure: bool,
     ) -> Result<(), AllocError>
+        requires sure { IfSome (at_name self.old.slices slice.now) (λ stored. is_sure (class.now ++ own.now) stored.object ≡ sure) }
         ensures { self.new ≡ self.old }
     {
-        let Some(stored) = self.slices.get(slice) else {
-            return Ok(());
-        };
-        let sure = is_sure(alloc, class, own, &stored.object)?;
         let name = slice.copy(alloc)?;
         let known = mem::replace(&mut self.known, Vec::new(alloc));
         self.known = with_found(alloc, known, class, own, name, sure)?;

@@ -12,7 +12,7 @@ use Rattle.api_claim.specs.declared.types.RequestKind.{RequestKind}
 use Rattle.api_claim.specs.declared.types.RequestKind.TheVariants.{Exactly, FirstAvailable}
 use Rattle.api_claim.specs.declared.types.ResourceClaim.{ResourceClaim}
 use Rattle.api_cluster.specs.declared.types.DeviceClass.{DeviceClass}
-use Rattle.device_match.specs.Selectors.{selector_of}
+use Rattle.device_selector.specs.Selectors.{selector_of}
 use Rattle.ready_objects.specs.InOrder.{AreDecisive, EachCompiles, SelectorAt, claim_listed, class_listed, kind_listed, listed, requests_listed, subrequests_listed}
 use Rattle.ready_objects.specs.Ready.{claim_ready, class_path, class_ready, kind_selectors, kind_texts, options_from, requests_from, requests_path, selector_error, selectors_path, text_at, text_by, texts_at, texts_from}
 use Rattle.ready_objects.proofs.Gathered.{given, text_ok, then_ok}

@@ -12,7 +12,7 @@ use Rattle.api_claim.specs.declared.types.RequestKind.{RequestKind}
 use Rattle.api_claim.specs.declared.types.RequestKind.TheVariants.{Exactly, FirstAvailable}
 use Rattle.api_claim.specs.declared.types.ResourceClaim.{ResourceClaim}
 use Rattle.api_cluster.specs.declared.types.DeviceClass.{DeviceClass}
-use Rattle.device_match.specs.Selectors.{selector_of}
+use Rattle.device_selector.specs.Selectors.{selector_of}
 use Rattle.ready_objects.specs.Ready.{IsReadyClaim, IsReadyClass, class_path, kind_selectors, kind_texts, options_from, requests_from, requests_path, selectors_path, text_at, text_by, texts_at, texts_from}
 
 -- a result of a reading

@@ -12,7 +12,7 @@ use Rattle.api_claim.specs.declared.types.RequestKind.{RequestKind}
 use Rattle.api_claim.specs.declared.types.RequestKind.TheVariants.{Exactly, FirstAvailable}
 use Rattle.api_claim.specs.declared.types.ResourceClaim.{ResourceClaim}
 use Rattle.api_cluster.specs.declared.types.DeviceClass.{DeviceClass}
-use Rattle.device_match.specs.Selectors.{IsSelector, selector_of}
+use Rattle.device_selector.specs.Selectors.{IsSelector, selector_of}
 use Rattle.ready_objects.specs.Ready.{class_path, requests_path, selector_error, selectors_path}
 
 -- a text of a list `selectors`, and the path to its index there

@@ -13,7 +13,7 @@ use Rattle.api_claim.specs.declared.types.RequestKind.{RequestKind}
 use Rattle.api_claim.specs.declared.types.RequestKind.TheVariants.{Exactly, FirstAvailable}
 use Rattle.api_claim.specs.declared.types.ResourceClaim.{ResourceClaim}
 use Rattle.api_cluster.specs.declared.types.DeviceClass.{DeviceClass}
-use Rattle.device_match.specs.Selectors.{selector_of}
+use Rattle.device_selector.specs.Selectors.{selector_of}
 
 -- ---- texts
 

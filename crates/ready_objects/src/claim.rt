@@ -5,7 +5,7 @@ ghost use Rattle.ready_objects.specs.Ready.{claim_ready, claim_selectors, kind_t
 
 use crate::compile::compile_each;
 use api_claim::{DeviceAsk, DeviceRequest, DeviceSubRequest, RequestKind, ResourceClaim};
-use device_match::DeviceSelector;
+use device_selector::DeviceSelector;
 use dra_values::Seq;
 use object_fields::{FieldError, Path, or_memory};
 use std::alloc::Global;

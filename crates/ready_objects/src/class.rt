@@ -4,7 +4,7 @@ ghost use Rattle.ready_objects.specs.Ready.{class_path, class_ready, texts_at};
 
 use crate::compile::compile_each;
 use api_cluster::DeviceClass;
-use device_match::DeviceSelector;
+use device_selector::DeviceSelector;
 use dra_values::Seq;
 use object_fields::{FieldError, Path};
 use std::alloc::Global;

@@ -4,7 +4,7 @@ ghost use Rattle.object_fields.specs.declared.kind.FieldErrorKind.TheVariants as
 ghost use Rattle.object_fields.specs.declared.path.Step.TheVariants as Step;
 ghost use Rattle.ready_objects.specs.Ready.{text_at, texts_at};
 
-use device_match::{CompileError, DeviceSelector};
+use device_selector::{CompileError, DeviceSelector};
 use dra_values::{Seq, Text};
 use object_fields::{FieldError, FieldErrorKind, Path, Stage, or_memory};
 use std::alloc::Global;

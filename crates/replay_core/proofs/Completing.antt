@@ -11,16 +11,16 @@ use Rattle.cluster.specs.declared.state.State.{State}
 use Rattle.cluster.specs.History.{state_at, state_of}
 use Rattle.allocations.specs.Claims.{missing_claim, other_claim, wanted}
 use Rattle.allocations.specs.Allocation.{IsAllocation}
-use Rattle.alloc_rules.specs.Plans.{IsFirstFull, IsIdle, MaySearch}
-use Rattle.ledger_core.specs.Legal.{Legal}
+use Rattle.plan_rules.specs.Plans.{IsFirstFull, IsIdle, MaySearch}
+use Rattle.histories.specs.Legal.{Legal}
 use Rattle.commands.specs.declared.command.Command.{Command}
 use Rattle.commands.specs.declared.command.Command.TheVariants.{Schedule}
 use Rattle.commands.specs.declared.given.Given.{Given}
 use Rattle.commands.specs.declared.given.Given.TheVariants.{One}
-use Rattle.sched_job.specs.Alone.{Alone}
+use Rattle.histories.specs.Alone.{Alone}
 use Rattle.sched_job.specs.Complete.{AllSettle, BoundTo, Decided, JudgedBy, PassedAll, RanAlone, first_fit}
-use Rattle.sched_job.specs.Runs.{Run}
-use Rattle.sched_job.specs.Runs as runs
+use Rattle.histories.specs.JobRuns.{Run}
+use Rattle.histories.specs.JobRuns as runs
 use Rattle.sched_job.specs.Steps.{AllOf, Extends}
 use Rattle.replay_core.specs.Complete.{IsComplete, Scheduled}
 use Rattle.replay_core.specs.Jobs.{AllOwn, JobRun, RunFrom, RunOf, run_after}

@@ -6,7 +6,7 @@ use Rattle.cluster.specs.declared.entry.Entry.{Entry}
 use Rattle.ledger_core.specs.Ledger.{History}
 use Rattle.commands.specs.declared.given.Given.{Given}
 use Rattle.commands.specs.declared.command.Command.{Command}
-use Rattle.sched_job.specs.Runs as runs
+use Rattle.histories.specs.JobRuns as runs
 use Rattle.sched_job.specs.Steps.{AllOf, Extends}
 use Rattle.replay_core.specs.Forms.{command_of}
 use Rattle.replay_core.specs.Doing.{Met, Ran}

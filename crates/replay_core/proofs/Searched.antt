@@ -2,8 +2,8 @@
 use Rattle.std.proofs.Common.{ℕ, ◌+◌, ◌≡◌, ◌∙◌, ◌⊎◌, inl, inr, List, [], ◌∷◌, ◌++◌, length, refl, sym, ap, subst, arith, append_assoc, append-nil, length-append}
 use Rattle.cluster.specs.declared.entry.Entry.{Entry}
 use Rattle.commands.specs.declared.given.Given.{Given}
-use Rattle.sched_job.specs.Histories.{Each}
-use Rattle.sched_job.specs.Runs.{JobKept, JobStep, Run, Timed}
+use Rattle.histories.specs.Histories.{Each}
+use Rattle.histories.specs.JobRuns.{JobKept, JobStep, Run, Timed}
 use Rattle.replay_core.specs.Jobs.{AllOwn, JobRun, RunFrom, RunOf, run_after}
 
 -- the entry states the result of a search of its job's run, which looks at so many items of a node's walk

@@ -12,7 +12,7 @@ use Rattle.doc_split.specs.Split.{Split, remaining}
 use Rattle.cluster.specs.declared.entry.Entry.{Entry}
 use Rattle.cluster.specs.declared.entry.JobState.TheVariants.{Fresh}
 use Rattle.ledger_core.specs.Ledger.{History}
-use Rattle.ledger_core.specs.Legal.{Legal, LegalAfter}
+use Rattle.histories.specs.Legal.{Legal, LegalAfter}
 use Rattle.cluster.specs.History.{job_state_of}
 use Rattle.journal_text.specs.Journal.{lines_from}
 use Rattle.replay_core.specs.declared.options.ReplayOptions.{ReplayOptions}

@@ -1,7 +1,7 @@
 -- How many attempts what a document asks for has.
 use Rattle.std.specs.Prelude.{◌<◌, List, [], ◌∷◌, IfOk}
 use Rattle.commands.specs.declared.given.Given.{Given}
-use Rattle.sched_job.specs.Runs.{attempts_of}
+use Rattle.histories.specs.JobRuns.{attempts_of}
 use Rattle.replay_core.specs.Forms.{command_of}
 
 -- a command has at least one

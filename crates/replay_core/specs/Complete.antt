@@ -9,11 +9,11 @@ use Rattle.cluster.specs.declared.state.State.{State}
 use Rattle.cluster.specs.History.{state_of}
 use Rattle.allocations.specs.Claims.{missing_claim, other_claim, wanted}
 use Rattle.allocations.specs.Allocation.{IsAllocation}
-use Rattle.alloc_rules.specs.Plans.{IsFirstFull, IsIdle, MaySearch}
+use Rattle.plan_rules.specs.Plans.{IsFirstFull, IsIdle, MaySearch}
 use Rattle.commands.specs.declared.command.Command.TheVariants.{Schedule}
 use Rattle.commands.specs.declared.given.Given.{Given}
 use Rattle.commands.specs.declared.given.Given.TheVariants.{One}
-use Rattle.sched_job.specs.Runs.{Run}
+use Rattle.histories.specs.JobRuns.{Run}
 use Rattle.sched_job.specs.Complete.{AllSettle, BoundTo, Decided, JudgedBy, PassedAll, first_fit}
 use Rattle.replay_core.specs.Jobs.{JobRun, RunOf, run_after}
 

@@ -3,8 +3,8 @@ use Rattle.std.specs.Prelude.{ℕ, ◌≡◌, ◌+◌, List, [], ◌∷◌, ◌+
 use Rattle.cluster.specs.declared.entry.Entry.{Entry}
 use Rattle.commands.specs.declared.command.Command.{Command}
 use Rattle.commands.specs.declared.given.Given.{Given}
-use Rattle.sched_job.specs.Runs.{Run}
-use Rattle.sched_job.specs.Runs as runs
+use Rattle.histories.specs.JobRuns.{Run}
+use Rattle.histories.specs.JobRuns as runs
 use Rattle.replay_core.specs.Forms.{command_of}
 
 -- each of the entries is the job's

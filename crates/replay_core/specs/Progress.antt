@@ -3,7 +3,7 @@ use Rattle.std.specs.Prelude.{ℕ, ◌≡◌, ◌≤◌, ◌<◌, ◌^◌, Bool,
 use Rattle.std.specs.Io.KnownBytes.{Appends, Consumes}
 use Rattle.cluster.specs.declared.entry.JobState.TheVariants.{Fresh}
 use Rattle.cluster.specs.History.{job_state_of}
-use Rattle.ledger_core.specs.Legal.{Legal}
+use Rattle.histories.specs.Legal.{Legal}
 use Rattle.ledger_core.specs.Ledger.{History}
 use Rattle.journal_text.specs.Journal.{lines_from}
 use Rattle.commands.specs.declared.given.Given.{Given}

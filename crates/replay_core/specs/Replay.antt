@@ -3,7 +3,7 @@ use Rattle.std.specs.Prelude.{ℕ, ◌≡◌, ◌≤◌, ◌+◌, ◌⊎◌, Lis
 use Rattle.std.specs.Io.KnownBytes.{Appends, Consumes}
 use Rattle.dra_ports.specs.Prefixes.{AppendsPrefix}
 use Rattle.cluster.specs.declared.entry.Entry.{Entry}
-use Rattle.ledger_core.specs.Legal.{Legal}
+use Rattle.histories.specs.Legal.{Legal}
 use Rattle.journal_text.specs.Journal.{lines_from, text_of}
 use Rattle.commands.specs.declared.given.Given.{Given}
 use Rattle.replay_core.specs.declared.options.ReplayOptions.{ReplayOptions}

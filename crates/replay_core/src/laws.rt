@@ -5,14 +5,14 @@ ghost use Rattle.cluster.specs.declared.plan.Verdict.{Verdict};
 ghost use Rattle.cluster.specs.declared.entry.Entry.{Entry};
 ghost use Rattle.cluster.specs.declared.entry.Event.{Event};
 ghost use Rattle.cluster.specs.History.{state_at};
-ghost use Rattle.alloc_rules.specs.Plans.{PlanBy, VerdictBy};
+ghost use Rattle.plan_rules.specs.Plans.{PlanBy, VerdictBy};
 ghost use Rattle.commands.specs.declared.command.Command.{Command};
 ghost use Rattle.commands.specs.declared.given.Given.{Given};
-ghost use Rattle.ledger_core.specs.Legal.{Legal};
+ghost use Rattle.histories.specs.Legal.{Legal};
 ghost use Rattle.replay_core.specs.Complete.{Scheduled};
 ghost use Rattle.replay_core.specs.Jobs.{RunOf};
 
-use ledger_core::legal_steps;
+use histories::legal_steps;
 use sched_job::{alone_is_undisturbed, schedules_are_complete};
 
 /// In the run of commands with a budget, each plan and each verdict is what searches of the nodes

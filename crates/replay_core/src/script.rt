@@ -11,8 +11,9 @@ use crate::work::{Work, do_document, print_summary};
 use crate::{Rejection, ReplayOptions, Status};
 use doc_split::{DocError, Splitter};
 use dra_ports::{Sink, Source};
+use histories::histories_grow;
 use journal_text::lines_of_more;
-use ledger_core::{Ledger, histories_grow};
+use ledger_core::Ledger;
 use std::alloc::Global;
 
 /// The most bytes of an input: 1 GiB.

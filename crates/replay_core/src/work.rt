@@ -14,8 +14,9 @@ use crate::{Rejection, ReplayOptions, Status, Stop};
 use commands::{Given, GivenError, commands};
 use doc_split::Doc;
 use dra_ports::{PortError, Sink, write_all};
+use histories::histories_grow;
 use journal_text::{lines, lines_of_more, summary};
-use ledger_core::{Ledger, histories_grow};
+use ledger_core::Ledger;
 use std::alloc::Global;
 
 /// The ledger, and how many commands were done.

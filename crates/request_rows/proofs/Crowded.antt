@@ -20,7 +20,7 @@ use Rattle.request_rules.specs.Asked.{Asked, Seat, Next, Due, Slot, Wish, asked_
 use Rattle.request_rules.specs.Lists.{add_some}
 use Rattle.request_rules.specs.Problem.{due_to}
 use Rattle.request_rows.specs.Chosen.{count_by}
-use Rattle.request_rows.specs.Ways.{wishes_in}
+use Rattle.request_rules.specs.Ways.{wishes_in}
 use Rattle.request_rows.proofs.Lists.{map_length}
 
 -- ---- how many

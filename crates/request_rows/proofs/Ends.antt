@@ -8,7 +8,7 @@ use Rattle.request_rows.specs.declared.choice.Seat.TheVariants.{Next}
 use Rattle.request_rows.specs.declared.choice.Slot.{Slot}
 use Rattle.request_rows.specs.declared.ways.RequestRows.{RequestRows}
 use Rattle.request_rows.specs.Chosen.{chosen_rows, seats_repeated, slot_of}
-use Rattle.request_rows.specs.Ways.{wishes_in}
+use Rattle.request_rules.specs.Ways.{wishes_in}
 use Rattle.request_rows.proofs.Lists.{drop_all, ended}
 
 no_choice : (rs : List RequestRows) → chosen_rows rs [] ≡ []

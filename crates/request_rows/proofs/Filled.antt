@@ -5,8 +5,8 @@ use Rattle.std.proofs.lemmas.Option.{slice_get-map}
 use Rattle.std.specs.Prelude.{option_map}
 use Rattle.walk.specs.Lists.{numbers}
 use Rattle.cel_value.specs.Device.{Device}
-use Rattle.device_match.specs.Match.{match_from}
-use Rattle.device_match.specs.declared.matching.Match.{Match}
+use Rattle.selector_meaning.specs.Match.{match_from}
+use Rattle.selector_meaning.specs.declared.matching.Match.{Match}
 use Rattle.api_cluster.specs.declared.types.DeviceClass.{DeviceClass}
 use Rattle.pool_view.specs.declared.stored.Stored.{Stored}
 use Rattle.pool_view.specs.Pools.{Offered}
@@ -14,7 +14,7 @@ use Rattle.request_rules.specs.Input.{SearchInput}
 use Rattle.request_rules.specs.Names.{result_name}
 use Rattle.request_rules.specs.Asked.{Asked, is_fault, is_yes, match_at, match_by, matching, meets}
 use Rattle.request_rows.specs.declared.rows.Row.{Row}
-use Rattle.request_rows.specs.Match.{ClassTable, match_class, matched_by, seen}
+use Rattle.request_rules.specs.Match.{ClassTable, match_class, matched_by, seen}
 use Rattle.request_rows.specs.Columns.{SelectionFields, cell, cell_by, class_selectors, columns_for, fault_from, has_any, has_selectors, match_got, match_in, parts_in, plain_by, plain_match, says, yes_from}
 use Rattle.request_rows.specs.Rows.{first_fault, row_by, row_for, rows_from}
 use Rattle.request_rows.specs.Taints.{if_tainted, tolerates_device}

@@ -3,7 +3,7 @@ use Rattle.std.proofs.Common.{ℕ, ◌<◌, ◌≡◌, List, [], Bool, cond, Opt
 use Rattle.std.specs.List.{list_any}
 use Rattle.std.specs.Prelude.{option_map}
 use Rattle.walk.specs.Walk as walks
-use Rattle.device_match.specs.declared.matching.Match.{Match}
+use Rattle.selector_meaning.specs.declared.matching.Match.{Match}
 use Rattle.pool_view.specs.Pools.{Offered}
 use Rattle.request_rules.specs.Input.{SearchInput}
 use Rattle.request_rules.specs.Asked.{Asked, Wish, asked, slots, slots_for, ways_of, wishes, wishes_from}
@@ -23,7 +23,8 @@ use Rattle.request_rows.specs.Rows.{AreRows, row_for, rows_from}
 use Rattle.request_rows.specs.Seen.{fault_seen, shape_seen, slot_seen}
 use Rattle.request_rows.specs.Taints.{if_tainted}
 use Rattle.request_rows.specs.Wanted.{RowsFields, WantsFields, asking, input_of}
-use Rattle.request_rows.specs.Ways.{all_asked, requests_from, ways_from}
+use Rattle.request_rules.specs.Ways.{all_asked, ways_from}
+use Rattle.request_rows.specs.Requests.{requests_from}
 use Rattle.request_rows.proofs.Crowded.{AreInOrder, crowded, order_claims}
 use Rattle.request_rows.proofs.Filled.{column_for, columns_are, rows_are}
 use Rattle.request_rows.proofs.Found.{place_first}

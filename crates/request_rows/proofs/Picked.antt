@@ -10,7 +10,8 @@ use Rattle.api_claim.specs.declared.types.RequestKind.TheVariants.{Exactly, Firs
 use Rattle.request_rules.specs.Asked.{Asked, Wish, asked_by, asked_from, asked_sub, ways_of}
 use Rattle.request_rules.specs.Lists.{add_some}
 use Rattle.request_rows.specs.Chosen.{chosen_rows, row_for_choice}
-use Rattle.request_rows.specs.Ways.{asked_exactly, is_exactly, nothing_asked, request_at, requests_from, ways_by, ways_from, ways_in}
+use Rattle.request_rules.specs.Ways.{asked_exactly, nothing_asked, ways_by, ways_from, ways_in}
+use Rattle.request_rows.specs.Requests.{is_exactly, request_at, requests_from}
 use Rattle.request_rows.proofs.Lists.{get_prefix, get_past, get_seam, map_length}
 
 abbrev pub IsPicked : List Asked → Option ℕ → Option Asked → Type 0

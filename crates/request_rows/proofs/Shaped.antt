@@ -22,7 +22,7 @@ use Rattle.request_rows.specs.Chosen.{all_fails, due_of, due_with, fails_at, fai
 use Rattle.request_rows.specs.Chosen as chosen
 use Rattle.request_rows.specs.Rows.{first_fault, row_for}
 use Rattle.request_rows.specs.Seen.{seat_seen, shape_seen, slot_seen}
-use Rattle.request_rows.specs.Ways.{all_asked, nothing_asked}
+use Rattle.request_rules.specs.Ways.{all_asked, nothing_asked}
 use Rattle.request_rows.proofs.Crowded.{crowded_by, count_is}
 use Rattle.request_rows.proofs.Filled.{at_here}
 use Rattle.request_rows.proofs.Lists.{longer, map_append, map_map, moved}

@@ -2,13 +2,13 @@
 use Rattle.std.specs.Prelude.{ℕ, ◌+◌, List, [], ◌∷◌, Bool, true, false, ◌||◌, Option, None, Some, map, slice_get, if◌then◌else◌}
 use Rattle.api_cluster.specs.declared.types.DeviceClass.{DeviceClass}
 use Rattle.cel_value.specs.Device.{Device}
-use Rattle.device_match.specs.declared.matching.Match.{Match}
-use Rattle.device_match.specs.declared.matching.Match.TheVariants.{Yes, No}
+use Rattle.selector_meaning.specs.declared.matching.Match.{Match}
+use Rattle.selector_meaning.specs.declared.matching.Match.TheVariants.{Yes, No}
 use Rattle.pool_view.specs.declared.stored.Stored.{Stored}
 use Rattle.pool_view.specs.Names.{at_name}
 use Rattle.pool_view.specs.Pools.{Offered}
 use Rattle.request_rules.specs.Asked.{Asked, is_fault, is_yes}
-use Rattle.request_rows.specs.Match.{ClassTable, match_class, seen}
+use Rattle.request_rules.specs.Match.{ClassTable, match_class, seen}
 
 -- a class, if it exists, and a way's own selectors
 pub record SelectionFields : Type 0 where

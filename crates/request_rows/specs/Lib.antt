@@ -1,9 +1,8 @@
-pub mod Match
 pub mod Wanted
-pub mod Ways
 pub mod Columns
 pub mod Taints
 pub mod Rows
 pub mod Chosen
 pub mod Places
 pub mod Seen
+pub mod Requests

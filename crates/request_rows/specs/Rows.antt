@@ -1,7 +1,7 @@
 -- Rows and what they evaluate to.
 use Rattle.std.specs.Prelude.{ℕ, ◌+◌, ◌≡◌, List, [], ◌∷◌, Option, find, map, length}
 use Rattle.walk.specs.Lists.{numbers}
-use Rattle.device_match.specs.declared.matching.Match.{Match}
+use Rattle.selector_meaning.specs.declared.matching.Match.{Match}
 use Rattle.request_rules.specs.Input.{SearchInput}
 use Rattle.request_rules.specs.Names.{result_name}
 use Rattle.pool_view.specs.Pools.{Offered}
@@ -10,7 +10,8 @@ use Rattle.request_rows.specs.declared.rows.Row.{Row}
 use Rattle.request_rows.specs.declared.ways.RequestRows.{RequestRows}
 use Rattle.request_rows.specs.Columns.{fault_from, yes_from}
 use Rattle.request_rows.specs.Taints.{if_tainted, tolerates_device}
-use Rattle.request_rows.specs.Ways.{all_asked, requests_from}
+use Rattle.request_rules.specs.Ways.{all_asked}
+use Rattle.request_rows.specs.Requests.{requests_from}
 
 -- ---- by the columns
 

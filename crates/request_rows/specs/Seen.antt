@@ -9,7 +9,7 @@ use Rattle.request_rows.specs.declared.choice.Shape.{Shape}
 use Rattle.request_rows.specs.declared.choice.Shape.TheVariants.{Faulty, Hopeless, Open}
 use Rattle.request_rows.specs.declared.choice.Slot.{Slot}
 use Rattle.request_rows.specs.declared.fault.FaultPlace.{FaultPlace}
-use Rattle.request_rows.specs.Ways.{asked_at}
+use Rattle.request_rules.specs.Ways.{asked_at}
 
 abbrev pub seat_seen : Seat → rules.Seat
 seat_seen First = rules.First

@@ -4,9 +4,9 @@ use Rattle.object_fields.specs.declared.key.DeviceId.{DeviceId}
 use Rattle.object_fields.specs.declared.key.Key.{Key}
 use Rattle.api_claim.specs.declared.types.ResourceClaim.{ResourceClaim}
 use Rattle.pool_view.specs.Pools.{Offered}
-use Rattle.counter_sets.specs.Draws.{CounterId}
+use Rattle.request_rules.specs.Draws.{CounterId}
 use Rattle.request_rules.specs.Input.{SearchInput}
-use Rattle.request_rows.specs.Match.{ClassTable, matched_by}
+use Rattle.request_rules.specs.Match.{ClassTable, matched_by}
 
 -- claims, each under its key, and the classes that exist
 pub record WantsFields : Type 0 where

@@ -1,16 +1,18 @@
 ghost use Rattle.std.specs.Prelude.{◌≡◌, ◌≢◌, [], map, true, IfOk, option_copied};
 ghost use Rattle.std.specs.List.{list_any};
 ghost use Rattle.pool_view.specs.Names.{at_name};
-ghost use Rattle.request_rows.specs.Match.{match_class, seen};
+ghost use Rattle.request_rules.specs.Match.{match_class, seen};
 ghost use Rattle.request_rows.specs.Columns.{class_selectors, has_selectors, parts_in, plain_match, says};
 
 use crate::wants::Classes;
 use crate::ways::Way;
 use cel_value::DeviceEnv;
-use device_match::{DeviceSelector, Match, device_env, match_both};
+use device_match::{device_env, match_both};
+use device_selector::DeviceSelector;
 use dra_values::{Seq, Shared};
 use pool_view::{DeviceRef, Stored};
 use ready_objects::ReadyClass;
+use selector_meaning::Match;
 use std::alloc::{AllocError, Global};
 use std::marker::Model;
 

@@ -5,10 +5,10 @@ ghost use Rattle.request_rows.specs.Columns.{cell};
 ghost use Rattle.request_rows.specs.Places.{place_by, place_in, place_of, place_of_row};
 
 use crate::rows::{Row, cell};
-use device_match::{Cause, Match};
 use dra_values::{Seq, Text};
 use object_fields::{DeviceId, Key};
 use pool_view::DeviceRef;
+use selector_meaning::{Cause, Match};
 use std::alloc::{AllocError, Global};
 
 /// Where a selector is neither true nor false of a device of a node.

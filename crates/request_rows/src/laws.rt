@@ -5,12 +5,12 @@ ghost use Rattle.object_fields.specs.declared.key.DeviceId.{DeviceId};
 ghost use Rattle.object_fields.specs.declared.key.Key.{Key};
 ghost use Rattle.api_claim.specs.declared.types.DeviceAsk.{DeviceAsk};
 ghost use Rattle.request_rules.specs.Asked.{meets, options, tolerated_at};
-ghost use Rattle.counter_sets.specs.Draws.{CounterId};
+ghost use Rattle.request_rules.specs.Draws.{CounterId};
 ghost use Rattle.request_rules.specs.Faults.{fault_of};
 ghost use Rattle.request_rules.specs.Input.{SearchInput};
 ghost use Rattle.request_rules.specs.Problem.{open_slots, shape_of};
 ghost use Rattle.request_rows.specs.Wanted.{with_held};
-ghost use Rattle.request_rows.specs.Ways.{all_asked};
+ghost use Rattle.request_rules.specs.Ways.{all_asked};
 
 /// What a choice asks for depends neither on the devices that are held nor on the counters, so rows are
 /// right for each input with their claims, their devices and their matches.

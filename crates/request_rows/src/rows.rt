@@ -8,7 +8,7 @@ ghost use Rattle.request_rules.specs.Lists.{Each};
 ghost use Rattle.request_rules.specs.Problem.{open_slots, shape_of};
 ghost use Rattle.request_rows.specs.Seen.{fault_seen, shape_seen, slot_seen};
 ghost use Rattle.request_rows.specs.Wanted.{input_of};
-ghost use Rattle.request_rows.specs.Ways.{all_asked, asked_at};
+ghost use Rattle.request_rules.specs.Ways.{all_asked, asked_at};
 
 use crate::choice::{Choice, choice_of, chosen_rows};
 use crate::columns::{columns_of, selections_of};
@@ -17,10 +17,10 @@ use crate::taints::{flag_at, tainted_devices, tolerated_of};
 use crate::wants::Wants;
 use crate::ways::{RequestRows, Way, options_of, request_rows_of, ways_of, wishes_of};
 use api_claim::AllocationMode;
-use device_match::Match;
 use dra_values::{Seq, Text};
 use object_fields::Key;
 use pool_view::DeviceRef;
+use selector_meaning::Match;
 use std::alloc::{AllocError, Global};
 use std::marker::Model;
 

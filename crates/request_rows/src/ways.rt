@@ -1,11 +1,12 @@
 ghost use Rattle.std.specs.Prelude.{◌≡◌, [], ◌∷◌, ◌++◌, map, IfOk, OnOk};
 ghost use Rattle.request_rules.specs.Asked.{asked_sub, ways_of, wishes_from};
 ghost use Rattle.ready_objects.specs.Ready.{kind_selectors};
-ghost use Rattle.request_rows.specs.Ways.{asked_exactly, is_exactly, requests_from, ways_from, ways_in, wishes_in};
+ghost use Rattle.request_rules.specs.Ways.{asked_exactly, ways_from, ways_in, wishes_in};
+ghost use Rattle.request_rows.specs.Requests.{is_exactly, requests_from};
 
 use crate::wants::WantedClaim;
 use api_claim::{DeviceAsk, DeviceRequest, DeviceSubRequest, ExactDeviceRequest, RequestKind};
-use device_match::DeviceSelector;
+use device_selector::DeviceSelector;
 use dra_values::{Seq, Text};
 use object_fields::Key;
 use std::alloc::{AllocError, Global};

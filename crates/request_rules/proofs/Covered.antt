@@ -4,11 +4,11 @@ use Rattle.std.specs.List.{list_all, slice_get}
 use Rattle.std.proofs.lemmas.List.Sums.{sum_by-append, sum_by-cons}
 use Rattle.std.proofs.lemmas.List.Folds.{list_all-append}
 use Rattle.std.proofs.lemmas.Bool.Decides.{nat_tests}
-use Rattle.counter_sets.specs.Draws.{CounterId, Draw}
+use Rattle.request_rules.specs.Draws.{CounterId, Draw}
 use Rattle.request_rules.specs.Rules.{Pick}
 use Rattle.request_rules.specs.Input.{SearchInput}
 use Rattle.request_rules.specs.Lists.{each_after}
-use Rattle.counter_sets.specs.Draws.{counter_eq, drawn_at, is_within}
+use Rattle.request_rules.specs.Draws.{counter_eq, drawn_at, is_within}
 use Rattle.request_rules.specs.Rules.{amount, covers, draws, total, within}
 use Rattle.request_rules.proofs.Equal.{same_from_counter_eq}
 use Rattle.request_rules.proofs.Tests.{left_of, false_from}

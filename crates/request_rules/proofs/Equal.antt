@@ -10,8 +10,8 @@ use Rattle.object_fields.specs.declared.key.DeviceId.{DeviceId}
 use Rattle.api_slice.specs.declared.types.Attribute.{Attribute}
 use Rattle.api_slice.specs.declared.types.Attribute.TheVariants.{Int, Bool as Truth, Text, Version}
 use Rattle.pool_view.specs.Names.{device_eq, text_eq}
-use Rattle.counter_sets.specs.Draws.{CounterId, counter_eq}
-use Rattle.constraints.specs.Agreeing.{same_value}
+use Rattle.request_rules.specs.Draws.{CounterId, counter_eq}
+use Rattle.request_rules.specs.Agreeing.{same_value}
 use Rattle.request_rules.specs.Rules.{same_values}
 
 text_eq-same : (a : List ℕ) → text_eq a a ≡ true

@@ -4,9 +4,9 @@ use Rattle.std.specs.List.{slice_get, list_all}
 use Rattle.std.specs.Option.{is_some}
 use Rattle.api_slice.specs.declared.types.Attribute.{Attribute}
 use Rattle.pool_view.specs.Pools.{Offered}
-use Rattle.counter_sets.specs.Draws.{CounterId, Draw, draws_of, drawn_from, is_covered}
-use Rattle.constraints.specs.Agreeing.{all_same, attribute_of, names, same_by}
-use Rattle.constraints.specs.Agreeing as agreeing
+use Rattle.request_rules.specs.Draws.{CounterId, Draw, draws_of, drawn_from, is_covered}
+use Rattle.request_rules.specs.Agreeing.{all_same, attribute_of, names, same_by}
+use Rattle.request_rules.specs.Agreeing as agreeing
 use Rattle.request_rules.specs.Lists.{Each}
 use Rattle.request_rules.specs.Names.{result_name}
 use Rattle.request_rules.specs.Input.{SearchInput}

@@ -8,7 +8,7 @@ use Rattle.object_fields.specs.declared.key.Key.{Key}
 use Rattle.object_fields.specs.declared.key.DeviceId.{DeviceId}
 use Rattle.pool_view.specs.Names.{device_eq}
 use Rattle.request_rules.proofs.Equal.{device_eq-same, equal_devices, equal_values, same_values-from, same_from_device_eq}
-use Rattle.counter_sets.specs.Draws.{CounterId, Draw, is_within}
+use Rattle.request_rules.specs.Draws.{CounterId, Draw, is_within}
 use Rattle.request_rules.specs.Rules.{Pick}
 use Rattle.request_rules.specs.Input.{SearchInput}
 use Rattle.request_rules.specs.Lists.{each_after, Each, EachTwo}

@@ -5,13 +5,13 @@ use Rattle.walk.specs.Walk.{IsChoice}
 use Rattle.object_fields.specs.declared.key.DeviceId.{DeviceId}
 use Rattle.object_fields.specs.declared.key.Key.{Key}
 use Rattle.api_claim.specs.declared.types.AllocationMode.TheVariants.{ExactCount, All}
-use Rattle.device_match.specs.declared.matching.Match.TheVariants.{Yes}
+use Rattle.selector_meaning.specs.declared.matching.Match.TheVariants.{Yes}
 use Rattle.device_taints.specs.Tolerating.{IsTolerated}
 use Rattle.device_taints.specs.declared.types.Taint.{Taint}
 use Rattle.pool_view.specs.Pools.{Offered}
 use Rattle.request_rules.specs.Lists.{Each, EachTwo, EachBoth}
 use Rattle.request_rules.specs.Names.{Label}
-use Rattle.counter_sets.specs.Draws.{CounterId, Draw}
+use Rattle.request_rules.specs.Draws.{CounterId, Draw}
 use Rattle.request_rules.specs.Input.{SearchInput}
 use Rattle.request_rules.specs.Asked.{Asked, Rule, asked, match_at, matching, options, rules_of, slots}
 use Rattle.request_rules.specs.Faults.{GivesNone}

@@ -2,7 +2,7 @@
 use Rattle.std.specs.Prelude.{◌==◌, List, [], ◌∷◌, Option, None, Some, slice_get, if◌then◌else◌}
 use Rattle.std.specs.List.{flat_map}
 use Rattle.pool_view.specs.Pools.{Offered}
-use Rattle.constraints.specs.Agreeing as agreeing
+use Rattle.request_rules.specs.Agreeing as agreeing
 use Rattle.request_rules.specs.Names.{Label, result_name}
 use Rattle.request_rules.specs.Input.{SearchInput}
 use Rattle.request_rules.specs.Asked.{Rule}

@@ -9,3 +9,8 @@ pub mod Faults
 pub mod Allocation
 pub mod Grants
 pub mod Joining
+pub mod Match
+pub mod Ways
+pub mod Agreeing
+pub mod Draws
+pub mod Apart

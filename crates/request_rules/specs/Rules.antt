@@ -8,8 +8,8 @@ use Rattle.pool_view.specs.Names.{device_eq}
 use Rattle.pool_view.specs.Pools.{Offered, id_in}
 use Rattle.request_rules.specs.Lists.{each_after}
 use Rattle.request_rules.specs.Names.{Label, result_name}
-use Rattle.counter_sets.specs.Draws.{CounterId, Draw, draws_of, drawn_at, is_within}
-use Rattle.constraints.specs.Agreeing.{attribute_of, names, same_by}
+use Rattle.request_rules.specs.Draws.{CounterId, Draw, draws_of, drawn_at, is_within}
+use Rattle.request_rules.specs.Agreeing.{attribute_of, names, same_by}
 use Rattle.request_rules.specs.Input.{SearchInput}
 use Rattle.request_rules.specs.Asked.{First, Next, Due, Seat, Slot, Rule, meets, rules_of, tolerated_at}
 

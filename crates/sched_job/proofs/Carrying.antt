@@ -25,20 +25,20 @@ use Rattle.cluster.specs.History.{state_at, state_of, job_state_of}
 use Rattle.cluster.specs.Reserved.{with_reserved}
 use Rattle.cluster.specs.State.{claims_of, has_written}
 use Rattle.cluster.specs.Wrote.{with_written}
-use Rattle.alloc_rules.specs.declared.decision.Decision.{Decision}
-use Rattle.alloc_rules.specs.declared.decision.Decision.TheVariants.{Reserve, Judge}
-use Rattle.alloc_rules.specs.Decisions.{IsDecision, IsReserve}
-use Rattle.alloc_rules.specs.Plans.{IsIdle, PlanBy, PlanTrue, VerdictBy, VerdictTrue}
-use Rattle.ledger_core.specs.Bound.{MayBind}
-use Rattle.ledger_core.specs.Denied.{MayDeny}
-use Rattle.ledger_core.specs.GoesOn.{GoesOn}
-use Rattle.ledger_core.specs.Legal.{Legal, MayFollow, Step}
-use Rattle.ledger_core.specs.Wrote.{MayWrite}
+use Rattle.pod_decision.specs.declared.decision.Decision.{Decision}
+use Rattle.pod_decision.specs.declared.decision.Decision.TheVariants.{Reserve, Judge}
+use Rattle.pod_decision.specs.Decisions.{IsDecision, IsReserve}
+use Rattle.plan_rules.specs.Plans.{IsIdle, PlanBy, PlanTrue, VerdictBy, VerdictTrue}
+use Rattle.histories.specs.Bound.{MayBind}
+use Rattle.histories.specs.Denied.{MayDeny}
+use Rattle.histories.specs.GoesOn.{GoesOn}
+use Rattle.histories.specs.Legal.{Legal, MayFollow, Step}
+use Rattle.histories.specs.Wrote.{MayWrite}
 use Rattle.commands.specs.declared.command.Command.TheVariants.{Schedule}
-use Rattle.sched_job.specs.Alone.{Alone, NeverSetBack, is_setback}
+use Rattle.histories.specs.Alone.{Alone, NeverSetBack, is_setback}
 use Rattle.sched_job.specs.Complete.{CarriesOut, Decided, IsWrite, RanAlone, own}
-use Rattle.sched_job.specs.Histories.{Each}
-use Rattle.sched_job.specs.Runs.{Run, JobKept, JobStep, IsTry, attempts_of, denied_command}
+use Rattle.histories.specs.Histories.{Each}
+use Rattle.histories.specs.JobRuns.{Run, JobKept, JobStep, IsTry, attempts_of, denied_command}
 use Rattle.sched_job.proofs.Growing.{Grows, job_state_other, job_state_own}
 
 -- what is used of the lower crates, and of this one's law

@@ -7,17 +7,18 @@ use Rattle.cluster.specs.declared.entry.Event.{Event}
 use Rattle.cluster.specs.declared.entry.JobState.{JobState}
 use Rattle.cluster.specs.declared.entry.JobState.TheVariants as job_state
 use Rattle.cluster.specs.History.{state_of, job_state_of}
-use Rattle.alloc_rules.specs.declared.decision.Decision.{Decision}
-use Rattle.alloc_rules.specs.Decisions.{is_idle_pod}
+use Rattle.pod_decision.specs.declared.decision.Decision.{Decision}
+use Rattle.plan_rules.specs.Idle.{is_idle_pod}
 use Rattle.ledger_core.specs.Ledger.{History}
-use Rattle.ledger_core.specs.Legal.{Legal}
+use Rattle.histories.specs.Legal.{Legal}
 use Rattle.commands.specs.declared.command.Command.{Command}
 use Rattle.commands.specs.declared.command.Command.TheVariants.{Apply, Invalid, Delete, Schedule, Release, Adopt}
 use Rattle.sched_job.specs.declared.work.Stage.{Stage}
 use Rattle.sched_job.specs.declared.work.Stage.TheVariants.{Ready, Seen, Chosen}
 use Rattle.sched_job.specs.declared.work.Work.{Work}
 use Rattle.sched_job.specs.Moves.{chosen_event, looked, moved, move_of, stage_after, stage_by}
-use Rattle.sched_job.specs.Runs.{Run, Running, is_ended}
+use Rattle.sched_job.specs.Runs.{Running}
+use Rattle.histories.specs.JobRuns.{Run, is_ended}
 use Rattle.sched_job.specs.Steps.{Extends, Thought}
 use Rattle.sched_job.specs.Turns.{waits}
 use Rattle.sched_job.proofs.Stepping.{all_of_append}

@@ -24,19 +24,20 @@ use Rattle.cluster.specs.JobState.{failures}
 use Rattle.cluster.specs.State.{claims_of, has_written, is_written, use_in}
 use Rattle.cluster.specs.Tables.{changed_at}
 use Rattle.cluster.specs.Wrote.{with_written, written_by}
-use Rattle.ledger_core.specs.Conflict.{MayConflict}
-use Rattle.ledger_core.specs.Legal.{Legal, MayFollow, Step}
+use Rattle.histories.specs.Conflict.{MayConflict}
+use Rattle.histories.specs.Legal.{Legal, MayFollow, Step}
 use Rattle.ledger_core.specs.Ledger.{History}
-use Rattle.ledger_core.specs.Limits.{ObjectsKept}
-use Rattle.ledger_core.specs.Wrote.{MayWrite}
+use Rattle.histories.specs.Limits.{ObjectsKept}
+use Rattle.histories.specs.Wrote.{MayWrite}
 use Rattle.commands.specs.declared.command.Command.{Command}
 use Rattle.commands.specs.declared.command.Command.TheVariants.{Apply, Invalid, Delete, Schedule, Release, Adopt}
 use Rattle.sched_job.specs.declared.work.Stage.{Stage}
 use Rattle.sched_job.specs.declared.work.Stage.TheVariants.{Ready, Seen, Chosen}
 use Rattle.sched_job.specs.declared.work.Work.{Work}
-use Rattle.alloc_rules.specs.declared.decision.Decision.TheVariants.{Reserve, Judge}
+use Rattle.pod_decision.specs.declared.decision.Decision.TheVariants.{Reserve, Judge}
 use Rattle.sched_job.specs.Moves.{looked, moved, move_of, stage_by, tries}
-use Rattle.sched_job.specs.Runs.{Run, IsStaged, IsTrying, JobStep, Running, attempts_of, command_of, is_ended, is_schedule}
+use Rattle.sched_job.specs.Runs.{IsStaged, IsTrying, Running}
+use Rattle.histories.specs.JobRuns.{Run, JobStep, attempts_of, command_of, is_ended, is_schedule}
 use Rattle.sched_job.specs.Steps.{OneTurn, Thought}
 use Rattle.sched_job.specs.Turns.{attempts_left, left_by, most_turns, once_left, unwritten, unwritten_among, unwritten_by, waits}
 use Rattle.sched_job.proofs.Growing.{Grows, job_state_own}

@@ -13,11 +13,11 @@ use Rattle.cluster.specs.declared.state.Use.{Use}
 use Rattle.cluster.specs.declared.state.Use.TheVariants.{Assumed, Written}
 use Rattle.cluster.specs.Denied.{is_busy}
 use Rattle.cluster.specs.State.{claims_of, has_written, is_idle, is_written, node_by, node_by_phase, taken_node, use_in}
-use Rattle.ledger_core.specs.Bound.{MayBind}
-use Rattle.ledger_core.specs.Conflict.{IsNextUse}
-use Rattle.ledger_core.specs.Unreserved.{MayUnreserve}
-use Rattle.ledger_core.specs.Users.{PodsUseClaims}
-use Rattle.ledger_core.specs.Wrote.{IsTaken}
+use Rattle.histories.specs.Bound.{MayBind}
+use Rattle.histories.specs.Conflict.{IsNextUse}
+use Rattle.histories.specs.Unreserved.{MayUnreserve}
+use Rattle.histories.specs.Users.{PodsUseClaims}
+use Rattle.histories.specs.Wrote.{IsTaken}
 use Rattle.sched_job.specs.declared.due.Due.{Due}
 use Rattle.sched_job.specs.declared.due.Due.TheVariants as due
 use Rattle.sched_job.specs.Moves.{due_by, due_for, due_of, is_taken_by, next_claim, taken_by}

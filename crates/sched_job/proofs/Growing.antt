@@ -4,7 +4,7 @@ use Rattle.std.proofs.lemmas.List.{take-append-le}
 use Rattle.cluster.specs.declared.entry.Entry.{Entry}
 use Rattle.cluster.specs.Events.{job_state_after}
 use Rattle.cluster.specs.History.{state_at, state_of, job_state_of, told}
-use Rattle.sched_job.specs.Histories.{Each, last_place, next_last}
+use Rattle.histories.specs.Histories.{Each, last_place, next_last}
 
 pub each_more : (P : List Entry → Entry → Type 0) (before es : List Entry) (e : Entry) → Each P before es → P (before ++ es) e → Each P before (es ++ e ∷ [])
 unfolding Each

@@ -36,15 +36,16 @@ use Rattle.cluster.specs.Reserved.{joined_by, with_grant, with_grants, with_join
 use Rattle.cluster.specs.State.{claims_of, is_idle, is_written, use_in}
 use Rattle.cluster.specs.Tables.{changed_at, put_at}
 use Rattle.cluster.specs.Wrote.{written_by}
-use Rattle.ledger_core.specs.Legal.{Legal, MayFollow, Step}
+use Rattle.histories.specs.Legal.{Legal, MayFollow, Step}
 use Rattle.cluster.specs.JobState.{has_reserved}
-use Rattle.ledger_core.specs.Owners.{has_pod}
-use Rattle.ledger_core.specs.Wrote.{IsTaken}
+use Rattle.histories.specs.Owners.{has_pod}
+use Rattle.histories.specs.Wrote.{IsTaken}
 use Rattle.commands.specs.declared.command.Command.{Command}
 use Rattle.commands.specs.declared.command.Command.TheVariants.{Apply, Invalid, Delete, Schedule, Release, Adopt}
 use Rattle.sched_job.specs.declared.work.Stage.{Stage}
 use Rattle.sched_job.specs.declared.work.Work.{Work}
-use Rattle.sched_job.specs.Runs.{Run, JobKept, Running}
+use Rattle.sched_job.specs.Runs.{Running}
+use Rattle.histories.specs.JobRuns.{Run, JobKept}
 use Rattle.sched_job.specs.Turns.{attempts_left, left_by, most_turns, unwritten, unwritten_among, unwritten_by}
 use Rattle.sched_job.proofs.Fewer.{unwritten_fewer}
 use Rattle.sched_job.proofs.Growing.{Grows, job_state_other, state_stays}

@@ -26,18 +26,18 @@ use Rattle.cluster.specs.Events.{allows, job_state_after}
 use Rattle.cluster.specs.History.{state_of, job_state_of}
 use Rattle.cluster.specs.JobState.{failures, is_fresh, may_try}
 use Rattle.cluster.specs.State.{use_in, version_of}
-use Rattle.alloc_rules.specs.declared.decision.Decision.TheVariants.{Reserve, Judge}
-use Rattle.alloc_rules.specs.Plans.{PlanBy, PlanTrue, VerdictBy, VerdictTrue}
-use Rattle.plan_check.specs.Failing.{failing}
-use Rattle.ledger_core.specs.Applied.{application_by}
-use Rattle.ledger_core.specs.Adopted.{adoption_by}
-use Rattle.ledger_core.specs.Conflict.{assumed_by}
-use Rattle.ledger_core.specs.Deleted.{deletion_by}
-use Rattle.ledger_core.specs.Denied.{refusal_of}
+use Rattle.pod_decision.specs.declared.decision.Decision.TheVariants.{Reserve, Judge}
+use Rattle.plan_rules.specs.Plans.{PlanBy, PlanTrue, VerdictBy, VerdictTrue}
+use Rattle.plan_rules.specs.Failing.{failing}
+use Rattle.histories.specs.Applied.{application_by}
+use Rattle.histories.specs.Adopted.{adoption_by}
+use Rattle.histories.specs.Conflict.{assumed_by}
+use Rattle.histories.specs.Deleted.{deletion_by}
+use Rattle.histories.specs.Denied.{refusal_of}
 use Rattle.ledger_core.specs.Ledger.{History}
-use Rattle.ledger_core.specs.Legal.{Legal, Step}
-use Rattle.ledger_core.specs.Released.{release_by}
-use Rattle.ledger_core.specs.Reserved.{reservation, reservation_by}
+use Rattle.histories.specs.Legal.{Legal, Step}
+use Rattle.histories.specs.Released.{release_by}
+use Rattle.histories.specs.Reserved.{reservation, reservation_by}
 use Rattle.sched_job.specs.declared.due.Due.{Due}
 use Rattle.sched_job.specs.declared.due.Due.TheVariants as due
 use Rattle.commands.specs.declared.command.Command.{Command}
@@ -46,7 +46,8 @@ use Rattle.sched_job.specs.declared.work.Stage.{Stage}
 use Rattle.sched_job.specs.declared.work.Stage.TheVariants.{Ready, Seen, Chosen}
 use Rattle.sched_job.specs.declared.work.Work.{Work}
 use Rattle.sched_job.specs.Moves.{denial_by, due_of, finish_by, looked, move_by, move_of, moved, once, schedule_move, stage_by, taken_by, tries, try_move, Fits, FitsCommand, FitsStage}
-use Rattle.sched_job.specs.Runs.{Run, JobBegun, JobKept, JobRun, JobStep, IsStaged, IsTry, IsTrying, ChosenPlan, ChosenVerdict, Counted, IsUnderWay, Running, Timed, TriedPlan, attempts_of, command_of, is_ended, is_schedule}
+use Rattle.sched_job.specs.Runs.{IsStaged, IsTrying, ChosenPlan, ChosenVerdict, Counted, IsUnderWay, Running}
+use Rattle.histories.specs.JobRuns.{Run, JobBegun, JobKept, JobRun, JobStep, IsTry, Timed, TriedPlan, attempts_of, command_of, is_ended, is_schedule}
 use Rattle.sched_job.proofs.Growing.{Grows, each_more, last_other, last_within, job_state_other, job_state_own, state_stays}
 
 -- ---- an entry of another job

@@ -19,9 +19,10 @@ use Rattle.sched_job.specs.declared.work.Next.TheVariants as next
 use Rattle.sched_job.specs.declared.work.Stage.{Stage}
 use Rattle.sched_job.specs.declared.work.Stage.TheVariants.{Ready, Seen, Chosen}
 use Rattle.sched_job.specs.declared.work.Work.{Work}
-use Rattle.sched_job.specs.Histories.{Each}
+use Rattle.histories.specs.Histories.{Each}
 use Rattle.sched_job.specs.Moves.{Fits, answer, answer_by, moved, move_of, stage_after, stage_by}
-use Rattle.sched_job.specs.Runs.{Run, Running, JobStep, JobKept, IsStaged, Counted, attempts_of, is_ended}
+use Rattle.sched_job.specs.Runs.{Running, IsStaged, Counted}
+use Rattle.histories.specs.JobRuns.{Run, JobStep, JobKept, attempts_of, is_ended}
 use Rattle.sched_job.specs.Steps.{run_of, jobs_of, Differ, AllOf, Extends, AllNew, AllFit, AllRunning, AllEnds, OneTurn, Ran, Walk, Went, WentAt, Thought}
 use Rattle.sched_job.proofs.Runnings.{running_fits, running_ended, staged_ready, staged_some}
 

@@ -4,16 +4,18 @@ use Rattle.object_fields.specs.declared.key.Key.{Key}
 use Rattle.cluster.specs.declared.entry.Entry.{Entry}
 use Rattle.cluster.specs.declared.state.State.{State}
 use Rattle.cluster.specs.History.{state_at}
-use Rattle.alloc_rules.specs.declared.decision.Decision.{Decision}
-use Rattle.alloc_rules.specs.declared.decision.Decision.TheVariants.{Reserve, Judge}
-use Rattle.alloc_rules.specs.Decisions.{IsDecision, is_idle_pod}
-use Rattle.alloc_rules.specs.Plans.{PlanBy, PlanTrue, VerdictBy, VerdictTrue}
+use Rattle.pod_decision.specs.declared.decision.Decision.{Decision}
+use Rattle.pod_decision.specs.declared.decision.Decision.TheVariants.{Reserve, Judge}
+use Rattle.pod_decision.specs.Decisions.{IsDecision}
+use Rattle.plan_rules.specs.Idle.{is_idle_pod}
+use Rattle.plan_rules.specs.Plans.{PlanBy, PlanTrue, VerdictBy, VerdictTrue}
 use Rattle.ledger_core.specs.Snapshot.{Seen as Snapshot}
 use Rattle.commands.specs.declared.command.Command.{Command}
 use Rattle.commands.specs.declared.command.Command.TheVariants.{Apply, Invalid, Delete, Schedule, Release, Adopt}
 use Rattle.sched_job.specs.declared.work.Stage.{Stage}
 use Rattle.sched_job.specs.declared.work.Stage.TheVariants.{Ready, Seen, Chosen}
-use Rattle.sched_job.specs.Runs.{Run, IsChosen, IsSeen, IsStaged, IsTry, IsTrying}
+use Rattle.sched_job.specs.Runs.{IsChosen, IsSeen, IsStaged, IsTrying}
+use Rattle.histories.specs.JobRuns.{Run, IsTry}
 use Rattle.sched_job.specs.Steps.{IsSearched, Thought, ThoughtOf}
 
 -- a decision over a snapshot of the history's state

@@ -18,12 +18,12 @@ use Rattle.cluster.specs.Denied.{phase_refusal, schedule_refusal}
 use Rattle.cluster.specs.History.{state_of, job_state_of}
 use Rattle.cluster.specs.JobState.{failures, is_fresh, may_try}
 use Rattle.cluster.specs.State.{is_idle}
-use Rattle.alloc_rules.specs.declared.decision.Decision.{Decision}
-use Rattle.alloc_rules.specs.declared.decision.Decision.TheVariants.{Reserve, Judge}
-use Rattle.alloc_rules.specs.Decisions.{is_idle_by, is_idle_pod}
-use Rattle.ledger_core.specs.Legal.{Legal}
-use Rattle.ledger_core.specs.Owners.{has_pod, pod_in}
-use Rattle.ledger_core.specs.Wrote.{IsTaken}
+use Rattle.pod_decision.specs.declared.decision.Decision.{Decision}
+use Rattle.pod_decision.specs.declared.decision.Decision.TheVariants.{Reserve, Judge}
+use Rattle.plan_rules.specs.Idle.{is_idle_by, is_idle_pod}
+use Rattle.histories.specs.Legal.{Legal}
+use Rattle.histories.specs.Owners.{has_pod, pod_in}
+use Rattle.histories.specs.Wrote.{IsTaken}
 use Rattle.sched_job.specs.declared.due.Due.{Due}
 use Rattle.sched_job.specs.declared.due.Due.TheVariants as due
 use Rattle.commands.specs.declared.command.Command.{Command}
@@ -32,9 +32,10 @@ use Rattle.sched_job.specs.declared.work.Next.TheVariants as next
 use Rattle.sched_job.specs.declared.work.Stage.{Stage}
 use Rattle.sched_job.specs.declared.work.Stage.TheVariants.{Ready, Seen, Chosen}
 use Rattle.sched_job.specs.declared.work.Work.{Work}
-use Rattle.sched_job.specs.Histories.{Each}
+use Rattle.histories.specs.Histories.{Each}
 use Rattle.sched_job.specs.Moves.{answer, chosen_event, denial_by, due_by, due_for, due_of, finish_by, is_taken_by, looked, move_by, move_of, next_claim, once, schedule_move, stage_after, stage_by, taken_by, tries, try_move}
-use Rattle.sched_job.specs.Runs.{Run, JobKept, JobStep, IsStaged, IsTrying, Counted, Running, attempts_of, command_of, is_ended, is_schedule}
+use Rattle.sched_job.specs.Runs.{IsStaged, IsTrying, Counted, Running}
+use Rattle.histories.specs.JobRuns.{Run, JobKept, JobStep, attempts_of, command_of, is_ended, is_schedule}
 
 -- ---- what the entries of a running job are about
 

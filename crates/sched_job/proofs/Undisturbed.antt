@@ -21,14 +21,14 @@ use Rattle.cluster.specs.Reserved.{with_reserved}
 use Rattle.cluster.specs.JobState.{has_reserved}
 use Rattle.cluster.specs.State.{is_idle, version_of}
 use Rattle.cluster.specs.Wrote.{with_written}
-use Rattle.alloc_rules.specs.Plans.{PlanTrue}
-use Rattle.plan_check.specs.Failing.{failing}
-use Rattle.ledger_core.specs.Legal.{Legal, MayFollow, Step}
+use Rattle.plan_rules.specs.Plans.{PlanTrue}
+use Rattle.plan_rules.specs.Failing.{failing}
+use Rattle.histories.specs.Legal.{Legal, MayFollow, Step}
 use Rattle.commands.specs.declared.command.Command.{Command}
 use Rattle.commands.specs.declared.command.Command.TheVariants.{Apply, Invalid, Delete, Schedule, Release, Adopt}
-use Rattle.sched_job.specs.Alone.{Alone, NeverSetBack, is_setback}
-use Rattle.sched_job.specs.Histories.{Each, last_place}
-use Rattle.sched_job.specs.Runs.{Run, JobKept, JobStep, IsTry, attempts_of, command_of, is_schedule}
+use Rattle.histories.specs.Alone.{Alone, NeverSetBack, is_setback}
+use Rattle.histories.specs.Histories.{Each, last_place}
+use Rattle.histories.specs.JobRuns.{Run, JobKept, JobStep, IsTry, attempts_of, command_of, is_schedule}
 use Rattle.sched_job.specs.Steps.{AllOf, Extends}
 use Rattle.sched_job.proofs.Growing.{Grows, each_weaker, last_more}
 use Rattle.sched_job.proofs.Steadying.{Steady, steady_reserved, steady_unused, steady_written}

@@ -12,12 +12,12 @@ use Rattle.cluster.specs.declared.state.State.{State}
 use Rattle.cluster.specs.History.{state_of}
 use Rattle.allocations.specs.Allocation.{IsAllocation}
 use Rattle.allocations.specs.Claims.{wanted}
-use Rattle.alloc_rules.specs.Plans.{Holds, PlanTrue}
-use Rattle.plan_check.specs.Failing.{failing}
-use Rattle.plan_check.specs.Fits.{FitsPod, IsOfPod}
-use Rattle.plan_check.specs.Meant.{KeepLimits, KnewItsPod}
-use Rattle.ledger_core.specs.Legal.{Legal}
-use Rattle.ledger_core.specs.Limits.{ObjectsKept}
+use Rattle.plan_rules.specs.Plans.{Holds, PlanTrue}
+use Rattle.plan_rules.specs.Failing.{failing}
+use Rattle.plan_rules.specs.Fits.{FitsPod, IsOfPod}
+use Rattle.plan_rules.specs.Meant.{KeepLimits, KnewItsPod}
+use Rattle.histories.specs.Legal.{Legal}
+use Rattle.histories.specs.Limits.{ObjectsKept}
 
 -- what is used of the lower crates
 pub record Checks : Type 0 where

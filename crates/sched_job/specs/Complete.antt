@@ -20,15 +20,15 @@ use Rattle.cluster.specs.History.{state_at}
 use Rattle.cluster.specs.State.{claims_of}
 use Rattle.allocations.specs.Claims.{other_claim}
 use Rattle.allocations.specs.Input.{outcome_on}
-use Rattle.alloc_rules.specs.declared.decision.Decision.{Decision}
-use Rattle.alloc_rules.specs.declared.decision.Decision.TheVariants.{Reserve, Judge}
-use Rattle.alloc_rules.specs.Decisions.{IsDecision, IsReserve}
-use Rattle.alloc_rules.specs.Plans.{IsIdle}
-use Rattle.alloc_rules.specs.Tries.{AllPassed}
-use Rattle.ledger_core.specs.Legal.{Legal}
+use Rattle.pod_decision.specs.declared.decision.Decision.{Decision}
+use Rattle.pod_decision.specs.declared.decision.Decision.TheVariants.{Reserve, Judge}
+use Rattle.pod_decision.specs.Decisions.{IsDecision, IsReserve}
+use Rattle.plan_rules.specs.Plans.{IsIdle}
+use Rattle.pod_decision.specs.Tries.{AllPassed}
+use Rattle.histories.specs.Legal.{Legal}
 use Rattle.commands.specs.declared.command.Command.TheVariants.{Schedule}
-use Rattle.sched_job.specs.Alone.{Alone}
-use Rattle.sched_job.specs.Runs.{Run, JobRun}
+use Rattle.histories.specs.Alone.{Alone}
+use Rattle.histories.specs.JobRuns.{Run, JobRun}
 
 -- ---- which node is taken
 

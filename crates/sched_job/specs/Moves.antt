@@ -18,16 +18,16 @@ use Rattle.cluster.specs.Denied.{first_refusal}
 use Rattle.cluster.specs.History.{state_of, job_state_of}
 use Rattle.cluster.specs.JobState.{is_fresh}
 use Rattle.cluster.specs.State.{claims_of, has_written, taken_node}
-use Rattle.alloc_rules.specs.declared.decision.Decision.{Decision}
-use Rattle.alloc_rules.specs.declared.decision.Decision.TheVariants.{Reserve, Judge}
-use Rattle.ledger_core.specs.Adopted.{adoption}
-use Rattle.ledger_core.specs.Applied.{application}
-use Rattle.ledger_core.specs.Conflict.{status_event}
-use Rattle.ledger_core.specs.Deleted.{deletion}
-use Rattle.ledger_core.specs.VerdictGiven.{MayJudge}
+use Rattle.pod_decision.specs.declared.decision.Decision.{Decision}
+use Rattle.pod_decision.specs.declared.decision.Decision.TheVariants.{Reserve, Judge}
+use Rattle.histories.specs.Adopted.{adoption}
+use Rattle.histories.specs.Applied.{application}
+use Rattle.histories.specs.Conflict.{status_event}
+use Rattle.histories.specs.Deleted.{deletion}
+use Rattle.histories.specs.VerdictGiven.{MayJudge}
 use Rattle.ledger_core.specs.Ledger.{History, appended}
-use Rattle.ledger_core.specs.Released.{release_of}
-use Rattle.ledger_core.specs.Reserved.{IsPlanned, reservation}
+use Rattle.histories.specs.Released.{release_of}
+use Rattle.histories.specs.Reserved.{IsPlanned, reservation}
 use Rattle.sched_job.specs.declared.due.Due.{Due}
 use Rattle.sched_job.specs.declared.due.Due.TheVariants as due
 use Rattle.commands.specs.declared.command.Command.{Command}

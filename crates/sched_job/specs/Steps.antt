@@ -5,8 +5,9 @@ use Rattle.object_fields.specs.declared.key.Key.{Key}
 use Rattle.cluster.specs.declared.entry.Entry.{Entry}
 use Rattle.cluster.specs.declared.entry.JobState.TheVariants as job_state
 use Rattle.cluster.specs.History.{job_state_of}
-use Rattle.alloc_rules.specs.declared.decision.Decision.{Decision}
-use Rattle.alloc_rules.specs.Decisions.{IsDecision, is_idle_pod}
+use Rattle.pod_decision.specs.declared.decision.Decision.{Decision}
+use Rattle.pod_decision.specs.Decisions.{IsDecision}
+use Rattle.plan_rules.specs.Idle.{is_idle_pod}
 use Rattle.ledger_core.specs.Ledger.{History}
 use Rattle.ledger_core.specs.Snapshot.{Seen as Snapshot}
 use Rattle.commands.specs.declared.command.Command.{Command}
@@ -15,7 +16,8 @@ use Rattle.sched_job.specs.declared.work.Stage.{Stage}
 use Rattle.sched_job.specs.declared.work.Stage.TheVariants.{Ready, Seen, Chosen}
 use Rattle.sched_job.specs.declared.work.Work.{Work}
 use Rattle.sched_job.specs.Moves.{Fits, moved, move_of, stage_after}
-use Rattle.sched_job.specs.Runs.{Run, Running, JobRun, JobBegun, attempts_of, is_ended}
+use Rattle.sched_job.specs.Runs.{Running}
+use Rattle.histories.specs.JobRuns.{Run, JobRun, JobBegun, attempts_of, is_ended}
 
 -- ---- the search between two turns
 

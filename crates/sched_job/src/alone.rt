@@ -1,9 +1,9 @@
 ghost use Rattle.std.specs.Prelude.{◌≡◌, ◌≤◌, ◌<◌, ◌+◌, ◌*◌, ◌∷◌, [], ℕ, length, IfOk, OnOk, OnErr, IsErrOf};
 ghost use Rattle.cluster.specs.declared.entry.JobState.TheVariants.{Ended, Fresh};
 ghost use Rattle.cluster.specs.History.{job_state_of};
-ghost use Rattle.ledger_core.specs.Legal.{Legal};
-ghost use Rattle.sched_job.specs.Alone.{NeverSetBack};
-ghost use Rattle.sched_job.specs.Runs.{JobBegun, JobRun, attempts_of};
+ghost use Rattle.histories.specs.Legal.{Legal};
+ghost use Rattle.histories.specs.Alone.{NeverSetBack};
+ghost use Rattle.histories.specs.JobRuns.{JobBegun, JobRun, attempts_of};
 ghost use Rattle.sched_job.specs.declared.work.Stage.TheVariants.{Ready};
 ghost use Rattle.sched_job.specs.Steps.{Extends, run_of};
 

@@ -7,13 +7,13 @@ ghost use Rattle.cluster.specs.declared.state.PodState.{PodState};
 ghost use Rattle.cluster.specs.History.{state_at};
 ghost use Rattle.allocations.specs.Claims.{missing_claim, other_claim, wanted};
 ghost use Rattle.allocations.specs.Allocation.{IsAllocation};
-ghost use Rattle.alloc_rules.specs.Plans.{IsFirstFull, MaySearch};
-ghost use Rattle.sched_job.specs.Runs.{Run};
+ghost use Rattle.plan_rules.specs.Plans.{IsFirstFull, MaySearch};
+ghost use Rattle.histories.specs.JobRuns.{Run};
 ghost use Rattle.sched_job.specs.Complete.{AllSettle, BoundTo, Decided, JudgedBy, PassedAll, RanAlone, first_fit};
 
 use crate::alone_is_undisturbed;
 use allocations::unsat_is_true;
-use ledger_core::{histories_grow, legal_steps, reserved_goes_on};
+use histories::{histories_grow, legal_steps, reserved_goes_on};
 
 /// Scheduling is complete: if a pod is there and Idle as a job to schedule it begins, and no other job
 /// makes an entry before the job has ended, then the job carries out the decision on the pod in the state

@@ -2,26 +2,26 @@ ghost use Rattle.std.specs.Prelude.{◌≡◌, ◌≤◌, ◌<◌, ◌+◌, ◌*
 ghost use Rattle.object_fields.specs.declared.key.Key.{Key};
 ghost use Rattle.cluster.specs.declared.entry.Entry.{Entry};
 ghost use Rattle.cluster.specs.History.{state_of, job_state_of};
-ghost use Rattle.alloc_rules.specs.Decisions.{is_idle_pod};
-ghost use Rattle.alloc_rules.specs.declared.decision.Decision.{Decision};
-ghost use Rattle.ledger_core.specs.Legal.{Legal};
+ghost use Rattle.plan_rules.specs.Idle.{is_idle_pod};
+ghost use Rattle.pod_decision.specs.declared.decision.Decision.{Decision};
+ghost use Rattle.histories.specs.Legal.{Legal};
 ghost use Rattle.sched_job.specs.declared.work.Work.{Work};
 ghost use Rattle.sched_job.specs.Moves.{answer, move_of, stage_after, looked, chosen_event};
-ghost use Rattle.sched_job.specs.Runs.{Run, Running, JobBegun, JobKept, JobRun, attempts_of, is_ended};
-ghost use Rattle.sched_job.specs.Alone.{Alone, NeverSetBack};
+ghost use Rattle.sched_job.specs.Runs.{Running};
+ghost use Rattle.histories.specs.JobRuns.{Run, JobBegun, JobKept, JobRun, attempts_of, is_ended};
+ghost use Rattle.histories.specs.Alone.{Alone, NeverSetBack};
 ghost use Rattle.sched_job.specs.Steps.{Extends, OneTurn};
 ghost use Rattle.sched_job.specs.Turns.{most_turns};
 ghost use Rattle.ledger_core.specs.Ledger.{History};
 
 use crate::{Next, Stage};
-use alloc_rules::plan_holds;
 use cluster::JobState;
 use commands::Command;
-use ledger_core::{
+use histories::{
     histories_grow, legal_steps, objects_keep_limits, pods_stay_taken, uids_keep_claims,
     users_are_busy,
 };
-use plan_check::{allocations_pass, fitting_is_of_pod};
+use plan_rules::{allocations_pass, fitting_is_of_pod, plan_holds};
 
 /// An entry of another job leaves a job as it was: one that is running goes on, and one that was run to
 /// its end, or begun, stays so.

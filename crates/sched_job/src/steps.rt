@@ -1,9 +1,10 @@
 ghost use Rattle.std.specs.Prelude.{◌≡◌, ◌≤◌, ◌<◌, ◌∷◌, [], ℕ, List, length, slice_index, false, IfOk, OnErr, IsErrOf};
 ghost use Rattle.cluster.specs.declared.entry.Entry.{Entry};
 ghost use Rattle.cluster.specs.History.{job_state_of};
-ghost use Rattle.ledger_core.specs.Legal.{Legal};
+ghost use Rattle.histories.specs.Legal.{Legal};
 ghost use Rattle.sched_job.specs.Moves.{Fits};
-ghost use Rattle.sched_job.specs.Runs.{Run, Running, is_ended};
+ghost use Rattle.sched_job.specs.Runs.{Running};
+ghost use Rattle.histories.specs.JobRuns.{Run, is_ended};
 ghost use Rattle.sched_job.specs.Steps.{jobs_of, Differ, Extends, AllNew, AllFit, AllEnds, Ran, Went, WentAt, Walk};
 
 use crate::{Next, Work, runs_go_on};

@@ -4,21 +4,22 @@ ghost use Rattle.cluster.specs.declared.entry.Event.TheVariants.{Denied};
 ghost use Rattle.cluster.specs.declared.entry.Refusal.TheVariants as refusal;
 ghost use Rattle.cluster.specs.History.{state_of, job_state_of};
 ghost use Rattle.cluster.specs.JobState.{has_reserved, is_conflicted, is_fresh, may_try};
-ghost use Rattle.ledger_core.specs.Adopted.{adoption};
-ghost use Rattle.ledger_core.specs.Applied.{application};
-ghost use Rattle.ledger_core.specs.Deleted.{deletion};
+ghost use Rattle.histories.specs.Adopted.{adoption};
+ghost use Rattle.histories.specs.Applied.{application};
+ghost use Rattle.histories.specs.Deleted.{deletion};
 ghost use Rattle.ledger_core.specs.Ledger.{appended};
-ghost use Rattle.ledger_core.specs.Released.{release_of};
+ghost use Rattle.histories.specs.Released.{release_of};
 ghost use Rattle.sched_job.specs.Moves.{begin_move, chosen_event, finish_move, give_up_move, moved, move_of, once, stage_after, tried, try_move, Fits, FitsChoice, FitsStage};
 
 use crate::Stage;
 use crate::due::{Due, due_of, is_taken};
-use alloc_rules::Decision;
 use api_claim::ClaimStatus;
 use cluster::{JobState, Mode, Ready, Target};
 use commands::Command;
-use ledger_core::{Done, Ledger, LedgerError, Start, pods_use_claims};
+use histories::pods_use_claims;
+use ledger_core::{Done, Ledger, LedgerError, Start};
 use object_fields::{FieldError, Key};
+use pod_decision::Decision;
 use std::alloc::Global;
 
 /// One step of the job, and what its work keeps after it.

@@ -1,17 +1,19 @@
 ghost use Rattle.std.specs.Prelude.{◌≡◌, ◌≤◌, ℕ, List, length, IfOk, OnOk, OnErr, IsErrOf};
 ghost use Rattle.cluster.specs.declared.entry.Entry.{Entry};
 ghost use Rattle.cluster.specs.History.{job_state_of};
-ghost use Rattle.ledger_core.specs.Legal.{Legal};
+ghost use Rattle.histories.specs.Legal.{Legal};
 ghost use Rattle.sched_job.specs.Moves.{answer, moved, move_of, stage_after, Fits};
-ghost use Rattle.sched_job.specs.Runs.{Run, Running, IsStaged};
+ghost use Rattle.sched_job.specs.Runs.{Running, IsStaged};
+ghost use Rattle.histories.specs.JobRuns.{Run};
 ghost use Rattle.sched_job.specs.Steps.{IsSearched, Thought, ThoughtOf};
 
 use crate::turns::step;
-use alloc_rules::{Decision, decide, may_schedule};
 use cluster::JobState;
 use commands::Command;
-use ledger_core::{Ledger, LedgerError, Snapshot, histories_grow, legal_steps};
+use histories::{histories_grow, legal_steps};
+use ledger_core::{Ledger, LedgerError, Snapshot};
 use object_fields::Key;
+use pod_decision::{Decision, decide, may_schedule};
 use std::alloc::{AllocError, Global};
 use std::mem;
 

@@ -2,8 +2,9 @@ use crate::input::CaseError;
 use cel_check::CheckError;
 use cel_parse::ParseError;
 use cel_value::EvalError;
-use device_match::{Cause, CompileError};
+use device_selector::CompileError;
 use object_fields::{FieldError, FieldErrorKind, Stage};
+use selector_meaning::Cause;
 use std::alloc::{AllocError, Global};
 
 /// The messages of errors that no input leads to, and of those that print otherwise elsewhere.

@@ -6,10 +6,10 @@ use cel_cost::estimate;
 use cel_eval::{DeviceEnv, EvalError, Single, Steps, Value, eval};
 use cel_parse::ParseError;
 use cel_tree::Span;
-use device_match::{
-    Cause, CompileError, Compiled, DeviceSelector, Match, Verdict, device_env, match_both,
-};
+use device_match::{device_env, match_both};
+use device_selector::{CompileError, Compiled, DeviceSelector};
 use dra_values::Text;
+use selector_meaning::{Cause, Match, Verdict};
 use serde_json::Value as Json;
 use std::alloc::{AllocError, Global};
 
@@ -246,7 +246,7 @@ fn verdicts_of(
     let mut out = String::new(alloc);
     for device in devices {
         push_comma(&mut out)?;
-        match selector.matches(alloc, device)? {
+        match device_match::matches(alloc, selector, device)? {
             Verdict::Yes => out.push_str("yes")?,
             Verdict::No => out.push_str("no")?,
             Verdict::Fault(cause) => push_cause(&mut out, cause)?,

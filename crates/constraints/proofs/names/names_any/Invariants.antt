@@ -1,5 +1,5 @@
 use Rattle.std.proofs.Common.{◌≡◌, drop}
-use Rattle.constraints.specs.Agreeing as spec
+use Rattle.request_rules.specs.Agreeing as spec
 use Rattle.constraints.proofs.names.names_any.Given as goal
 
 abbrev pub invariant-loop-name : goal.invariant-loop-name

@@ -8,14 +8,14 @@ use Rattle.cluster.specs.declared.entry.Command.{Command}
 use Rattle.cluster.specs.declared.entry.Refusal.{Refusal}
 use Rattle.cluster.specs.declared.entry.Entry.{Entry}
 use Rattle.cluster.specs.declared.entry.Event.TheVariants.{Reserved, Refused, VerdictGiven, Adopted, Denied}
-use Rattle.ledger_core.specs.Legal.{Legal, Step}
+use Rattle.histories.specs.Legal.{Legal, Step}
 use Rattle.api_claim.specs.declared.types.ClaimStatus.{ClaimStatus}
-use Rattle.ledger_core.specs.Denied.{MayDeny}
+use Rattle.histories.specs.Denied.{MayDeny}
 use Rattle.cluster.specs.History.{state_at, state_of}
-use Rattle.alloc_rules.specs.Plans.{VerdictBy}
-use Rattle.ledger_core.specs.Headline.{IsAdoptionOf, IsGrantOf, IsVerdictOf}
-use Rattle.ledger_core.specs.Limits.{ObjectsKept}
-use Rattle.ledger_core.specs.Users.{PodsUseClaims, UsersAreBusy}
+use Rattle.plan_rules.specs.Plans.{VerdictBy}
+use Rattle.histories.specs.Headline.{IsAdoptionOf, IsGrantOf, IsVerdictOf}
+use Rattle.histories.specs.Limits.{ObjectsKept}
+use Rattle.histories.specs.Users.{PodsUseClaims, UsersAreBusy}
 use Rattle.commands.specs.declared.command.Command.TheVariants.{Schedule}
 use Rattle.commands.specs.declared.given.Given.{Given}
 use Rattle.commands.specs.declared.given.Given.TheVariants.{One}

@@ -1,7 +1,7 @@
 use Rattle.std.proofs.Common.{subst}
 use Rattle.cluster.specs.declared.entry.Event.TheVariants.{VerdictGiven, Reserved}
 use Rattle.cluster.specs.History.{state_at}
-use Rattle.alloc_rules.specs.Plans.{PlanBy, VerdictBy}
+use Rattle.plan_rules.specs.Plans.{PlanBy, VerdictBy}
 use Rattle.replay_core.proofs.Searched.{entry_tells}
 use Rattle.replay_core.proofs.laws.runs_search_within.Goals as goal
 

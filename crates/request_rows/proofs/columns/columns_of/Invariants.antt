@@ -1,6 +1,6 @@
 use Rattle.std.proofs.Common.{◌≡◌, ◌++◌, map, drop}
 use Rattle.request_rows.specs.Columns.{says}
-use Rattle.request_rows.specs.Match.{seen}
+use Rattle.request_rules.specs.Match.{seen}
 use Rattle.request_rows.proofs.columns.columns_of.Given as goal
 
 abbrev pub invariant-loop-device : goal.invariant-loop-device

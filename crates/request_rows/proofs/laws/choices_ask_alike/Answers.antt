@@ -2,7 +2,7 @@ use Rattle.std.proofs.Common.{refl}
 use Rattle.request_rules.specs.Asked.{asked, matching, seats, slots, tolerated_at}
 use Rattle.request_rules.specs.Faults.{fault_of}
 use Rattle.request_rules.specs.Problem.{open_slots, shape_of}
-use Rattle.request_rows.specs.Ways.{all_asked}
+use Rattle.request_rules.specs.Ways.{all_asked}
 use Rattle.request_rows.proofs.laws.choices_ask_alike.Goals as goal
 
 pub returns : goal.returns

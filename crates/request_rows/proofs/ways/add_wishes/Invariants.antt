@@ -1,5 +1,5 @@
 use Rattle.std.proofs.Common.{◌≡◌, ◌++◌, drop}
-use Rattle.request_rows.specs.Ways.{wishes_in}
+use Rattle.request_rules.specs.Ways.{wishes_in}
 use Rattle.request_rows.proofs.ways.add_wishes.Given as goal
 
 abbrev pub invariant-loop-at : goal.invariant-loop-at

@@ -1,5 +1,5 @@
 use Rattle.std.proofs.Common.{◌≡◌, ◌++◌, drop}
-use Rattle.request_rows.specs.Ways.{requests_from}
+use Rattle.request_rows.specs.Requests.{requests_from}
 use Rattle.request_rows.proofs.ways.request_rows_of.Given as goal
 
 abbrev pub invariant-loop-wish : goal.invariant-loop-wish

@@ -1,5 +1,5 @@
 use Rattle.std.proofs.Common.{◌≡◌, ◌++◌, drop}
-use Rattle.request_rows.specs.Ways.{ways_from}
+use Rattle.request_rules.specs.Ways.{ways_from}
 use Rattle.request_rows.proofs.ways.ways_of.Given as goal
 
 abbrev pub invariant-loop-wish : goal.invariant-loop-wish

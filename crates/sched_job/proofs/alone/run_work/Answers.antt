@@ -1,6 +1,6 @@
 use Rattle.std.proofs.Common.{◌≡◌, ◌∙◌, ℕ, [], ◌∷◌, length, refl, sym, ap, subst, append-nil, false, arith}
 use Rattle.cluster.specs.History.{job_state_of}
-use Rattle.sched_job.specs.Runs.{JobBegun, Run, is_ended}
+use Rattle.histories.specs.JobRuns.{JobBegun, Run, is_ended}
 use Rattle.sched_job.specs.Steps.{Extends, run_of}
 use Rattle.sched_job.proofs.Stepping.{running_new}
 use Rattle.sched_job.specs.Moves.{move_of}

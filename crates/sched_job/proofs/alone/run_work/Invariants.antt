@@ -1,6 +1,7 @@
 use Rattle.std.proofs.Common.{◌≡◌, ◌+◌, ◌*◌, ◌≤◌, [], ◌∷◌, length}
-use Rattle.ledger_core.specs.Legal.{Legal}
-use Rattle.sched_job.specs.Runs.{Running, attempts_of}
+use Rattle.histories.specs.Legal.{Legal}
+use Rattle.sched_job.specs.Runs.{Running}
+use Rattle.histories.specs.JobRuns.{attempts_of}
 use Rattle.sched_job.specs.Steps.{Extends, run_of}
 use Rattle.sched_job.specs.Turns.{most_turns}
 use Rattle.sched_job.proofs.alone.run_work.Given as goal

@@ -1,7 +1,7 @@
 use Rattle.std.proofs.Common.{◌∙◌, ⊎_elim, refl, sym, ap}
 use Rattle.cluster.specs.History.{job_state_of}
 use Rattle.sched_job.specs.Moves.{move_of, stage_after}
-use Rattle.sched_job.specs.Runs.{is_ended}
+use Rattle.histories.specs.JobRuns.{is_ended}
 use Rattle.sched_job.proofs.Stepping.{extends_by, moved_limit, thought_again, thought_ended, went_turned}
 use Rattle.sched_job.proofs.steps.go.Goals as goal
 

@@ -1,6 +1,6 @@
 use Rattle.std.proofs.Common.{ℕ, ◌≡◌, ◌≤◌, ◌+◌, List, length, drop}
 use Rattle.ledger_core.specs.Ledger.{History}
-use Rattle.ledger_core.specs.Legal.{Legal}
+use Rattle.histories.specs.Legal.{Legal}
 use Rattle.sched_job.specs.declared.work.Work.{Work}
 use Rattle.sched_job.specs.Steps.{Ran, Walk, jobs_of}
 use Rattle.sched_job.proofs.steps.run_steps.Given as goal

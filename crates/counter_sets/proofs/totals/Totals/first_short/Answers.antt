@@ -1,6 +1,6 @@
 use Rattle.std.proofs.Common.{Some, None, ap, ap₂, ◌∙◌}
 use Rattle.std.specs.Option.{option_copied}
-use Rattle.counter_sets.specs.Draws.{counter_for}
+use Rattle.request_rules.specs.Draws.{counter_for}
 use Rattle.counter_sets.specs.Totals.{or_empty, pool_in}
 use Rattle.counter_sets.proofs.Shortages.{drawn_of, has_of, short_of}
 use Rattle.counter_sets.proofs.totals.Totals.first_short.Goals as goal

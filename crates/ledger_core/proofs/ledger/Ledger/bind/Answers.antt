@@ -9,7 +9,7 @@ use Rattle.cluster.specs.Held.{held}
 use Rattle.cluster.specs.History.{state_of}
 use Rattle.cluster.specs.State.{taken_node}
 use Rattle.ledger_core.specs.Ledger.{History}
-use Rattle.ledger_core.specs.Legal.{Step}
+use Rattle.histories.specs.Legal.{Step}
 use Rattle.ledger_core.proofs.Freeing.{bound_held}
 use Rattle.ledger_core.proofs.Keeping.{few_tries, kept_more}
 use Rattle.ledger_core.proofs.ledger.Ledger.bind.Goals as goal

@@ -7,7 +7,7 @@ use Rattle.cluster.specs.Adopted.{with_adopted}
 use Rattle.cluster.specs.Events.{after}
 use Rattle.cluster.specs.Held.{held}
 use Rattle.ledger_core.specs.Ledger.{History}
-use Rattle.ledger_core.specs.Legal.{Step}
+use Rattle.histories.specs.Legal.{Step}
 use Rattle.ledger_core.proofs.Keeping.{few_tries, kept_more}
 use Rattle.ledger_core.proofs.Taking.{adopting}
 use Rattle.ledger_core.proofs.ledger.Ledger.make_grant.Goals as goal

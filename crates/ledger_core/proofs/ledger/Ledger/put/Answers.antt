@@ -8,7 +8,7 @@ use Rattle.cluster.specs.Applied.{with_object}
 use Rattle.cluster.specs.Events.{after}
 use Rattle.cluster.specs.Held.{held}
 use Rattle.ledger_core.specs.Ledger.{History}
-use Rattle.ledger_core.specs.Legal.{Step}
+use Rattle.histories.specs.Legal.{Step}
 use Rattle.ledger_core.proofs.Freeing.{applied_held}
 use Rattle.ledger_core.proofs.Keeping.{few_tries, kept_more}
 use Rattle.ledger_core.proofs.ledger.Ledger.put.Goals as goal

@@ -5,7 +5,7 @@ use Rattle.cluster.specs.declared.entry.JobState.{JobState}
 use Rattle.cluster.specs.History.{job_state_of}
 use Rattle.cluster.specs.JobState.{failures}
 use Rattle.ledger_core.specs.Ledger.{History}
-use Rattle.ledger_core.specs.Legal.{Step}
+use Rattle.histories.specs.Legal.{Step}
 use Rattle.ledger_core.proofs.Keeping.{few_tries, kept_more, may_contend}
 use Rattle.ledger_core.proofs.ledger.Ledger.record_contended.Goals as goal
 

@@ -1,9 +1,9 @@
 use Rattle.std.proofs.Common.{◌≡◌, ◌∙◌, None, ap, subst, sym}
 use Rattle.cluster.specs.declared.state.State.{State}
 use Rattle.cluster.specs.History.{state_of}
-use Rattle.plan_check.specs.Failing.{failing}
+use Rattle.plan_rules.specs.Failing.{failing}
 use Rattle.ledger_core.specs.Ledger.{History}
-use Rattle.ledger_core.specs.Legal.{Legal}
+use Rattle.histories.specs.Legal.{Legal}
 use Rattle.ledger_core.proofs.Reserving.{may_reserve}
 use Rattle.ledger_core.proofs.ledger.Ledger.reserve_idle.Goals as goal
 

@@ -5,7 +5,7 @@ use Rattle.cluster.specs.declared.entry.Event.TheVariants.{Deleted}
 use Rattle.cluster.specs.declared.state.State.{State}
 use Rattle.cluster.specs.Held.{held}
 use Rattle.ledger_core.specs.Ledger.{History}
-use Rattle.ledger_core.specs.Legal.{Step}
+use Rattle.histories.specs.Legal.{Step}
 use Rattle.ledger_core.proofs.Freeing.{removed_held}
 use Rattle.ledger_core.proofs.Keeping.{few_tries, kept_more, once_now}
 use Rattle.ledger_core.proofs.ledger.Ledger.take_away.Goals as goal

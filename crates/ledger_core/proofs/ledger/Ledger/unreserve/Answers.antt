@@ -7,7 +7,7 @@ use Rattle.cluster.specs.Events.{after}
 use Rattle.cluster.specs.Freed.{without_uses}
 use Rattle.cluster.specs.Held.{held}
 use Rattle.ledger_core.specs.Ledger.{History}
-use Rattle.ledger_core.specs.Legal.{Step}
+use Rattle.histories.specs.Legal.{Step}
 use Rattle.ledger_core.proofs.Freeing.{freed_held}
 use Rattle.ledger_core.proofs.Keeping.{few_tries, kept_more, once_now}
 use Rattle.ledger_core.proofs.ledger.Ledger.unreserve.Goals as goal

@@ -9,7 +9,7 @@ use Rattle.cluster.specs.History.{state_of}
 use Rattle.cluster.specs.State.{version_of}
 use Rattle.cluster.specs.Wrote.{with_written}
 use Rattle.ledger_core.specs.Ledger.{History}
-use Rattle.ledger_core.specs.Legal.{Step}
+use Rattle.histories.specs.Legal.{Step}
 use Rattle.ledger_core.proofs.Freeing.{written_held}
 use Rattle.ledger_core.proofs.Keeping.{few_tries, kept_more}
 use Rattle.ledger_core.proofs.ledger.Ledger.write.Goals as goal

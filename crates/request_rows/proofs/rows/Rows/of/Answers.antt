@@ -1,11 +1,12 @@
 use Rattle.std.proofs.Common.{List, map, ap, ◌∙◌}
-use Rattle.device_match.specs.declared.matching.Match.{Match}
+use Rattle.selector_meaning.specs.declared.matching.Match.{Match}
 use Rattle.pool_view.specs.Pools.{Offered}
 use Rattle.request_rules.specs.Asked.{Asked, Wish, ways_of, wishes_from}
 use Rattle.request_rows.specs.Columns.{columns_for}
 use Rattle.request_rows.specs.Rows.{rows_from}
 use Rattle.request_rows.specs.Wanted.{WantsFields}
-use Rattle.request_rows.specs.Ways.{requests_from, ways_from}
+use Rattle.request_rules.specs.Ways.{ways_from}
+use Rattle.request_rows.specs.Requests.{requests_from}
 use Rattle.request_rows.proofs.Made.{made}
 use Rattle.request_rows.proofs.rows.Rows.of.Goals as goal
 

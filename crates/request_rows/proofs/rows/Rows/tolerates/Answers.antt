@@ -2,7 +2,7 @@ use Rattle.std.proofs.Common.{ap, ◌∙◌}
 use Rattle.request_rows.specs.declared.rows.Row.{Row}
 use Rattle.request_rows.specs.Taints.{flag_at}
 use Rattle.request_rows.specs.Wanted.{input_of}
-use Rattle.request_rows.specs.Ways.{asked_at}
+use Rattle.request_rules.specs.Ways.{asked_at}
 use Rattle.request_rows.proofs.Flagged.{flag_is}
 use Rattle.request_rows.proofs.rows.Rows.tolerates.Goals as goal
 

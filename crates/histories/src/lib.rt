@@ -1,0 +1,13 @@
+//! Which histories of a cluster are legal, and what each legal history has: definitions and laws, without
+//! code.
+#![tactic(auto)]
+
+mod growing;
+mod headline;
+
+pub use growing::{histories_grow, reserved_goes_on};
+pub use headline::{
+    adoptions_are_allocations, busy_is_another, denials_change_nothing, grants_are_allocations,
+    legal_steps, objects_keep_limits, one_holder, pods_stay_taken, pods_use_claims,
+    uids_keep_claims, users_are_busy, verdicts_are_true,
+};

@@ -1,5 +1,0 @@
-use Rattle.ledger_core.proofs.Adopting.{adoption_at}
-use Rattle.ledger_core.proofs.headline.adoptions_are_allocations.Goals as goal
-
-pub returns : goal.returns
-returns c = adoption_at c.checked_is_allocation.ensures.status

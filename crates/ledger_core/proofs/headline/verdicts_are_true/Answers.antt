@@ -1,5 +1,0 @@
-use Rattle.ledger_core.proofs.Headlines.{verdict_at}
-use Rattle.ledger_core.proofs.headline.verdicts_are_true.Goals as goal
-
-pub returns : goal.returns
-returns c = verdict_at c.budget_is_true.ensures.more c.budget_is_true.ensures.parts

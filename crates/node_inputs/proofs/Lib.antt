@@ -1,0 +1,2 @@
+pub mod WantedAt
+pub mod Keys

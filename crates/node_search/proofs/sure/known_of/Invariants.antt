@@ -1,6 +1,0 @@
-use Rattle.std.proofs.Common.{◌≡◌, ◌++◌, drop}
-use Rattle.node_search.specs.Sure.{known_of}
-use Rattle.node_search.proofs.sure.known_of.Given as goal
-
-abbrev pub invariant-loop-selection : goal.invariant-loop-selection
-invariant-loop-selection l = l.known ++ known_of l.inventory.slices (drop l.selection-index l.selections) ≡ known_of l.inventory.slices l.selections

@@ -1,6 +1,0 @@
-use Rattle.std.proofs.Common.{◌≡◌, ◌++◌, drop}
-use Rattle.node_search.specs.Sure.{texts_of}
-use Rattle.node_search.proofs.sure.selections_of.Given as goal
-
-abbrev pub invariant-loop-wanted : goal.invariant-loop-wanted
-invariant-loop-wanted l = l.selections ++ texts_of l.classes (drop l.wanted-index l.claims) ≡ texts_of l.classes l.claims

@@ -1,6 +1,0 @@
-use Rattle.std.proofs.Common.{drop}
-use Rattle.node_search.specs.Adding.{HasRoom, IsAdding}
-use Rattle.node_search.proofs.totals.add_held.Given as goal
-
-abbrev pub invariant-loop-slice : goal.invariant-loop-slice
-invariant-loop-slice l = HasRoom l.holders (drop l.slice-index l.slices) l.totals × IsAdding l.holders l.slices (drop l.slice-index l.slices) l.fn.totals l.totals

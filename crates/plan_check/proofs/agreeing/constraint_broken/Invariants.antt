@@ -1,7 +1,0 @@
-use Rattle.std.proofs.Common.{drop}
-use Rattle.request_rows.specs.Wanted.{input_of}
-use Rattle.plan_check.proofs.Breaking.{KeptSoFar}
-use Rattle.plan_check.proofs.agreeing.constraint_broken.Given as goal
-
-abbrev pub invariant-loop-place : goal.invariant-loop-place
-invariant-loop-place l = KeptSoFar (input_of l.rows) l.dues l.place l.first (drop l.place l.claims)

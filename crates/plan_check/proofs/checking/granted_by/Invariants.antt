@@ -1,6 +1,0 @@
-use Rattle.std.proofs.Common.{◌≡◌, ◌++◌, drop, map}
-use Rattle.plan_check.specs.Failing.{result_of}
-use Rattle.plan_check.proofs.checking.granted_by.Given as goal
-
-abbrev pub invariant-loop-found : goal.invariant-loop-found
-invariant-loop-found l = l.results ++ map result_of (drop l.found-index l.status.results) ≡ map result_of l.status.results

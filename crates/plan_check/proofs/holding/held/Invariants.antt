@@ -1,6 +1,0 @@
-use Rattle.std.proofs.Common.{drop, take}
-use Rattle.plan_check.proofs.SoFar.{HeldSoFar}
-use Rattle.plan_check.proofs.holding.held.Given as goal
-
-abbrev pub invariant-loop-due : goal.invariant-loop-due
-invariant-loop-due l = HeldSoFar l.fn.holders l.own l.dues (take l.due-index l.dues) (drop l.due-index l.dues)

@@ -1,5 +1,0 @@
-use Rattle.plan_check.proofs.VerdictGiven.{plan_fits}
-use Rattle.plan_check.proofs.laws.checked_is_known.Goals as goal
-
-pub returns : goal.returns
-returns c = λ s pod plan e. plan_fits s pod plan e

@@ -1,5 +1,0 @@
-use Rattle.plan_check.proofs.Lists.{here}
-use Rattle.plan_check.proofs.results.selector_no.Goals as goal
-
-pub is_unmet-requires : goal.is_unmet-requires
-is_unmet-requires c = c.requires c.loop-due.due-index c.due-item.result (here c.args.dues.now c.loop-due.due-index c.due-item.result c.loop-due-test.true c.due-item.is)

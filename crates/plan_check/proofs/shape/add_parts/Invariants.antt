@@ -1,6 +1,0 @@
-use Rattle.request_rows.specs.Wanted.{input_of}
-use Rattle.plan_check.proofs.Shaping.{PartsUntil}
-use Rattle.plan_check.proofs.shape.add_parts.Given as goal
-
-abbrev pub invariant-loop-place : goal.invariant-loop-place
-invariant-loop-place l = PartsUntil (input_of l.rows) l.claim l.view.devices l.fn.dues.items l.dues.items l.picked l.results l.place l.at

@@ -1,9 +1,0 @@
-use Rattle.std.proofs.Common.{◌≡◌, drop}
-use Rattle.std.specs.Prelude.{nat_eq}
-use Rattle.std.specs.Cmp.Lexicographic.{pointwise}
-use Rattle.plan_check.specs.Rows.{positions_of}
-use Rattle.plan_check.proofs.shape.are_at.Given as goal
-
-abbrev pub invariant-loop-at : goal.invariant-loop-at
-invariant-loop-at l =
-    pointwise nat_eq (positions_of (drop l.at l.dues)) (drop l.at l.positions) ≡ pointwise nat_eq (positions_of l.dues) l.positions

@@ -1,9 +1,0 @@
-pub mod Known
-pub mod Chosen
-pub mod Shaped
-pub mod Standing
-pub mod Rows
-pub mod Failing
-pub mod Meant
-pub mod Fits
-pub mod Says

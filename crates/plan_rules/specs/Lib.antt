@@ -1,0 +1,10 @@
+pub mod Plans
+pub mod Idle
+pub mod Known
+pub mod Chosen
+pub mod Shaped
+pub mod Standing
+pub mod Failing
+pub mod Meant
+pub mod Fits
+pub mod Says

@@ -1,0 +1,12 @@
+pub mod Lists
+pub mod Decided
+pub mod Tried
+pub mod Going
+pub mod Gathering
+pub mod Idle
+pub mod Places
+pub mod Lifted
+pub mod FullWalks
+pub mod FullInputs
+pub mod Unfaulted
+pub mod FullNodes

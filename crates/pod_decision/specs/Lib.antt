@@ -1,0 +1,4 @@
+pub mod Decisions
+pub mod Tries
+pub mod Parts
+pub mod Searches

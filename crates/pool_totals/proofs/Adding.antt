@@ -1,0 +1,175 @@
+-- What the held devices of slices draw, added slice after slice.
+use Rattle.std.proofs.Common.{ℕ, ◌+◌, ◌*◌, ◌<◌, ◌≤◌, ◌≡◌, ◌∙◌, List, [], ◌∷◌, false, Option, None, Some, drop, get_or, is_some, length, refl, sym, ap, subst, arith}
+use Rattle.std.proofs.lemmas.List.Sums.{sum_by-cons}
+use Rattle.object_fields.specs.declared.key.DeviceId.{DeviceId}
+use Rattle.object_fields.specs.declared.key.Key.{Key}
+use Rattle.api_slice.specs.Limits.{IsWithinLimits}
+use Rattle.api_slice.specs.declared.types.ResourceSlice.{ResourceSlice}
+use Rattle.pool_view.specs.Usable.{counted_slices, usable_slices}
+use Rattle.pool_view.specs.declared.inventory.Inventory.{Inventory}
+use Rattle.request_rules.specs.Draws.{CounterId, counter_value, drawn, drawn_by, or_value, value_among}
+use Rattle.counter_sets.specs.Holding.{AreHeld, Holders, offered_held}
+use Rattle.counter_sets.specs.Totals.{KeptCounters, drawn_in, keeps, sum_most, value_of}
+use Rattle.pool_totals.specs.Adding.{AreUndrawn, HasRoom, IsAdding, device_most, devices_in, held_draws}
+use Rattle.pool_totals.specs.Drawn.{AreDrawn, AreDrawnByBoth}
+use Rattle.pool_totals.proofs.Counted.{AreThere, drawn_counted, fewer_counted, no_held_draws, value_counted}
+use Rattle.pool_totals.proofs.Draws.{held_draw_most, held_drawn}
+use Rattle.pool_totals.proofs.Places.{item_at}
+
+-- ---- the counters of slices
+
+-- those of the slices that are left are to be added
+pub record IsFilling (all left : List ResourceSlice) (kept : KeptCounters) : Type 0 where
+  pub value_is : (c : CounterId) → or_value (value_of kept c) (value_among left c) ≡ value_among all c
+  pub none : (c : CounterId) → drawn_in kept c ≡ 0
+
+pub filling_at : (xs : List ResourceSlice) (i : ℕ) (x y : ResourceSlice) (now : KeptCounters) → i < length xs → x ≡ get_or xs i x → y ≡ x → IsFilling xs (drop i xs) now → IsFilling xs (y ∷ drop (i + 1) xs) now
+filling_at xs i x y now lt is same f =
+    subst (λ (z : ResourceSlice). IsFilling xs (z ∷ drop (i + 1) xs) now) (sym same) (subst (λ (l : List ResourceSlice). IsFilling xs l now) (item_at xs i x lt is) f)
+
+or_nothing : (o : Option ℕ) → or_value o None ≡ o
+or_nothing None = refl
+or_nothing (Some n) = refl
+
+or_later : (a b r : Option ℕ) → or_value (or_value a b) r ≡ or_value a (or_value b r)
+or_later None b r = refl
+or_later (Some n) b r = refl
+
+pub fills_none : (xs : List ResourceSlice) (kept : KeptCounters) → ((c : CounterId) → value_of kept c ≡ None) → ((c : CounterId) → drawn_in kept c ≡ 0) → IsFilling xs xs kept
+fills_none xs kept none zero = record { value_is = λ c. ap (λ (o : Option ℕ). or_value o (value_among xs c)) (none c); none = zero }
+
+pub fills_next : (all left : List ResourceSlice) (x : ResourceSlice) (now new : KeptCounters) → IsFilling all (x ∷ left) now → ((c : CounterId) → value_of new c ≡ or_value (value_of now c) (counter_value x c)) → ((c : CounterId) → drawn_in new c ≡ drawn_in now c)
+    → IsFilling all left new
+fills_next all left x now new f value same = record {
+  value_is = λ c. ap (λ (o : Option ℕ). or_value o (value_among left c)) (value c) ∙ or_later (value_of now c) (counter_value x c) (value_among left c) ∙ f.value_is c;
+  none = λ c. same c ∙ f.none c;
+}
+
+pub filled : (all : List ResourceSlice) (kept : KeptCounters) → IsFilling all [] kept → AreUndrawn all kept
+filled all kept f = record { value_is = λ c. sym (or_nothing (value_of kept c)) ∙ f.value_is c; none = f.none }
+
+-- ---- what held devices draw
+
+first_draws : (h : Holders) (x : ResourceSlice) (xs : List ResourceSlice) (c : CounterId) → held_draws h (x ∷ xs) c ≡ drawn_by c (offered_held h x) + held_draws h xs c
+first_draws h x xs c = sum_by-cons (λ y. drawn_by c (offered_held h y)) x xs
+
+first_devices : (x : ResourceSlice) (xs : List ResourceSlice) → devices_in (x ∷ xs) ≡ length x.devices + devices_in xs
+first_devices x xs = sum_by-cons (λ y. length y.devices) x xs
+
+pub room_at : (h : Holders) (xs : List ResourceSlice) (i : ℕ) (x y : ResourceSlice) (now : KeptCounters) → i < length xs → x ≡ get_or xs i x → y ≡ x → HasRoom h (drop i xs) now → HasRoom h (y ∷ drop (i + 1) xs) now
+room_at h xs i x y now lt is same room =
+    subst (λ (z : ResourceSlice). HasRoom h (z ∷ drop (i + 1) xs) now) (sym same) (subst (λ (l : List ResourceSlice). HasRoom h l now) (item_at xs i x lt is) room)
+
+pub adding_at : (h : Holders) (xs : List ResourceSlice) (i : ℕ) (x y : ResourceSlice) (old now : KeptCounters) → i < length xs → x ≡ get_or xs i x → y ≡ x → IsAdding h xs (drop i xs) old now → IsAdding h xs (y ∷ drop (i + 1) xs) old now
+adding_at h xs i x y old now lt is same adding =
+    subst (λ (z : ResourceSlice). IsAdding h xs (z ∷ drop (i + 1) xs) old now) (sym same) (subst (λ (l : List ResourceSlice). IsAdding h xs l old now) (item_at xs i x lt is) adding)
+
+no_first : (a s n : ℕ) → n ≡ a + s → n ≡ 0 → a ≡ 0
+no_first a s n e f = omega (arith, e, f)
+
+no_rest : (a s n : ℕ) → n ≡ a + s → n ≡ 0 → s ≡ 0
+no_rest a s n e f = omega (arith, e, f)
+
+-- the counters that the next slice's devices draw from are kept
+pub kept_here : (h : Holders) (x : ResourceSlice) (xs : List ResourceSlice) (now : KeptCounters) → HasRoom h (x ∷ xs) now → (c : CounterId) → keeps now c ≡ false → drawn_by c (offered_held h x) ≡ 0
+kept_here h x xs now room c none = no_first (drawn_by c (offered_held h x)) (held_draws h xs c) (held_draws h (x ∷ xs) c) (first_draws h x xs c) (room.all_kept c none)
+
+fits_by : (m a l s n : ℕ) → m + n * device_most ≤ sum_most → n ≡ l + s → a ≤ l * device_most → m + a ≤ sum_most
+fits_by m a l s n h e f = omega (arith, h, e, f)
+
+-- and what they draw fits
+pub fits_here : (h : Holders) (x : ResourceSlice) (xs : List ResourceSlice) (now : KeptCounters) → IsWithinLimits x → HasRoom h (x ∷ xs) now → (c : CounterId) → drawn_in now c + drawn_by c (offered_held h x) ≤ sum_most
+fits_here h x xs now limits room c =
+    fits_by (drawn_in now c) (drawn_by c (offered_held h x)) (length x.devices) (devices_in xs) (devices_in (x ∷ xs)) (room.fits c) (first_devices x xs) (held_draw_most h x c limits)
+
+room_by : (m k a l s n : ℕ) → m + n * device_most ≤ sum_most → n ≡ l + s → a ≤ l * device_most → k ≡ m + a → k + s * device_most ≤ sum_most
+room_by m k a l s n h e f g = omega (arith, h, e, f, g)
+
+pub room_next : (h : Holders) (x : ResourceSlice) (xs : List ResourceSlice) (now new : KeptCounters) → IsWithinLimits x → HasRoom h (x ∷ xs) now → ((c : CounterId) → value_of new c ≡ value_of now c) → ((c : CounterId) → drawn_in new c ≡ drawn_in now c + drawn_by c (offered_held h x))
+    → HasRoom h xs new
+room_next h x xs now new limits room same more = record {
+  all_kept = λ c none. no_rest (drawn_by c (offered_held h x)) (held_draws h xs c) (held_draws h (x ∷ xs) c) (first_draws h x xs c) (room.all_kept c (ap is_some (sym (same c)) ∙ none));
+  fits = λ c. room_by (drawn_in now c) (drawn_in new c) (drawn_by c (offered_held h x)) (length x.devices) (devices_in xs) (devices_in (x ∷ xs)) (room.fits c) (first_devices x xs) (held_draw_most h x c limits) (more c);
+}
+
+pub adds_none : (h : Holders) (xs : List ResourceSlice) (kept : KeptCounters) → IsAdding h xs xs kept kept
+adds_none h xs kept = record { same = λ c. refl; drawn = λ c. refl; most = λ c. omega arith }
+
+drawn_next : (m k a s n t : ℕ) → m + n ≡ t → n ≡ a + s → k ≡ m + a → k + s ≡ t
+drawn_next m k a s n t h e g = omega (arith, h, e, g)
+
+most_next : (m k a l s n t : ℕ) → m + n * device_most ≤ t → n ≡ l + s → a ≤ l * device_most → k ≡ m + a → k + s * device_most ≤ t
+most_next m k a l s n t h e f g = omega (arith, h, e, f, g)
+
+pub adds_next : (h : Holders) (x : ResourceSlice) (all xs : List ResourceSlice) (old now new : KeptCounters) → IsWithinLimits x → IsAdding h all (x ∷ xs) old now → ((c : CounterId) → value_of new c ≡ value_of now c)
+    → ((c : CounterId) → drawn_in new c ≡ drawn_in now c + drawn_by c (offered_held h x)) → IsAdding h all xs old new
+adds_next h x all xs old now new limits adding same more = record {
+  same = λ c. same c ∙ adding.same c;
+  drawn = λ c. drawn_next (drawn_in now c) (drawn_in new c) (drawn_by c (offered_held h x)) (held_draws h xs c) (held_draws h (x ∷ xs) c) (drawn_in old c + held_draws h all c) (adding.drawn c) (first_draws h x xs c) (more c);
+  most = λ c.
+      most_next (drawn_in now c) (drawn_in new c) (drawn_by c (offered_held h x)) (length x.devices) (devices_in xs) (devices_in (x ∷ xs)) (drawn_in old c + devices_in all * device_most) (adding.most c) (first_devices x xs)
+      (held_draw_most h x c limits) (more c);
+}
+
+-- ---- the counted slices of an inventory
+
+-- how many devices an inventory has at most
+abbrev all_most : ℕ
+all_most = 65536
+
+value_is : (i : Inventory) (xs : List ResourceSlice) (kept : KeptCounters) (c : CounterId) → xs ≡ counted_slices i → AreUndrawn xs kept → value_of kept c ≡ value_among (usable_slices i) c
+value_is i xs kept c e fresh = fresh.value_is c ∙ ap (λ (l : List ResourceSlice). value_among l c) e ∙ value_counted i c
+
+none_left : (i : Inventory) (h : Holders) (xs : List ResourceSlice) (kept : KeptCounters) (c : CounterId) → AreThere i → xs ≡ counted_slices i → AreUndrawn xs kept → keeps kept c ≡ false → held_draws h xs c ≡ 0
+none_left i h xs kept c are e fresh none = ap (λ (l : List ResourceSlice). held_draws h l c) e ∙ no_held_draws i h c are (ap is_some (sym (value_is i xs kept c e fresh)) ∙ none)
+
+few_devices : (i : Inventory) (xs : List ResourceSlice) → xs ≡ counted_slices i → devices_in (usable_slices i) ≤ all_most → devices_in xs ≤ all_most
+few_devices i xs e few = let less = fewer_counted i in subst (λ (l : List ResourceSlice). devices_in l ≤ all_most) (sym e) (omega (arith, less, few))
+
+room_first : (m n : ℕ) → m ≡ 0 → n ≤ all_most → m + n * device_most ≤ sum_most
+room_first m n e h = omega (arith, e, h)
+
+-- there is room for what held devices draw
+pub room_of : (i : Inventory) (h : Holders) (xs : List ResourceSlice) (kept : KeptCounters) → AreThere i → devices_in (usable_slices i) ≤ all_most → xs ≡ counted_slices i → AreUndrawn xs kept → HasRoom h xs kept
+room_of i h xs kept are few e fresh = record {
+  all_kept = λ c none. none_left i h xs kept c are e fresh none;
+  fits = λ c. room_first (drawn_in kept c) (devices_in xs) (fresh.none c) (few_devices i xs e few);
+}
+
+room_second : (m k n : ℕ) → k ≡ 0 → m + 0 * device_most ≤ k + n * device_most → n ≤ all_most → m + n * device_most ≤ sum_most
+room_second m k n e h f = omega (arith, e, h, f)
+
+-- and for what others draw after them
+pub room_besides : (i : Inventory) (h g : Holders) (xs : List ResourceSlice) (kept now : KeptCounters) → AreThere i → devices_in (usable_slices i) ≤ all_most → xs ≡ counted_slices i → AreUndrawn xs kept → IsAdding h xs [] kept now → HasRoom g xs now
+room_besides i h g xs kept now are few e fresh adding = record {
+  all_kept = λ c none. none_left i g xs kept c are e fresh (ap is_some (sym (adding.same c)) ∙ none);
+  fits = λ c. room_second (drawn_in now c) (drawn_in kept c) (devices_in xs) (fresh.none c) (adding.most c) (few_devices i xs e few);
+}
+
+held_all : (i : Inventory) (h : Holders) (xs : List ResourceSlice) (pairs : List (DeviceId × Key)) (c : CounterId) → xs ≡ counted_slices i → AreHeld h pairs → held_draws h xs c ≡ drawn (usable_slices i) pairs c
+held_all i h xs pairs c e held = held_drawn h pairs xs c held ∙ ap (λ (l : List ResourceSlice). drawn l pairs c) e ∙ drawn_counted i pairs c
+
+drawn_once : (m k n t : ℕ) → m + 0 ≡ k + n → k ≡ 0 → n ≡ t → m ≡ t
+drawn_once m k n t e f g = omega (arith, e, f, g)
+
+pub are_drawn : (i : Inventory) (h : Holders) (xs : List ResourceSlice) (kept new : KeptCounters) (pairs : List (DeviceId × Key)) → xs ≡ counted_slices i → AreUndrawn xs kept → IsAdding h xs [] kept new → AreHeld h pairs → AreDrawn i pairs new
+are_drawn i h xs kept new pairs e fresh adding held = record {
+  value_is = λ c. adding.same c ∙ value_is i xs kept c e fresh;
+  drawn_is = λ c. drawn_once (drawn_in new c) (drawn_in kept c) (held_draws h xs c) (drawn (usable_slices i) pairs c) (adding.drawn c) (fresh.none c) (held_all i h xs pairs c e held);
+}
+
+drawn_twice : (m k n a b s t : ℕ) → m + 0 ≡ n + b → n + 0 ≡ k + a → k ≡ 0 → a ≡ s → b ≡ t → m ≡ s + t
+drawn_twice m k n a b s t e f g h l = omega (arith, e, f, g, h, l)
+
+most_twice : (m k n d : ℕ) → m + 0 * device_most ≤ n + d * device_most → n + 0 * device_most ≤ k + d * device_most → k ≡ 0 → d ≤ all_most → m ≤ sum_most
+most_twice m k n d e f g h = omega (arith, e, f, g, h)
+
+pub are_drawn_by_both : (i : Inventory) (h g : Holders) (xs : List ResourceSlice) (kept now new : KeptCounters) (pairs others : List (DeviceId × Key)) → devices_in (usable_slices i) ≤ all_most → xs ≡ counted_slices i → AreUndrawn xs kept → IsAdding h xs [] kept now
+    → IsAdding g xs [] now new → AreHeld h pairs → AreHeld g others → AreDrawnByBoth i pairs others new
+are_drawn_by_both i h g xs kept now new pairs others few e fresh first second held also = record {
+  value_is = λ c. second.same c ∙ first.same c ∙ value_is i xs kept c e fresh;
+  drawn_is = λ c.
+      drawn_twice (drawn_in new c) (drawn_in kept c) (drawn_in now c) (held_draws h xs c) (held_draws g xs c) (drawn (usable_slices i) pairs c) (drawn (usable_slices i) others c) (second.drawn c) (first.drawn c) (fresh.none c)
+      (held_all i h xs pairs c e held) (held_all i g xs others c e also);
+  most = λ c. most_twice (drawn_in new c) (drawn_in kept c) (drawn_in now c) (devices_in xs) (second.most c) (first.most c) (fresh.none c) (few_devices i xs e few);
+}

@@ -1,0 +1,4 @@
+pub mod Adding
+pub mod Draws
+pub mod Counted
+pub mod Places
