@@ -1,108 +1,127 @@
-ghost use Rattle.std.specs.List.{AllByRecursion};
+ghost use Rattle.std.specs.Prelude.{IfOk};
 ghost use Rattle.ckpt_journal.specs.Format.{ReadsBack};
 
+use crate::changes::{by_byte, by_length};
 use crate::crashes::crashes;
 use crate::faults::faults;
 use crate::files::{counted, disk_of, listed, records_of, word};
 use crate::hex::{from_hex, to_hex};
-use crate::runs::run_appends;
-use ckpt_journal::{Record, format as format_disk};
+use crate::runs::{append_each, copied, tabled};
+use crate::sizes::sizes;
+use crate::start::{Begun, Half, Start, begin};
+use crate::turns::turns;
+use ckpt_journal::{Journal, Record, format as format_disk};
 use dra_values::Text;
+use mem_disk::MemDisk;
 use std::alloc::{AllocError, Global};
 
-/// The bytes of a journal of these records, or the name of the error.
-fn written(alloc: Global, items: &[Record]) -> Result<String, AllocError>
-    requires { AllByRecursion ReadsBack items.now }
-{
-    let run = run_appends(alloc, items, Vec::new(alloc))?;
-    match run.error {
-        None => to_hex(alloc, run.disk.bytes()),
-        Some(error) => word(alloc, error),
-    }
-}
-
-/// The bytes of a new journal to which the records of a file are appended.
-fn copied(alloc: Global, bytes: Vec<u8>) -> Result<String, AllocError> {
-    match records_of(alloc, disk_of(alloc, bytes)?)? {
-        Ok(records) => written(alloc, &records),
-        Err(word) => Ok(word),
-    }
+/// The first word of a text, and what follows the blank after it.
+fn first_word(text: &str) -> (&str, &str) {
+    text.split_once(' ').unwrap_or((text, ""))
 }
 
 /// The bytes that are left of a file when it is formatted.
-fn formatted(alloc: Global, bytes: Vec<u8>) -> Result<String, AllocError> {
+fn formatted(alloc: Global, half: Half, bytes: Vec<u8>) -> Result<String, AllocError> {
     let mut disk = disk_of(alloc, bytes)?;
-    match format_disk(&mut disk) {
+    match format_disk(alloc, &mut disk, half.bytes) {
         Ok(()) => to_hex(alloc, disk.bytes()),
         Err(error) => word(alloc, error),
     }
 }
 
-/// What becomes of a file of each length, for runs of lengths of which the same does.
-fn by_length(alloc: Global, bytes: &[u8]) -> Result<String, AllocError> {
-    let mut text = String::new(alloc);
-    let mut before = String::new(alloc);
-    for len in 0..=bytes.len() {
-        let found = counted(alloc, disk_of(alloc, bytes[..len].to_vec(alloc)?)?)?;
-        if found.as_str() != before.as_str() {
-            text.push_str(format!(in alloc; "{len}:{found} ")?.as_str())?;
-            before = found;
-        }
-    }
-    Ok(text)
-}
-
-/// The length of a journal of one record, and the number of records read from it, or the name of the
-/// error.
-fn lengths(alloc: Global, item: Record) -> Result<String, AllocError>
-    requires { ReadsBack item }
+/// The record that a claim of a uid of `len` bytes is gone.
+fn gone(alloc: Global, len: usize) -> Result<Record, AllocError>
+    ensures { IfOk result ReadsBack }
 {
-    let items = vec![in alloc; item]?;
-    let run = run_appends(alloc, &items, Vec::new(alloc))?;
-    match run.error {
-        None => {
-            let bytes = run.disk.bytes().len();
-            Ok(format!(in alloc; "{bytes} {}", counted(alloc, run.disk)?)?)
-        }
-        Some(error) => word(alloc, error),
-    }
-}
-
-/// The same of the record that a claim of a uid of `len` bytes is gone.
-fn long_uid(alloc: Global, len: usize) -> Result<String, AllocError> {
     let mut chars = String::new(alloc);
     for _at in 0..len {
         chars.push('u')?;
     }
-    lengths(alloc, Record::Gone(Text::new(alloc, chars)?))
+    Ok(Record::Gone(Text::new(alloc, chars)?))
 }
 
-fn of_records(alloc: Global, kind: &str, bytes: Vec<u8>) -> Result<String, AllocError> {
-    match records_of(alloc, disk_of(alloc, bytes)?)? {
-        Ok(records) => {
-            if kind == "faults" {
-                faults(alloc, &records)
-            } else {
-                crashes(alloc, &records)
-            }
-        }
+/// The length of a disk, and the number of records read from it.
+fn measured(alloc: Global, half: Half, disk: MemDisk) -> Result<String, AllocError> {
+    let bytes = disk.bytes().len();
+    let records = counted(alloc, half, disk)?;
+    Ok(format!(in alloc; "{bytes} {records}")?)
+}
+
+/// The same of a journal to which the record is appended that a claim of a uid of `len` bytes is gone, or the name
+/// of the error.
+fn measured_with(
+    alloc: Global,
+    half: Half,
+    mut journal: Journal<MemDisk>,
+    len: usize,
+) -> Result<String, AllocError> {
+    let item = gone(alloc, len)?;
+    let result = journal.append(alloc, &item);
+    let disk = journal.close();
+    match result {
+        Ok(()) => measured(alloc, half, disk),
+        Err(error) => word(alloc, error),
+    }
+}
+
+/// The same of a new journal.
+fn long_uid(alloc: Global, half: Half, len: usize) -> Result<String, AllocError> {
+    let start = Start { half, file: None };
+    match begin(alloc, &start, Vec::new(alloc))? {
+        Begun::Open(journal, _records) => measured_with(alloc, half, journal, len),
+        Begun::NotOpen(unopened) => word(alloc, unopened.why),
+        Begun::NotMade(error) => word(alloc, error),
+    }
+}
+
+/// The cases of a start and the records of a file that are appended to it.
+fn of_appends(alloc: Global, half: Half, kind: &str, words: &str) -> Result<String, AllocError> {
+    let (word, file) = first_word(words);
+    let start = Start::of(alloc, half, word)?;
+    match records_of(alloc, half, disk_of(alloc, from_hex(alloc, file)?)?)? {
+        Ok(records) => match kind {
+            "copy" => copied(alloc, &start, &records),
+            "table" => tabled(alloc, &start, &records),
+            "sizes" => sizes(alloc, &start, &records),
+            "faults" => faults(alloc, &start, &records),
+            "crashes" => crashes(alloc, &start, &records),
+            _ => String::from_str(alloc, "no case"),
+        },
         Err(word) => Ok(word),
     }
 }
 
-fn of_bytes(alloc: Global, kind: &str, bytes: Vec<u8>) -> Result<String, AllocError> {
-    if kind == "open" {
-        listed(alloc, bytes)
-    } else if kind == "copy" {
-        copied(alloc, bytes)
-    } else if kind == "format" {
-        formatted(alloc, bytes)
-    } else if kind == "lengths" {
-        by_length(alloc, &bytes)
-    } else if kind == "faults" || kind == "crashes" {
-        of_records(alloc, kind, bytes)
-    } else {
-        String::from_str(alloc, "no case")
+/// The cases of a number and a file.
+fn of_number(alloc: Global, half: Half, kind: &str, words: &str) -> Result<String, AllocError> {
+    let (word, rest) = first_word(words);
+    let number = word.parse::<u32>().unwrap_or(0);
+    if kind == "long" {
+        return long_uid(alloc, half, number as usize);
+    }
+    if kind == "changed" {
+        let (to, file) = first_word(rest);
+        let to = to.parse::<u32>().unwrap_or(0);
+        return by_byte(
+            alloc,
+            half,
+            &from_hex(alloc, file)?,
+            number as usize,
+            to as usize,
+        );
+    }
+    match records_of(alloc, half, disk_of(alloc, from_hex(alloc, rest)?)?)? {
+        Ok(records) => turns(alloc, half, &records, number),
+        Err(word) => Ok(word),
+    }
+}
+
+fn of_kind(alloc: Global, half: Half, kind: &str, words: &str) -> Result<String, AllocError> {
+    match kind {
+        "open" => listed(alloc, half, from_hex(alloc, words)?),
+        "format" => formatted(alloc, half, from_hex(alloc, words)?),
+        "lengths" => by_length(alloc, half, &from_hex(alloc, words)?),
+        "long" | "changed" | "turns" => of_number(alloc, half, kind, words),
+        _ => of_appends(alloc, half, kind, words),
     }
 }
 
@@ -111,17 +130,10 @@ pub fn answer(alloc: Global, line: &str) -> Result<String, AllocError> {
     if line.is_empty() || line.starts_with('#') {
         return String::from_str(alloc, line);
     }
-    match line.split_once(' ') {
-        Some((kind, word)) => {
-            if kind == "long" {
-                match word.parse::<usize>() {
-                    Ok(len) => long_uid(alloc, len),
-                    Err(_) => String::from_str(alloc, "no case"),
-                }
-            } else {
-                of_bytes(alloc, kind, from_hex(alloc, word)?)
-            }
-        }
+    let (kind, rest) = first_word(line);
+    let (half, words) = first_word(rest);
+    match Half::of(half) {
+        Some(half) => of_kind(alloc, half, kind, words),
         None => String::from_str(alloc, "no case"),
     }
 }

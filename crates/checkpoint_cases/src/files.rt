@@ -2,7 +2,8 @@ ghost use Rattle.std.specs.Prelude.{IfOk};
 ghost use Rattle.std.specs.List.{AllByRecursion};
 ghost use Rattle.ckpt_journal.specs.Format.{ReadsBack};
 
-use ckpt_journal::{Claim, Journal, JournalError, Record};
+use crate::start::{Begun, Half, open};
+use ckpt_journal::{Claim, Journal, JournalError, Record, Row, RowState};
 use mem_disk::MemDisk;
 use std::alloc::{AllocError, Global};
 
@@ -23,10 +24,14 @@ pub fn disk_of(alloc: Global, bytes: Vec<u8>) -> Result<MemDisk, AllocError> {
 }
 
 /// The records of a disk, or the name of the error.
-pub fn records_of(alloc: Global, disk: MemDisk) -> Result<Result<Vec<Record>, String>, AllocError>
+pub fn records_of(
+    alloc: Global,
+    half: Half,
+    disk: MemDisk,
+) -> Result<Result<Vec<Record>, String>, AllocError>
     ensures { IfOk result (λ read. IfOk read (λ rs. AllByRecursion ReadsBack rs.items)) }
 {
-    match Journal::open(alloc, disk) {
+    match Journal::open(alloc, disk, half.bytes) {
         Ok((_journal, records)) => Ok(Ok(records)),
         Err(unopened) => Ok(Err(word(alloc, unopened.why)?)),
     }
@@ -59,25 +64,48 @@ fn push_record(alloc: Global, text: &mut String, record: &Record) -> Result<(), 
     }
 }
 
-/// The records of a file's bytes, each after a semicolon, or the name of the error.
-pub fn listed(alloc: Global, bytes: Vec<u8>) -> Result<String, AllocError> {
-    match records_of(alloc, disk_of(alloc, bytes)?)? {
-        Ok(records) => {
-            let mut text = format!(in alloc; "{}", records.len())?;
-            for record in &records {
-                text.push_str("; ")?;
-                push_record(alloc, &mut text, record)?;
-            }
-            Ok(text)
-        }
+/// The number of records, and each after a semicolon.
+fn listed_records(alloc: Global, records: &[Record]) -> Result<String, AllocError> {
+    let mut text = format!(in alloc; "{}", records.len())?;
+    for record in records {
+        text.push_str("; ")?;
+        push_record(alloc, &mut text, record)?;
+    }
+    Ok(text)
+}
+
+/// The records of a file's bytes, or the name of the error.
+pub fn listed(alloc: Global, half: Half, bytes: Vec<u8>) -> Result<String, AllocError> {
+    match records_of(alloc, half, disk_of(alloc, bytes)?)? {
+        Ok(records) => listed_records(alloc, &records),
         Err(word) => Ok(word),
     }
 }
 
+fn state_word(state: RowState) -> &'static str {
+    match state {
+        RowState::Begun => "begun ",
+        RowState::Prepared => "prepared ",
+        RowState::Leaving => "leaving ",
+    }
+}
+
+/// The number of rows, and each after a semicolon.
+pub fn listed_rows(alloc: Global, rows: &[Row]) -> Result<String, AllocError> {
+    let mut text = format!(in alloc; "{}", rows.len())?;
+    for row in rows {
+        text.push_str("; ")?;
+        text.push_str(state_word(row.state))?;
+        push_claim(alloc, &mut text, &row.claim)?;
+    }
+    Ok(text)
+}
+
 /// The number of records of a disk, or the name of the error.
-pub fn counted(alloc: Global, disk: MemDisk) -> Result<String, AllocError> {
-    match records_of(alloc, disk)? {
-        Ok(records) => Ok(format!(in alloc; "{}", records.len())?),
-        Err(word) => Ok(word),
+pub fn counted(alloc: Global, half: Half, disk: MemDisk) -> Result<String, AllocError> {
+    match open(alloc, half, disk) {
+        Begun::Open(_journal, records) => Ok(format!(in alloc; "{}", records.len())?),
+        Begun::NotOpen(unopened) => word(alloc, unopened.why),
+        Begun::NotMade(error) => word(alloc, error),
     }
 }

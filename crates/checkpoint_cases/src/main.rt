@@ -4,11 +4,17 @@
 #![tactic(auto)]
 
 mod case;
+mod changes;
 mod crashes;
 mod faults;
 mod files;
 mod hex;
+mod marks;
+mod plain_disk;
 mod runs;
+mod sizes;
+mod start;
+mod turns;
 
 use std::io;
 

@@ -1,76 +1,120 @@
 ghost use Rattle.std.specs.List.{AllByRecursion};
 ghost use Rattle.ckpt_journal.specs.Format.{ReadsBack};
 
-use ckpt_journal::{Journal, JournalError, Record, format as format_disk};
+use crate::files::{listed_rows, word};
+use crate::hex::to_hex;
+use crate::start::{Begun, Half, Start, begin, open};
+use ckpt_journal::{Journal, JournalError, Record};
+use dra_ports::Disk;
 use mem_disk::MemDisk;
 use std::alloc::{AllocError, Global};
 
-/// How appends to a new journal ended.
-#[derive(Drop)]
-pub struct Run {
-    pub disk: MemDisk,
-    /// Whether the journal was begun.
-    pub begun: bool,
-    /// The first error.
-    pub error: Option<JournalError>,
-    /// Whether the append after that error was refused as Closed.
-    pub closed: bool,
-}
-
-/// Appends records one after another, up to the first error.
-fn append_each(
+/// Appends records one after another, going on after Full, up to the first other error. Returns how many were
+/// refused as Full, and that error.
+pub fn append_each<D: Disk>(
     alloc: Global,
-    journal: &mut Journal<MemDisk>,
+    journal: &mut Journal<D>,
     items: &[Record],
-) -> Option<JournalError>
+) -> (u64, Option<JournalError>)
     requires { AllByRecursion ReadsBack items.now }
 {
+    let mut full: u64 = 0;
     for item in items {
-        if let Err(error) = journal.append(alloc, item) {
-            return Some(error);
+        match journal.append(alloc, item) {
+            Ok(()) => {}
+            Err(JournalError::Full) => full = full.saturating_add(1),
+            Err(error) => return (full, Some(error)),
         }
     }
-    None
+    (full, None)
 }
 
-/// Appends records to a journal, and closes it.
-fn run_on(alloc: Global, mut journal: Journal<MemDisk>, items: &[Record]) -> Run
+/// The bytes of a file to whose journal records are appended, after the number of those that were refused as
+/// Full if there are any; or the name of the first other error.
+pub fn copied(alloc: Global, start: &Start, items: &[Record]) -> Result<String, AllocError>
     requires { AllByRecursion ReadsBack items.now }
 {
-    let error = append_each(alloc, &mut journal, items);
-    let next = if error.is_some() {
-        append_each(alloc, &mut journal, items)
+    match begin(alloc, start, Vec::new(alloc))? {
+        Begun::Open(journal, _records) => copied_on(alloc, journal, items),
+        Begun::NotOpen(unopened) => word(alloc, unopened.why),
+        Begun::NotMade(error) => word(alloc, error),
+    }
+}
+
+/// The same for a journal.
+fn copied_on(
+    alloc: Global,
+    mut journal: Journal<MemDisk>,
+    items: &[Record],
+) -> Result<String, AllocError>
+    requires { AllByRecursion ReadsBack items.now }
+{
+    let (full, error) = append_each(alloc, &mut journal, items);
+    let disk = journal.close();
+    match error {
+        None => spelled(alloc, full, &disk),
+        Some(error) => word(alloc, error),
+    }
+}
+
+/// The bytes of a disk, after the number of records that were refused if there are any.
+fn spelled(alloc: Global, full: u64, disk: &MemDisk) -> Result<String, AllocError> {
+    let bytes = to_hex(alloc, disk.bytes())?;
+    if full == 0 {
+        Ok(bytes)
     } else {
-        None
-    };
-    Run {
-        disk: journal.close(),
-        begun: true,
-        error,
-        closed: next == Some(JournalError::Closed),
+        Ok(format!(in alloc; "full={full} {bytes}")?)
     }
 }
 
-/// Appends records to a new journal on a disk whose calls of these numbers fail.
-pub fn run_appends(alloc: Global, items: &[Record], failing: Vec<u64>) -> Result<Run, AllocError>
+/// The rows of a journal to which records are appended, with a `?` if the file doesn't have the same.
+pub fn tabled(alloc: Global, start: &Start, items: &[Record]) -> Result<String, AllocError>
     requires { AllByRecursion ReadsBack items.now }
 {
-    let mut disk = MemDisk::new(alloc, Vec::new(alloc), failing)?;
-    if let Err(error) = format_disk(&mut disk) {
-        return Ok(Run {
-            disk,
-            begun: false,
-            error: Some(error),
-            closed: false,
-        });
+    match begin(alloc, start, Vec::new(alloc))? {
+        Begun::Open(journal, _records) => tabled_on(alloc, start.half, journal, items),
+        Begun::NotOpen(unopened) => word(alloc, unopened.why),
+        Begun::NotMade(error) => word(alloc, error),
     }
-    match Journal::open(alloc, disk) {
-        Ok((journal, _records)) => Ok(run_on(alloc, journal, items)),
-        Err(unopened) => Ok(Run {
-            disk: unopened.disk,
-            begun: false,
-            error: Some(unopened.why),
-            closed: false,
-        }),
+}
+
+/// The same for a journal.
+fn tabled_on(
+    alloc: Global,
+    half: Half,
+    mut journal: Journal<MemDisk>,
+    items: &[Record],
+) -> Result<String, AllocError>
+    requires { AllByRecursion ReadsBack items.now }
+{
+    let (_full, error) = append_each(alloc, &mut journal, items);
+    match error {
+        None => rows_twice(alloc, half, journal),
+        Some(error) => word(alloc, error),
+    }
+}
+
+/// The rows of a journal, with a `?` if its disk doesn't have the same.
+fn rows_twice(alloc: Global, half: Half, journal: Journal<MemDisk>) -> Result<String, AllocError> {
+    let rows = listed_rows(alloc, journal.rows())?;
+    let again = rows_of(alloc, half, journal.close())?;
+    marked(alloc, &rows, &again)
+}
+
+fn marked(alloc: Global, rows: &String, again: &String) -> Result<String, AllocError> {
+    let mark = if rows.as_str() == again.as_str() {
+        ""
+    } else {
+        "?"
+    };
+    Ok(format!(in alloc; "{rows}{mark}")?)
+}
+
+/// The rows of a disk, or the name of the error.
+fn rows_of(alloc: Global, half: Half, disk: MemDisk) -> Result<String, AllocError> {
+    match open(alloc, half, disk) {
+        Begun::Open(journal, _records) => listed_rows(alloc, journal.rows()),
+        Begun::NotOpen(unopened) => word(alloc, unopened.why),
+        Begun::NotMade(error) => word(alloc, error),
     }
 }

@@ -8,7 +8,10 @@ use Rattle.std.specs.Str.{is_utf8}
 use Rattle.object_fields.specs.Keys.{device_text, key_text}
 use Rattle.object_fields.specs.declared.key.DeviceId.{DeviceId}
 use Rattle.object_fields.specs.declared.key.Key.{Key}
-use Rattle.ckpt_journal.specs.Format.{ClaimFits, ClaimIsText, ClaimReadsBack, BodyFits, Fits, IsText, NameFits, NamesFit, ReadsBack, are_long, block, body, is_full, is_long, is_long_claim, is_long_text}
+use Rattle.ckpt_journal.specs.Format.{BodyFits, ClaimFits, ClaimIsText, ClaimReadsBack, Fits, IsText, NameFits, NamesFit, ReadsBack, are_long, block, blocks, body, is_long, is_long_claim, is_long_text}
+use Rattle.ckpt_journal.specs.Plan.{is_full, table_bytes}
+use Rattle.ckpt_journal.specs.Table.{compact}
+use Rattle.ckpt_journal.specs.declared.record.Row.{Row}
 use Rattle.ckpt_journal.specs.Names.{DeviceReadsBack, KeyReadsBack, by_both, by_first, device_is_text, device_made, device_read, device_with, first_slash_from, key_is_text, key_made, key_read, key_with, last_slash_from, text_read}
 use Rattle.ckpt_journal.specs.declared.record.Claim.{Claim}
 use Rattle.ckpt_journal.specs.declared.record.Record.{Record}
@@ -138,24 +141,33 @@ or_right false b is = is
 neither : (a b : Bool) → a ≡ false → b ≡ false → (a || b) ≡ false
 neither a b p q = λ i. p i || q i
 
-pub full_when : (r : Record) (gate len : ℕ) → len ≡ length (body r) → 67108864 < gate + len + 6 → is_full gate r ≡ true
-full_when r gate len is lt = or_right (is_long r) (nat_lt 67108864 (gate + length (block r) + 2)) (lt_true 67108864 (gate + length (block r) + 2) (omega (arith, is, lt, length-block r)))
+or_left : (a b : Bool) → a ≡ true → (a || b) ≡ true
+or_left a b is = ap (λ (x : Bool). x || b) is
 
-pub room_when : (r : Record) (gate len : ℕ) → is_long r ≡ false → len ≡ length (body r) → gate + len + 6 ≤ 67108864 → is_full gate r ≡ false
-room_when r gate len s is le = neither (is_long r) (nat_lt 67108864 (gate + length (block r) + 2)) s (lt_not 67108864 (gate + length (block r) + 2) (omega (arith, is, le, length-block r)))
+pub full_long : (r : Record) (half : ℕ) (rows : List Row) → is_long r ≡ true → is_full half rows r ≡ true
+full_long r half rows is = or_left (is_long r) (nat_lt half (length (blocks (compact rows)) + length (block r) + 2)) is
+
+pub full_when : (r : Record) (half : ℕ) (rows : List Row) → half < length (blocks (compact rows)) + length (block r) + 2 → is_full half rows r ≡ true
+full_when r half rows lt = or_right (is_long r) (nat_lt half (length (blocks (compact rows)) + length (block r) + 2)) (lt_true half _ lt)
+
+pub room_when : (r : Record) (half : ℕ) (rows : List Row) → is_long r ≡ false → length (blocks (compact rows)) + length (block r) + 2 ≤ half → is_full half rows r ≡ false
+room_when r half rows s le = neither (is_long r) (nat_lt half (length (blocks (compact rows)) + length (block r) + 2)) s (lt_not half _ le)
+
+pub room_direct : (r : Record) (half start end : ℕ) (rows : List Row) (bytes : List ℕ) → is_long r ≡ false → bytes ≡ block r ++ 0 ∷ [] → start + length (blocks (compact rows)) ≤ end → end + length bytes < start + half → is_full half rows r ≡ false
+room_direct r half start end rows bytes s is used lt = room_when r half rows s (omega (arith, ap length is, length-append (block r) (0 ∷ []), used, lt))
+
+pub room_late : (r : Record) (half : ℕ) (rows : List Row) (table bytes : List ℕ) → is_long r ≡ false → table ≡ table_bytes rows → bytes ≡ block r ++ 0 ∷ [] → length table + length bytes ≤ half → is_full half rows r ≡ false
+room_late r half rows table bytes s t is le = room_when r half rows s (omega (arith, ap length is, ap length t, length-append (block r) (0 ∷ []), length-append (blocks (compact rows)) (0 ∷ []), le))
+
+pub full_late : (r : Record) (half : ℕ) (rows : List Row) (table bytes : List ℕ) → table ≡ table_bytes rows → bytes ≡ block r ++ 0 ∷ [] → half < length table + length bytes → is_full half rows r ≡ true
+full_late r half rows table bytes t is lt = full_when r half rows (omega (arith, ap length is, ap length t, length-append (block r) (0 ∷ []), length-append (blocks (compact rows)) (0 ∷ []), lt))
+
+pub full_alone : (r : Record) (half len : ℕ) (rows : List Row) → len ≡ length (body r) → half < len + 6 → is_full half rows r ≡ true
+full_alone r half len rows is lt = full_when r half rows (omega (arith, is, lt, length-block r))
 
 pub spelled_is : (r : Record) (bytes frame : List ℕ) → bytes ≡ body r → frame ≡ to_be_bytes w32 (length bytes) ++ bytes ++ 0 ∷ [] → frame ≡ block r ++ 0 ∷ []
 unfolding block
 spelled_is r bytes frame is e = e ∙ ap (λ (l : List ℕ). to_be_bytes w32 (length l) ++ l ++ 0 ∷ []) is
-
--- a journal with room for a record stays small
-pub small_after : (r : Record) (gate : ℕ) (bytes : List ℕ) → is_full gate r ≡ false → bytes ≡ block r ++ 0 ∷ [] → gate + length bytes < 2 ^ 63
-small_after r gate bytes room is =
-    let most : gate + length (block r) + 2 ≤ 67108864 = not_above 67108864 (gate + length (block r) + 2) (or_false (is_long r) (nat_lt 67108864 (gate + length (block r) + 2)) room).1 in
-    omega (arith, ap length is, length-append (block r) (0 ∷ []), most)
-  where
-    not_above : (a b : ℕ) → nat_lt a b ≡ false → b ≤ a
-    not_above a b is = grind (arith, nat_tests)
 
 -- ---- what was read reads back
 
@@ -215,3 +227,21 @@ record_back (Gone uid) fits = tt
 pub all_read_back : (rs : List Record) → AllByRecursion Fits rs → AllByRecursion ReadsBack rs
 all_read_back [] fits = tt
 all_read_back (r ∷ rs) fits = (record_back r fits.0.0, all_read_back rs fits.1)
+
+-- ---- what fits is short
+
+not_long : (n : ℕ) → n < 2 ^ 16 → nat_lt 65535 n ≡ false
+not_long n lt = grind (arith, nat_tests)
+
+names_short : {A : Type 0} (reading : List ℕ → Option A) (text : A → List ℕ) (items : List A) → AllByRecursion (NameFits reading text) items → list_any (λ a. is_long_text (text a)) items ≡ false
+names_short reading text [] f = refl
+names_short reading text (a ∷ items) f = neither (is_long_text (text a)) (list_any (λ a. is_long_text (text a)) items) (not_long (length (text a)) f.0.0) (names_short reading text items f.1)
+
+are_short : {A : Type 0} (reading : List ℕ → Option A) (text : A → List ℕ) (items : List A) → NamesFit reading text items → are_long text items ≡ false
+are_short reading text items f = neither (nat_lt 65535 (length items)) (list_any (λ a. is_long_text (text a)) items) (not_long (length items) f.0) (names_short reading text items f.1)
+
+pub claim_short : (c : Claim) → ClaimFits c → is_long_claim c ≡ false
+claim_short c f =
+    neither (is_long_text c.uid) (is_long_text (key_text c.key) || (are_long key_text c.pods || are_long device_text c.devices)) (not_long (length c.uid) f.0.0)
+    (neither (is_long_text (key_text c.key)) (are_long key_text c.pods || are_long device_text c.devices) (not_long (length (key_text c.key)) f.1.0.0)
+    (neither (are_long key_text c.pods) (are_long device_text c.devices) (are_short key_read key_text c.pods f.1.1.0) (are_short device_read device_text c.devices f.1.1.1)))

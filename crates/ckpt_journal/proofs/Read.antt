@@ -1,14 +1,13 @@
 -- What is spelled so is read so.
-use Rattle.std.proofs.Common.{◌≡◌, ◌≢◌, ℕ, suc, zero, ◌+◌, ◌<◌, ◌≤◌, false, List, [], ◌∷◌, ◌++◌, length, take, drop, Some, None, Ok, refl, sym, ◌∙◌, ap, arith, append_assoc, append-nil, length-append, nat_lt, nat_le, if◌then◌else◌}
+use Rattle.std.proofs.Common.{◌≡◌, ◌≢◌, ℕ, suc, zero, ◌+◌, ◌-◌, ◌<◌, ◌≤◌, ◌==◌, Bool, true, false, List, [], ◌∷◌, ◌++◌, length, take, drop, Some, None, Ok, Err, refl, sym, ◌∙◌, ap, arith, append_assoc, append-nil, length-append, nat_lt, nat_le, if◌then◌else◌}
 use Rattle.std.proofs.lemmas.Bool.Decides.{nat_tests}
 use Rattle.std.proofs.lemmas.List.{take_at, drop_at}
 use Rattle.std.proofs.lemmas.Nat.{from_be_bytes-to_be_bytes_4}
 use Rattle.std.specs.Int.{w32, to_be_bytes, from_be_bytes}
 use Rattle.std.specs.List.{AllByRecursion}
 use Rattle.ckpt_journal.specs.declared.record.Record.{Record}
-use Rattle.ckpt_journal.specs.Format.{header, body, block, blocks, prefix, Fits}
-use Rattle.ckpt_journal.specs.Reading.{block_at, body_at, with_rest, record_of, with_prefix, if_block, records_from, records, placed}
-use Rattle.ckpt_journal.specs.Standing.{Has}
+use Rattle.ckpt_journal.specs.Format.{body, block, blocks, Fits}
+use Rattle.ckpt_journal.specs.Reading.{block_at, body_at, with_rest, record_of, with_prefix, if_block, records_from, from_start, gates, offset}
 use Rattle.ckpt_journal.proofs.Again.{record_again}
 
 more_le : (a b : ℕ) → b < a → nat_le a b ≡ false
@@ -65,17 +64,22 @@ read_from (e ∷ es) (suc most) gate tail fits shut le =
     ∙ ap (if_block left (records_from most)) (read_block es e gate tail fits.0)
     ∙ ap (with_prefix e) (read_from es most gate tail fits.1 shut fewer)
 
--- the header, and what follows it
-pub header_read : (rest : List ℕ) → records (header ++ rest) ≡ placed (length (header ++ rest)) (records_from (length (header ++ rest)) rest)
-unfolding records header
-header_read rest = refl
-
-length-header : length header ≡ 16
-unfolding header
-length-header = refl
-
-pub read_prefix : (es : List Record) (gate : ℕ) (tail : List ℕ) → AllByRecursion Fits es → gate ≢ 90 → Has es (prefix es ++ gate ∷ tail)
-read_prefix es gate tail fits shut =
+pub gates_again : (es : List Record) (gate : ℕ) (tail : List ℕ) → AllByRecursion Fits es → gate ≢ 90 → gates (blocks es ++ gate ∷ tail) ≡ Ok es
+unfolding gates
+gates_again es gate tail fits shut =
     let rest = blocks es ++ gate ∷ tail in
-    ap records (append_assoc header (blocks es) (gate ∷ tail)) ∙ header_read rest
-    ∙ ap (placed (length (header ++ rest))) (read_from es (length (header ++ rest)) gate tail fits shut (omega (arith, length-append header rest)))
+    ap (offset (length rest)) (read_from es (length rest) gate tail fits shut (omega arith))
+
+-- ---- no bytes at all
+
+pub not_empty : (bytes : List ℕ) (b : Bool) → b ≡ (length bytes == 0) → b ≡ false → 0 < length bytes
+not_empty [] b is shut = absurd (cc (is, shut))
+not_empty (x ∷ bytes) b is shut = omega arith
+
+pub gates_none : (start : ℕ) (bytes : List ℕ) (b : Bool) → b ≡ (length bytes == 0) → b ≡ true → from_start start (gates bytes) ≡ Err start
+unfolding gates
+gates_none start [] b is said = ap (λ (n : ℕ). Err n) same
+  where
+    same : start + (0 - 0) ≡ start
+    same = omega arith
+gates_none start (x ∷ bytes) b is said = absurd (grind (arith, nat_tests, is, said))

@@ -1,30 +1,20 @@
 -- Bytes that have records are these records as they are spelled.
-use Rattle.std.proofs.Common.{◌≡◌, ◌≢◌, inl, inr, ℕ, zero, suc, List, [], ◌∷◌, ◌++◌, length, drop, Option, Some, None, Result, Ok, Err, refl, sym, ◌∙◌, ap, arith, subst, append_assoc, ◌+◌}
+use Rattle.std.proofs.Common.{◌≡◌, ◌≢◌, inl, inr, ℕ, zero, suc, List, [], ◌∷◌, ◌++◌, length, Option, Some, None, Result, Ok, Err, refl, sym, ◌∙◌, ap, arith, subst, append_assoc, ◌+◌}
 use Rattle.std.proofs.lemmas.Bool.{cases_eq}
 use Rattle.std.proofs.lemmas.Bool.Decides.{nat_tests}
 use Rattle.std.specs.List.{AllByRecursion}
-use Rattle.ckpt_journal.specs.Format.{Fits, block, blocks, header}
-use Rattle.ckpt_journal.specs.Reading.{behind_header, block_at, differs_at, if_block, placed, records, records_from, with_prefix}
+use Rattle.ckpt_journal.specs.Format.{Fits, block, blocks}
+use Rattle.ckpt_journal.specs.Reading.{block_at, gates, if_block, offset, records_from, with_prefix}
 use Rattle.ckpt_journal.specs.Standing.{IsSpelled}
 use Rattle.ckpt_journal.specs.declared.record.Record.{Record}
-use Rattle.ckpt_journal.proofs.Header.{same_prefix}
-use Rattle.ckpt_journal.proofs.Kept.{length-header}
 use Rattle.ckpt_journal.proofs.Taken.{block_taken}
-use Rattle.ckpt_journal.proofs.TakenBody.{IsBytes, bytes_drop, bytes_rest}
+use Rattle.ckpt_journal.proofs.TakenBody.{IsBytes, bytes_rest}
 
 abbrev Read : Type 0
 Read = Result (List Record) ℕ
 
 abbrev ok : List Record → Read
 ok rs = Ok rs
-
--- from a gate on
-record Behind (rs : List Record) (bytes : List ℕ) : Type 0 where
-  gate : ℕ
-  tail : List ℕ
-  shut : gate ≢ 90
-  parts : bytes ≡ blocks rs ++ gate ∷ tail
-  fits : AllByRecursion Fits rs
 
 with_more : (r : Record) (more : Read) (rs : List Record) → with_prefix r more ≡ Ok rs → (later : List Record) × (more ≡ Ok later) × (rs ≡ r ∷ later)
 with_more r (Err left) rs is = absurd cc
@@ -35,7 +25,7 @@ with_block : (left : ℕ) (next : List ℕ → Read) (found : Option (Record × 
 with_block left next None rs is = absurd cc
 with_block left next (Some x) rs is = let more = with_more x.0 (next x.1) rs is in (x.0, x.1, more.0, refl, more.1, more.2)
 
-behind : (most : ℕ) (bytes : List ℕ) (rs : List Record) → IsBytes bytes → records_from most bytes ≡ Ok rs → Behind rs bytes
+behind : (most : ℕ) (bytes : List ℕ) (rs : List Record) → IsBytes bytes → records_from most bytes ≡ Ok rs → IsSpelled rs bytes
 behind most [] rs small is = absurd cc
 behind zero (gate ∷ bytes) rs small is = absurd cc
 behind (suc most) (gate ∷ bytes) rs small is = elim (cases_eq gate 90) [
@@ -70,17 +60,10 @@ behind (suc most) (gate ∷ bytes) rs small is = elim (cases_eq gate 90) [
     all : {r : Record} {later : List Record} → rs ≡ r ∷ later → Fits r → AllByRecursion Fits later → AllByRecursion Fits rs
     all e this more = subst (AllByRecursion Fits) (sym e) (this, more)
 
-pub spelled : (bytes : List ℕ) (rs : List Record) → IsBytes bytes → records bytes ≡ Ok rs → IsSpelled rs bytes
-unfolding records
-spelled bytes rs small is = go (differs_at 0 header bytes) refl is
+pub spelled : (bytes : List ℕ) (rs : List Record) → IsBytes bytes → gates bytes ≡ Ok rs → IsSpelled rs bytes
+unfolding gates
+spelled bytes rs small is = behind (length bytes) bytes rs small (unplaced _ is)
   where
-    unplaced : (read : Read) → placed (length bytes) read ≡ Ok rs → read ≡ Ok rs
+    unplaced : (read : Read) → offset (length bytes) read ≡ Ok rs → read ≡ Ok rs
     unplaced (Ok more) e = e
     unplaced (Err left) e = absurd cc
-
-    go : (fault : Option ℕ) → differs_at 0 header bytes ≡ fault → behind_header bytes fault ≡ Ok rs → IsSpelled rs bytes
-    go (Some at) there e = absurd cc
-    go None there e =
-        let whole = same_prefix header bytes 0 there ∙ ap (λ (n : ℕ). header ++ drop n bytes) length-header in
-        let more = behind (length bytes) (drop 16 bytes) rs (bytes_drop 16 bytes small) (unplaced _ e) in
-        record { gate = more.gate; tail = more.tail; shut = more.shut; parts = whole ∙ ap (λ (l : List ℕ). header ++ l) more.parts ∙ sym (append_assoc header (blocks rs) (more.gate ∷ more.tail)); fits = more.fits }

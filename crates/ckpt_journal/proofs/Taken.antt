@@ -6,16 +6,13 @@ use Rattle.std.proofs.lemmas.Nat.{be_bytes_4}
 use Rattle.std.specs.Int.{w32, to_be_bytes, from_be_bytes}
 use Rattle.std.specs.List.{AllByRecursion}
 use Rattle.ckpt_journal.specs.declared.record.Record.{Record}
-use Rattle.ckpt_journal.specs.Format.{BodyFits, header, body, block, blocks, prefix, Fits}
-use Rattle.ckpt_journal.specs.Reading.{Gives, block_at, body_at, with_rest, record_of, with_prefix, if_block, records_from, records, placed, differs_at, behind_header}
+use Rattle.ckpt_journal.specs.Format.{BodyFits, body, block, blocks, Fits}
+use Rattle.ckpt_journal.specs.Reading.{Gives, block_at, body_at, with_rest, record_of, with_prefix, if_block, records_from, gates, offset}
 use Rattle.ckpt_journal.specs.Standing.{EndsAt}
 use Rattle.ckpt_journal.specs.declared.error.Unread.{Unread}
 use Rattle.ckpt_journal.specs.declared.error.Unread.TheVariants.{NoRecord}
-use Rattle.ckpt_journal.proofs.Read.{read_block, read_prefix, header_read}
-use Rattle.ckpt_journal.proofs.Header.{same_prefix}
+use Rattle.ckpt_journal.proofs.Read.{blocks-more, gates_again, read_block}
 use Rattle.ckpt_journal.proofs.TakenBody.{IsBytes, bytes_drop, bytes_take, record_taken}
-use Rattle.ckpt_journal.proofs.Crash.{prefix-more}
-use Rattle.ckpt_journal.proofs.Kept.{length-header}
 
 -- a test that did not fail
 guard : {X : Type 0} (b : Bool) (x : Option X) (y : X) → (if b then None else x) ≡ Some y → (b ≡ false) × (x ≡ Some y)
@@ -88,70 +85,52 @@ pub no_block : (m : ℕ) (tail : List ℕ) → length (90 ∷ tail) ≤ m → bl
 no_block zero tail le is = absurd (omega arith)
 no_block (suc m) tail le is = ap (if_block (length tail + 1) (records_from m)) is
 
--- the loop over the blocks
-pub header_only : (bytes : List ℕ) → differs_at 0 header bytes ≡ None → length bytes ≤ 16 → records bytes ≡ Err (length bytes)
-header_only bytes same short =
-    let is = same_prefix header bytes 0 same in
-    let none : drop (length header) bytes ≡ [] = drop_all (length header) bytes (omega (arith, length-header)) in
-    let whole : bytes ≡ header ++ [] = is ∙ ap (λ (l : List ℕ). header ++ l) none in
-    ap records whole ∙ header_read [] ∙ ap (λ (l : List ℕ). placed (length l) (Err 0)) (sym whole) ∙ ap (λ (n : ℕ). Err n) all
-  where
-    all : length bytes - 0 ≡ length bytes
-    all = omega arith
-
-pub starts : (bytes rest : List ℕ) → differs_at 0 header bytes ≡ None → rest ≡ drop 16 bytes → bytes ≡ prefix [] ++ rest
-starts bytes rest same is =
-    same_prefix header bytes 0 same ∙ ap (λ (n : ℕ). header ++ drop n bytes) length-header
-    ∙ ap (λ (l : List ℕ). header ++ l) (sym is) ∙ ap (λ (l : List ℕ). l ++ rest) (sym (append-nil header))
+pub one_more : {X : Type 0} (P : X → Type 0) (xs : List X) (x : X) → AllByRecursion P xs → P x → AllByRecursion P (xs ++ x ∷ [])
+one_more P [] x all this = (this, tt)
+one_more P (y ∷ xs) x all this = (all.0, one_more P xs x all.1 this)
 
 -- one block more, after an open gate
-pub goes_on : (es : List Record) (e : Record) (bytes rest after : List ℕ) → bytes ≡ prefix es ++ rest → 0 < length rest → get_or rest 0 0 ≡ 90 → Taken e after (drop 1 rest) → bytes ≡ prefix (es ++ e ∷ []) ++ after
+pub goes_on : (es : List Record) (e : Record) (bytes rest after : List ℕ) → bytes ≡ blocks es ++ rest → 0 < length rest → get_or rest 0 0 ≡ 90 → Taken e after (drop 1 rest) → bytes ≡ blocks (es ++ e ∷ []) ++ after
 goes_on es e bytes [] after parts more open_gate taken = absurd (omega arith)
 goes_on es e bytes (gate ∷ behind) after parts more open_gate taken =
-    parts ∙ (λ i. prefix es ++ open_gate i ∷ taken.parts i) ∙ sym (prefix-more es e after)
+    parts ∙ (λ i. blocks es ++ open_gate i ∷ taken.parts i) ∙ sym (blocks-more es e after)
 
-pub fault_at : (es : List Record) (bytes rest : List ℕ) → bytes ≡ prefix es ++ rest → AllByRecursion Fits es → 0 < length rest → get_or rest 0 0 ≡ 90 → block_at (drop 1 rest) ≡ None
-    → records bytes ≡ Err (length bytes - length rest)
+pub fault_at : (es : List Record) (bytes rest : List ℕ) → bytes ≡ blocks es ++ rest → AllByRecursion Fits es → 0 < length rest → get_or rest 0 0 ≡ 90 → block_at (drop 1 rest) ≡ None
+    → gates bytes ≡ Err (length bytes - length rest)
+unfolding gates
 fault_at es bytes [] parts fits more open_gate none = absurd (omega arith)
 fault_at es bytes (gate ∷ tail) parts fits more open_gate none =
-    let whole : bytes ≡ header ++ (blocks es ++ 90 ∷ tail) = parts ∙ ap (λ (g : ℕ). prefix es ++ g ∷ tail) open_gate ∙ append_assoc header (blocks es) (90 ∷ tail) in
-    let most = length (header ++ (blocks es ++ 90 ∷ tail)) in
-    ap records whole ∙ header_read (blocks es ++ 90 ∷ tail)
-    ∙ ap (placed most) (fault_from es most 90 (length tail + 1) tail fits (omega (arith, length-append header (blocks es ++ 90 ∷ tail))) (λ m le. no_block m tail le none))
-    ∙ (λ i. Err (length (whole_back whole i) - counted tail i))
+    let whole : bytes ≡ blocks es ++ 90 ∷ tail = parts ∙ ap (λ (g : ℕ). blocks es ++ g ∷ tail) open_gate in
+    ap (λ (l : List ℕ). offset (length bytes) (records_from (length bytes) l)) whole
+    ∙ ap (offset (length bytes)) (fault_from es (length bytes) 90 (length tail + 1) tail fits (omega (arith, ap length whole)) (λ m le. no_block m tail le none))
+    ∙ ap (λ (n : ℕ). Err (length bytes - n)) (counted tail)
   where
-    whole_back : {xs ys : List ℕ} → xs ≡ ys → ys ≡ xs
-    whole_back is = sym is
-
     counted : (tail : List ℕ) → length tail + 1 ≡ length (gate ∷ tail)
     counted tail = omega arith
 
-pub ends : (es : List Record) (bytes rest : List ℕ) → bytes ≡ prefix es ++ rest → AllByRecursion Fits es → 0 < length rest → get_or rest 0 0 ≢ 90 → EndsAt es (length bytes - length rest) bytes
+pub ends : (es : List Record) (bytes rest : List ℕ) → bytes ≡ blocks es ++ rest → AllByRecursion Fits es → 0 < length rest → get_or rest 0 0 ≢ 90 → EndsAt es (length bytes - length rest) bytes
 ends es bytes [] parts fits more shut = absurd (omega arith)
 ends es bytes (gate ∷ tail) parts fits more shut =
-    let place : length (prefix es) ≡ length bytes - length (gate ∷ tail) = omega (arith, ap length parts, length-append (prefix es) (gate ∷ tail)) in
+    let place : length (blocks es) ≡ length bytes - length (gate ∷ tail) = omega (arith, ap length parts, length-append (blocks es) (gate ∷ tail)) in
     let at = length bytes - length (gate ∷ tail) in
-    let gate_is : get_or bytes at 90 ≡ gate = ap (λ (l : List ℕ). get_or l at 90) parts ∙ get_or_at (prefix es) gate tail 90 at place in (
-      omega (arith, ap length parts, length-append (prefix es) (gate ∷ tail)),
+    let gate_is : get_or bytes at 90 ≡ gate = ap (λ (l : List ℕ). get_or l at 90) parts ∙ get_or_at (blocks es) gate tail 90 at place in (
+      omega (arith, ap length parts, length-append (blocks es) (gate ∷ tail)),
       subst (λ (n : ℕ). n ≢ 90) (sym gate_is) shut,
-      ap (λ (l : List ℕ). take at l) parts ∙ take_at (prefix es) (gate ∷ tail) at place,
+      ap (λ (l : List ℕ). take at l) parts ∙ take_at (blocks es) (gate ∷ tail) at place,
+      sym place,
       fits,
     )
 
-pub read_is : (es : List Record) (bytes rest : List ℕ) → bytes ≡ prefix es ++ rest → AllByRecursion Fits es → 0 < length rest → get_or rest 0 0 ≢ 90 → records bytes ≡ Ok es
+pub read_is : (es : List Record) (bytes rest : List ℕ) → bytes ≡ blocks es ++ rest → AllByRecursion Fits es → 0 < length rest → get_or rest 0 0 ≢ 90 → gates bytes ≡ Ok es
 read_is es bytes [] parts fits more shut = absurd (omega arith)
-read_is es bytes (gate ∷ tail) parts fits more shut = ap records parts ∙ read_prefix es gate tail fits shut
-
-pub fault_header : (bytes : List ℕ) (at : ℕ) → differs_at 0 header bytes ≡ Some at → records bytes ≡ Err at
-unfolding records
-fault_header bytes at is = ap (behind_header bytes) is
+read_is es bytes (gate ∷ tail) parts fits more shut = ap gates parts ∙ gates_again es gate tail fits shut
 
 -- the block after the open gate of the rest
-pub next_taken : (es : List Record) (e : Record) (bytes rest after : List ℕ) → bytes ≡ prefix es ++ rest → IsBytes bytes → block_at (drop 1 rest) ≡ Some (e, after) → Taken e after (drop 1 rest)
+pub next_taken : (es : List Record) (e : Record) (bytes rest after : List ℕ) → bytes ≡ blocks es ++ rest → IsBytes bytes → block_at (drop 1 rest) ≡ Some (e, after) → Taken e after (drop 1 rest)
 next_taken es e bytes rest after parts small is = block_taken e after (drop 1 rest) (bytes_drop 1 rest (λ i. behind i)) is
   where
     behind : (i : ℕ) → get_or rest i 0 < 256
-    behind i = subst (λ (n : ℕ). n < 256) (ap (λ (l : List ℕ). get_or l (length (prefix es) + i) 0) parts ∙ get_or-append-add (prefix es) rest i 0) (small (length (prefix es) + i))
+    behind i = subst (λ (n : ℕ). n < 256) (ap (λ (l : List ℕ). get_or l (length (blocks es) + i) 0) parts ∙ get_or-append-add (blocks es) rest i 0) (small (length (blocks es) + i))
 
 -- what a reader returns that finds no record
 pub no_record : {V X : Type 0} (view : V → X) (e : Unread) (found : Option X) → e ≡ NoRecord → Gives view (Err e) found → found ≡ None

@@ -11,10 +11,6 @@ use Rattle.ckpt_journal.specs.declared.record.Record.TheVariants.{Begun, Prepare
 
 -- ---- bytes
 
--- the text DRAKCKPT, the version 1 in 32 bits, and 0 in 32 bits
-unfoldable pub header : List ℕ
-header = 68 ∷ 82 ∷ 65 ∷ 75 ∷ 67 ∷ 75 ∷ 80 ∷ 84 ∷ 0 ∷ 0 ∷ 0 ∷ 1 ∷ 0 ∷ 0 ∷ 0 ∷ 0 ∷ []
-
 -- its length in 16 bits, and its bytes
 abbrev pub text_bytes : List ℕ → List ℕ
 text_bytes text = to_be_bytes w16 (length text) ++ text
@@ -51,10 +47,6 @@ abbrev pub blocks : List Record → List ℕ
 blocks [] = []
 blocks (r ∷ rs) = 90 ∷ block r ++ blocks rs
 
--- all that comes before the first closed gate
-abbrev pub prefix : List Record → List ℕ
-prefix rs = header ++ blocks rs
-
 -- ---- limits
 
 -- a text, or a count, over 65,535
@@ -73,10 +65,6 @@ is_long (Begun c) = is_long_claim c
 is_long (Prepared c) = is_long_claim c
 is_long (Leaving uid) = is_long_text uid
 is_long (Gone uid) = is_long_text uid
-
--- the record is too long, or with it after the closed gate at this offset the file would exceed 67,108,864 bytes
-abbrev pub is_full : ℕ → Record → Bool
-is_full gate r = is_long r || nat_lt 67108864 (gate + length (block r) + 2)
 
 -- ---- what is read as it was spelled
 

@@ -1,5 +1,11 @@
 pub mod Format
+pub mod Layout
 pub mod Names
+pub mod Opened
+pub mod Plan
+pub mod Planned
 pub mod Reading
 pub mod Standing
+pub mod Steps
+pub mod Table
 pub mod Words

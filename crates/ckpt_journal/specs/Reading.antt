@@ -2,10 +2,13 @@
 use Rattle.std.specs.Prelude.{◌≡◌, ℕ, zero, suc, ◌+◌, ◌-◌, List, [], ◌∷◌, ◌++◌, length, take, drop, Option, Some, None, option_and_then, option_map, Result, Ok, Err, nat_lt, nat_le, if◌then◌else◌, ◌==◌}
 use Rattle.std.specs.Int.{w16, w32, from_be_bytes}
 use Rattle.object_fields.specs.declared.key.Key.{Key}
-use Rattle.ckpt_journal.specs.Format.{header}
+use Rattle.ckpt_journal.specs.Format.{blocks}
+use Rattle.ckpt_journal.specs.Layout.{layout_of, live, start}
 use Rattle.ckpt_journal.specs.Names.{device_read, key_read, text_read}
 use Rattle.ckpt_journal.specs.declared.error.Unread.{Unread}
 use Rattle.ckpt_journal.specs.declared.error.Unread.TheVariants.{NoRecord, Memory}
+use Rattle.ckpt_journal.specs.declared.layout.Layout.{Layout}
+use Rattle.ckpt_journal.specs.declared.layout.Layout.TheVariants.{Single, Double}
 use Rattle.ckpt_journal.specs.declared.record.Claim.{Claim}
 use Rattle.ckpt_journal.specs.declared.record.Record.{Record}
 use Rattle.ckpt_journal.specs.declared.record.Record.TheVariants.{Begun, Prepared, Leaving, Gone}
@@ -97,23 +100,33 @@ records_from _ [] = Err 0
 records_from zero (gate ∷ bytes) = Err (length bytes + 1)
 records_from (suc most) (gate ∷ bytes) = if gate == 90 then if_block (length bytes + 1) (records_from most) (block_at bytes) else Ok []
 
--- the first offset at which bytes aren't as they should be, or are missing
-abbrev pub differs_at : ℕ → List ℕ → List ℕ → Option ℕ
-differs_at at [] bytes = None
-differs_at at (m ∷ ms) [] = Some at
-differs_at at (m ∷ ms) (b ∷ bs) = if b == m then differs_at (at + 1) ms bs else Some at
+abbrev pub offset : ℕ → Result (List Record) ℕ → Result (List Record) ℕ
+offset len (Ok rs) = Ok rs
+offset len (Err left) = Err (len - left)
 
-abbrev pub placed : ℕ → Result (List Record) ℕ → Result (List Record) ℕ
-placed len (Ok rs) = Ok rs
-placed len (Err left) = Err (len - left)
+-- the records of bytes that begin with a gate, up to the first closed one, or the offset of an open gate whose
+-- record is cut, has no next gate, or isn't one
+unfoldable pub gates : List ℕ → Result (List Record) ℕ
+gates bytes = offset (length bytes) (records_from (length bytes) bytes)
 
-abbrev pub behind_header : List ℕ → Option ℕ → Result (List Record) ℕ
-behind_header bytes (Some at) = Err at
-behind_header bytes None = placed (length bytes) (records_from (length bytes) (drop 16 bytes))
+-- the same, where these bytes begin at an offset
+abbrev pub from_start : ℕ → Result (List Record) ℕ → Result (List Record) ℕ
+from_start at (Ok rs) = Ok rs
+from_start at (Err fault) = Err (at + fault)
 
--- the records up to the first closed gate, or the offset at which the bytes are no journal
+-- the closed gate of a file of version 1 is below the offset 67,108,864
+abbrev pub below_most : Layout → Result (List Record) ℕ → Result (List Record) ℕ
+below_most (Double h) read = read
+below_most Single (Err fault) = Err fault
+below_most Single (Ok rs) = if nat_lt 67108863 (16 + length (blocks rs)) then Err 67108864 else Ok rs
+
+abbrev pub laid_out : List ℕ → Result Layout ℕ → Result (List Record) ℕ
+laid_out bytes (Err fault) = Err fault
+laid_out bytes (Ok layout) = below_most layout (from_start (start layout) (gates (live layout bytes)))
+
+-- the records of a file, up to the first closed gate of its live part, or the offset at which it is no journal
 unfoldable pub records : List ℕ → Result (List Record) ℕ
-records bytes = behind_header bytes (differs_at 0 header bytes)
+records bytes = laid_out bytes (layout_of bytes)
 
 -- ---- what a reader returns
 

@@ -14,11 +14,12 @@ pub enum JournalError {
     #[error("the disk failed")]
     DiskFault,
     /// The bytes of the disk are no journal. The offset is that of the first byte of the header that
-    /// is wrong or missing, of the first gate if it is missing, or of the open gate whose record is
+    /// is wrong or missing, of the first gate or of a half if it is missing, or of the open gate whose record is
     /// cut, has no next gate, or isn't one.
     #[error("not a journal at byte {0}")]
     NotAJournal(u64),
-    /// The file would exceed 67,108,864 bytes, or a text or a count of the record is over 65,535.
+    /// The compacted table and the record do not fit a half, or a text or a count of the record is over
+    /// 65,535.
     /// Nothing was changed.
     #[error("the journal is full")]
     Full,

@@ -1,5 +1,8 @@
+ghost use Rattle.std.specs.Prelude.{◌≡◌, IfOk};
+
 use dra_values::{Seq, Text};
 use object_fields::{DeviceId, Key};
+use std::alloc::{AllocError, Global};
 
 /// What is recorded of a claim whose devices are prepared on the node.
 #[derive(Debug, PartialEq, Eq, Drop)]
@@ -14,6 +17,20 @@ pub struct Claim {
     pub devices: Seq<DeviceId>,
 }
 
+impl Claim {
+    /// An equal claim. Returns `AllocError` only if out of memory.
+    pub fn copy(&self, alloc: Global) -> Result<Claim, AllocError>
+        ensures { IfOk result (λ copied. copied ≡ self.now) }
+    {
+        Ok(Claim {
+            uid: self.uid.copy(alloc)?,
+            key: self.key.copy(alloc)?,
+            pods: self.pods.copy(alloc)?,
+            devices: self.devices.copy(alloc)?,
+        })
+    }
+}
+
 /// A step of a claim on the node. `Begun` and `Prepared` set the claim's row whole.
 #[derive(Debug, PartialEq, Eq, Drop)]
 pub enum Record {
@@ -25,4 +42,38 @@ pub enum Record {
     Leaving(Text),
     /// The claim of this uid has no row any more.
     Gone(Text),
+}
+
+impl Record {
+    /// An equal record. Returns `AllocError` only if out of memory.
+    pub fn copy(&self, alloc: Global) -> Result<Record, AllocError>
+        ensures { IfOk result (λ copied. copied ≡ self.now) }
+    {
+        match self {
+            Record::Begun(claim) => Ok(Record::Begun(claim.copy(alloc)?)),
+            Record::Prepared(claim) => Ok(Record::Prepared(claim.copy(alloc)?)),
+            Record::Leaving(uid) => Ok(Record::Leaving(uid.copy(alloc)?)),
+            Record::Gone(uid) => Ok(Record::Gone(uid.copy(alloc)?)),
+        }
+    }
+}
+
+/// How far a claim is on the node.
+#[derive(Clone, Copy, Debug, PartialEq, Eq)]
+pub enum RowState {
+    /// Its preparation has begun.
+    Begun,
+    /// Its devices are prepared.
+    Prepared,
+    /// It is being given up.
+    Leaving,
+}
+
+/// The row of a claim in the table that the records make.
+#[derive(Debug, PartialEq, Eq, Drop)]
+pub struct Row {
+    /// How far the claim is.
+    pub state: RowState,
+    /// The claim, as the last `Begun` or `Prepared` has it.
+    pub claim: Claim,
 }

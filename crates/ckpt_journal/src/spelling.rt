@@ -1,16 +1,17 @@
-ghost use Rattle.std.specs.Prelude.{◌≡◌, ◌⊎◌, ◌<◌, ◌^◌, ◌++◌, [], ◌∷◌, IfErr, IfOk, IsErrOf, OnOk, false, length, true};
+ghost use Rattle.std.specs.Prelude.{◌≡◌, ◌⊎◌, ◌<◌, ◌≤◌, ◌*◌, ◌^◌, ◌++◌, [], ◌∷◌, IfErr, IfOk, IsErrOf, List, OnOk, ◌&&◌, false, length, nat_le, true};
 ghost use Rattle.std.specs.Int.{to_be_bytes, w32};
-ghost use Rattle.std.specs.List.{flat_map, list_all, list_any};
-ghost use Rattle.ckpt_journal.specs.Format.{ClaimIsText, Fits, IsText, ReadsBack, are_long, block, body, claim_bytes, is_full, is_long, is_long_claim, is_long_text, kind_byte, names_bytes, text_bytes};
+ghost use Rattle.std.specs.List.{AllByRecursion, flat_map, list_all, list_any};
+ghost use Rattle.ckpt_journal.specs.Format.{ClaimIsText, Fits, IsText, ReadsBack, are_long, block, blocks, body, claim_bytes, is_long, is_long_claim, is_long_text, kind_byte, names_bytes, text_bytes};
+ghost use Rattle.ckpt_journal.specs.Plan.{is_full, new_file, new_halves, size_for, size_from, table_bytes};
+ghost use Rattle.ckpt_journal.specs.Table.{compact, records_of, set_kind};
 ghost use Rattle.ckpt_journal.specs.declared.error.JournalError.TheVariants.{Full, Memory};
 
 use crate::JournalError;
+use crate::layout::{FIRST, HALF_SIZES};
 use crate::named::Named;
-use crate::record::{Claim, Record};
+use crate::record::{Claim, Record, Row, RowState};
+use dra_values::Text;
 use std::alloc::{AllocError, Global};
-
-/// The most bytes of a journal.
-const MOST_BYTES: u64 = 67_108_864;
 
 /// The most bytes of a text, and the most names of a list.
 const MOST_OF_A_TEXT: usize = 65_535;
@@ -21,11 +22,8 @@ pub const OPEN: u8 = 0x5a;
 /// The byte of a closed gate, as it is written.
 const CLOSED: u8 = 0;
 
-/// The text `DRAKCKPT`, the version 1 in 32 bits, and 0 in 32 bits.
-pub const HEADER: [u8; 16] = *b"DRAKCKPT\0\0\0\x01\0\0\0\0";
-
-/// A journal of no record: the header and a closed gate.
-pub const EMPTY: [u8; 17] = *b"DRAKCKPT\0\0\0\x01\0\0\0\0\0";
+/// The first bytes of a new file: the text `DRAKCKPT`, 00 00 00, the version 2, and the base 16 in 32 bits.
+const HEADER: [u8; 16] = *b"DRAKCKPT\0\0\0\x02\0\0\0\x10";
 
 /// Whether the text is over 65,535 bytes.
 fn long_name<T: Named>(name: &T) -> bool
@@ -170,25 +168,167 @@ fn framed(alloc: Global, body: &[u8]) -> Result<Vec<u8>, AllocError>
     Ok(bytes)
 }
 
-/// What is written after the closed gate at the offset `gate`: a record and the next gate, closed.
+/// What is written after a closed gate to add a record to a half of this size: the record and the next gate,
+/// closed.
 ///
-/// The error is `Full` only if a text or a count of the record is over 65,535 or the file would exceed
-/// 67,108,864 bytes, and if so the result is not `Ok`. It is `Memory` only if memory runs out.
-pub fn spelled(alloc: Global, item: &Record, gate: u64) -> Result<Vec<u8>, JournalError>
-    requires { ReadsBack item.now }
+/// The error is `Full` only if a text or a count of the record is over 65,535 or the record doesn't fit beside
+/// any table. It is `Memory` only if memory runs out.
+pub fn spelled(alloc: Global, item: &Record, half: u64) -> Result<Vec<u8>, JournalError>
+    requires reads { ReadsBack item.now }
+    requires most { half ≤ 134217728 }
     ensures bytes { IfOk result (λ v. v.items ≡ block item.now ++ 0 ∷ []) }
     ensures fits { OnOk result (Fits item.now) }
-    ensures room { OnOk result (is_full gate item.now ≡ false) }
-    ensures full { IsErrOf result Full → is_full gate item.now ≡ true }
+    ensures short { OnOk result (is_long item.now ≡ false) }
+    ensures full { IsErrOf result Full → (rows : List Row) → is_full half rows item.now ≡ true }
     ensures only { IfErr result (λ e. (e ≡ Full) ⊎ (e ≡ Memory)) }
 {
     if long_record(item) {
         return Err(JournalError::Full);
     }
     let body = body_of(alloc, item)?;
-    let end = gate.saturating_add(body.len() as u64).saturating_add(6);
-    if end > MOST_BYTES {
+    if body.len() as u64 + 6 > half {
         return Err(JournalError::Full);
     }
     Ok(framed(alloc, &body)?)
+}
+
+/// Puts an open gate, the length of a body in 32 bits and the body at the end.
+fn put_record(into: &mut Vec<u8>, body: &[u8]) -> Result<(), AllocError>
+    requires { length body.now < 2 ^ 32 }
+    ensures { OnOk result (into.new.items ≡ into.old.items ++ 90 ∷ (to_be_bytes w32 (length body.now) ++ body.now)) }
+{
+    into.push(OPEN)?;
+    let len = body.len() as u32;
+    into.extend_from_slice(&len.to_be_bytes())?;
+    into.extend_from_slice(body)
+}
+
+/// The body of a record of this kind with a claim's fields.
+fn claim_body(alloc: Global, kind: u8, claim: &Claim) -> Result<Vec<u8>, AllocError>
+    requires { is_long_claim claim.now ≡ false }
+    ensures { IfOk result (λ v. v.items ≡ kind ∷ claim_bytes claim.now) }
+{
+    let mut bytes = Vec::new(alloc);
+    bytes.push(kind)?;
+    put_claim(&mut bytes, claim)?;
+    Ok(bytes)
+}
+
+/// The body of a record that a claim is Leaving.
+fn leaving_body(alloc: Global, uid: &Text) -> Result<Vec<u8>, AllocError>
+    requires { is_long_text uid.now ≡ false }
+    ensures { IfOk result (λ v. v.items ≡ 3 ∷ text_bytes uid.now) }
+{
+    let mut bytes = Vec::new(alloc);
+    bytes.push(3)?;
+    put_name(&mut bytes, uid)?;
+    Ok(bytes)
+}
+
+/// The kind byte of the record that sets a row.
+fn kind_of_row(state: RowState) -> u8
+    ensures { result ≡ set_kind state }
+{
+    match state {
+        RowState::Begun => 1,
+        RowState::Prepared => 2,
+        RowState::Leaving => 2,
+    }
+}
+
+/// Puts the records of a row after open gates at the end.
+#[tactic(auto, unfolding(crate::specs::Format::block))]
+fn put_row(alloc: Global, into: &mut Vec<u8>, row: &Row) -> Result<(), AllocError>
+    requires { AllByRecursion Fits (records_of row.now.state row.now.claim) }
+    ensures { OnOk result (into.new.items ≡ into.old.items ++ blocks (records_of row.now.state row.now.claim)) }
+{
+    let body = claim_body(alloc, kind_of_row(row.state), &row.claim)?;
+    put_record(into, &body)?;
+    match row.state {
+        RowState::Begun | RowState::Prepared => Ok(()),
+        RowState::Leaving => {
+            let body = leaving_body(alloc, &row.claim.uid)?;
+            put_record(into, &body)
+        }
+    }
+}
+
+/// Puts the records of the rows after open gates at the end.
+fn put_rows(alloc: Global, into: &mut Vec<u8>, rows: &[Row]) -> Result<(), AllocError>
+    requires { AllByRecursion Fits (compact rows.now) }
+    ensures { OnOk result (into.new.items ≡ into.old.items ++ blocks (compact rows.now)) }
+{
+    for row in rows {
+        put_row(alloc, into, row)?;
+    }
+    Ok(())
+}
+
+/// The compacted table: its records after open gates, and a closed gate.
+pub fn compacted(alloc: Global, rows: &[Row]) -> Result<Vec<u8>, AllocError>
+    requires { AllByRecursion Fits (compact rows.now) }
+    ensures { IfOk result (λ v. v.items ≡ table_bytes rows.now) }
+{
+    let mut bytes = Vec::new(alloc);
+    put_rows(alloc, &mut bytes, rows)?;
+    bytes.push(CLOSED)?;
+    Ok(bytes)
+}
+
+/// The least size of a half that is at least the one asked for and at least twice a table's.
+pub fn half_for(asked: u64, len: u64) -> u64
+    requires { 2 * len < 2 ^ 64 }
+    ensures { result ≡ size_for asked len }
+{
+    first_size(&HALF_SIZES, asked, len)
+}
+
+/// The first of these sizes that is at least the one asked for and at least twice a table's.
+fn first_size(sizes: &[u64], asked: u64, len: u64) -> u64
+    requires { 2 * len < 2 ^ 64 }
+    ensures { result ≡ size_from sizes.now asked len }
+{
+    for size in sizes {
+        if is_enough(*size, asked, len) {
+            return *size;
+        }
+    }
+    MOST_OF_A_HALF
+}
+
+/// Whether a size is at least the one asked for and at least twice a table's.
+fn is_enough(size: u64, asked: u64, len: u64) -> bool
+    requires { 2 * len < 2 ^ 64 }
+    ensures { result ≡ (nat_le asked size && nat_le (2 * len) size) }
+{
+    asked <= size && 2 * len <= size
+}
+
+/// The largest size of a half.
+const MOST_OF_A_HALF: u64 = 134_217_728;
+
+/// The size of a half, the selector, the first half with this table, and the first gate of the second half.
+pub fn halves_of(alloc: Global, half: u32, table: &[u8]) -> Result<Vec<u8>, AllocError>
+    requires { length table.now ≤ half }
+    ensures { IfOk result (λ v. v.items ≡ new_halves half table.now) }
+{
+    let mut bytes = half.to_be_bytes().to_vec(alloc)?;
+    bytes.push(FIRST)?;
+    bytes.extend_from_slice(table)?;
+    let rest = vec![in alloc; CLOSED; half as usize + 1 - table.len()]?;
+    bytes.extend_from_slice(&rest)?;
+    Ok(bytes)
+}
+
+/// The bytes of a file with no record and halves of this size.
+#[tactic(auto, unfolding(crate::specs::Layout::magic))]
+pub fn empty_file(alloc: Global, half: u32) -> Result<Vec<u8>, AllocError>
+    ensures { IfOk result (λ v. v.items ≡ new_file half) }
+{
+    let mut bytes = HEADER.to_vec(alloc)?;
+    bytes.extend_from_slice(&half.to_be_bytes())?;
+    bytes.push(FIRST)?;
+    let rest = vec![in alloc; CLOSED; half as usize + 1]?;
+    bytes.extend_from_slice(&rest)?;
+    Ok(bytes)
 }

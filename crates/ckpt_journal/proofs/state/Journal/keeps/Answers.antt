@@ -1,5 +1,5 @@
-use Rattle.ckpt_journal.proofs.Kept.{keeps_read}
+use Rattle.ckpt_journal.proofs.Keeping.{keeps}
 use Rattle.ckpt_journal.proofs.state.Journal.keeps.Goals as goal
 
-pub returns-clause-kept : goal.returns-clause-kept
-returns-clause-kept g c = λ going. keeps_read _ _ _ (c.args.self.now.kept going)
+pub returns : goal.returns
+returns g c = λ going. keeps c.args.self.now.rows.items c.args.self.now.halves c.args.self.now.end _ (c.args.self.now.kept going)
