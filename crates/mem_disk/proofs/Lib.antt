@@ -1,1 +1,3 @@
+mod Gaps
+mod Past
 mod Pushed

@@ -2,7 +2,7 @@
 use Rattle.std.proofs.Common.{◌≡◌, ℕ, List, [], ◌∷◌, ◌++◌, Option, None, Some, false, get_or, length, take, ◌+◌, ◌<◌, length-append, length-take, arith, append_assoc, append-nil, sym, ◌∙◌, ap, subst}
 use Rattle.std.proofs.lemmas.List.{take_more}
 use Rattle.dra_ports.specs.DiskContent.{Agrees, IsImage}
-use Rattle.mem_disk.specs.Told.{StartsWith, sure_of}
+use Rattle.mem_disk.specs.Stages.{StartsWith, sure_of}
 use Rattle.mem_disk.specs.declared.moment.Moment.{Moment}
 
 -- one more place, and one more byte

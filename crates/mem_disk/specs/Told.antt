@@ -1,18 +1,11 @@
 -- What a disk in memory exposes.
-use Rattle.std.specs.Prelude.{◌≡◌, ℕ, ◌+◌, ◌-◌, min, List, [], ◌∷◌, ◌++◌, length, take, drop, map, replicate, Option, None, true, Result, Ok, Err, if◌then◌else◌}
+use Rattle.std.specs.Prelude.{List, [], ◌∷◌, ◌++◌, true, Result, Ok, Err, if◌then◌else◌}
 use Rattle.dra_ports.specs.DiskContent.{Content, Sure}
 use Rattle.dra_ports.specs.Memory.{Plan, after_call, after_fault, fails_next, plan_of}
 use Rattle.mem_disk.specs.declared.disk.MemDisk.{MemDisk}
-use Rattle.mem_disk.specs.declared.moment.Moment.{Moment}
-
-abbrev pub sure_of : Moment → Sure
-sure_of m = record { places = m.places.items; longer = m.longer }
-
-abbrev pub sures : List Moment → List Sure
-sures moments = map sure_of moments
 
 abbrev pub content_of : MemDisk → Content
-content_of d = record { bytes = d.present.bytes.items; sure = sure_of d.present; earlier = sures d.earlier.items; honest = true }
+content_of d = record { bytes = d.history.stage.bytes; sure = d.history.stage.sure; earlier = d.history.earlier; honest = true }
 
 -- what was sure at each moment, the present one the last
 abbrev pub moments_of : MemDisk → List Sure
@@ -26,11 +19,3 @@ disk_plan d = plan_of d.failures
 abbrev pub after_change : {T E : Type 0} → Plan → Result T E → Plan
 after_change p (Ok x) = after_call p
 after_change p (Err e) = if fails_next p then after_call p else after_fault (after_call p)
-
--- the places, n of them from this one on no longer sure
-abbrev pub gapped : ℕ → ℕ → List (Option ℕ) → List (Option ℕ)
-gapped at n places = take at places ++ replicate (min (at + n) (length places) - min at (length places)) None ++ drop (at + n) places
-
--- the other is a prefix of the list
-abbrev pub StartsWith : List ℕ → List ℕ → Type 0
-StartsWith xs prefix = (rest : List ℕ) × (xs ≡ prefix ++ rest)

@@ -1,23 +1,21 @@
-ghost use Rattle.std.specs.Prelude.{◌≡◌, ◌+◌, ◌<◌, ◌≤◌, [], Err, IfErr, IfOk, IsErrOf, IsOk, Ok, OnErr, OnOk, Some, drop, get_or, if◌then◌else◌, length, take};
+ghost use Rattle.std.specs.Prelude.{◌≡◌, ◌+◌, ◌<◌, ◌≤◌, [], Err, IfOk, IsErrOf, Ok, OnErr, OnOk, Some, drop, get_or, if◌then◌else◌, length, take};
 ghost use Rattle.std.specs.Bool.{OnTrue};
 ghost use Rattle.dra_ports.specs.Causes.{HasCause};
-ghost use Rattle.dra_ports.specs.DiskContent.{IsImage, Partly, blurred, exactly, moved, shortened, shorter, synced, written};
+ghost use Rattle.dra_ports.specs.DiskContent.{IsImage, Partly, blurred, exactly, shortened, shorter, synced, written};
 ghost use Rattle.dra_ports.specs.Memory.{after_call, after_fault, fails_next, new_plan};
 ghost use Rattle.dra_ports.specs.declared.error.PortError.TheVariants.{Failed, Memory};
-ghost use Rattle.mem_disk.specs.Told.{after_change, content_of, disk_plan, moments_of, sure_of};
+ghost use Rattle.mem_disk.specs.Told.{after_change, content_of, disk_plan, moments_of};
 
-use crate::moment::Moment;
+use crate::history::History;
 use dra_ports::{Disk, Failures, PortError};
 use std::alloc::{AllocError, Global};
-use std::mem;
 
-/// A disk in memory: it keeps what was sure at each moment of its calls, and a crash at any of them
-/// can be tried. It is honest: a sync that returns `Ok` keeps what was written.
+/// A disk in memory: it keeps what its calls changed, so that a crash at each moment can be tried. It is
+/// honest: a sync that returns `Ok` keeps what was written.
 #[derive(Drop)]
 pub struct MemDisk {
     alloc: Global,
-    present: Moment,
-    earlier: Vec<Moment>,
+    history: History,
     failures: Failures,
 }
 
@@ -32,8 +30,7 @@ impl MemDisk {
     {
         Ok(MemDisk {
             alloc,
-            present: Moment::synced(alloc, bytes)?,
-            earlier: Vec::new(alloc),
+            history: History::new(alloc, bytes)?,
             failures: Failures::new(failing),
         })
     }
@@ -42,14 +39,14 @@ impl MemDisk {
     pub fn bytes(&self) -> &[u8]
         ensures { result.now ≡ (content_of self.now).bytes }
     {
-        &self.present.bytes
+        self.history.bytes()
     }
 
     /// The number of moments: the first, and one after each write, cut and sync that returned `Ok`.
     pub fn moments(&self) -> usize
         ensures { result ≡ length (moments_of self.now) }
     {
-        self.earlier.len() + 1
+        self.history.moments()
     }
 
     /// The disk that a crash at the moment `at`, from 0, leaves: of the byte lists that it may leave
@@ -62,41 +59,21 @@ impl MemDisk {
         ensures earlier { IfOk result (λ d. (content_of d).earlier ≡ []) }
         ensures plan { IfOk result (λ d. disk_plan d ≡ new_plan []) }
     {
-        let bytes = if at < self.earlier.len() {
-            self.earlier[at].image(alloc, pick)?
-        } else {
-            self.present.image(alloc, pick)?
-        };
+        let bytes = self.history.image(alloc, at, pick)?;
         MemDisk::new(alloc, bytes, Vec::new(alloc))
     }
 
-    /// Moves on to the next moment.
-    fn advance(&mut self, next: Moment) -> Result<(), AllocError>
-        ensures ok { OnOk result (content_of self.new ≡ moved next.bytes.items (sure_of next) (content_of self.old)) }
-        ensures err { OnErr result (content_of self.new ≡ content_of self.old) }
-        ensures plan { disk_plan self.new ≡ disk_plan self.old }
-    {
-        self.earlier.reserve(1)?;
-        let old = mem::replace(&mut self.present, next);
-        self.earlier.push_reserved(old);
-        Ok(())
-    }
-
-    /// Moves on to a moment, or counts an error if it is out of memory.
-    fn change(&mut self, next: Result<Moment, AllocError>) -> Result<(), PortError>
-        ensures ok { OnOk result (IfOk next (λ m. content_of self.new ≡ moved m.bytes.items (sure_of m) (content_of self.old))) }
-        ensures made { OnOk result (IsOk next) }
-        ensures err { OnErr result (content_of self.new ≡ content_of self.old) }
-        ensures failed { IfErr result (λ e. e ≡ Failed) }
-        ensures plan_ok { OnOk result (disk_plan self.new ≡ disk_plan self.old) }
-        ensures plan_err { OnErr result (disk_plan self.new ≡ after_fault (disk_plan self.old)) }
+    /// The result of a change, whose error of memory is counted as one of the disk.
+    fn changed(&mut self, made: Result<(), AllocError>) -> Result<(), PortError>
+        ensures ok { OnOk made (result ≡ Ok tt) }
+        ensures err { OnErr made (result ≡ Err Failed) }
+        ensures same { content_of self.new ≡ content_of self.old }
+        ensures plan_ok { OnOk made (disk_plan self.new ≡ disk_plan self.old) }
+        ensures plan_err { OnErr made (disk_plan self.new ≡ after_fault (disk_plan self.old)) }
         ensures cause { HasCause (disk_plan self.old).faults (disk_plan self.new).faults result }
     {
-        match next {
-            Ok(next) => match self.advance(next) {
-                Ok(()) => Ok(()),
-                Err(_) => Err(self.failures.fault()),
-            },
+        match made {
+            Ok(()) => Ok(()),
             Err(_) => Err(self.failures.fault()),
         }
     }
@@ -124,7 +101,7 @@ impl Disk for MemDisk {
         if self.failures.next_fails() {
             return Err(PortError::Failed);
         }
-        Ok(self.present.bytes.len() as u64)
+        Ok(self.history.bytes().len() as u64)
     }
 
     fn read_at(&mut self, at: u64, into: &mut [u8]) -> Result<(), PortError>
@@ -140,7 +117,7 @@ impl Disk for MemDisk {
             return Err(PortError::Failed);
         }
         let start = at as usize;
-        into.copy_from_slice(&self.present.bytes[start..start + into.len()]);
+        into.copy_from_slice(&self.history.bytes()[start..start + into.len()]);
         Ok(())
     }
 
@@ -157,8 +134,8 @@ impl Disk for MemDisk {
         if self.failures.next_fails() {
             return Err(PortError::Failed);
         }
-        let next = self.present.written(self.alloc, at as usize, from);
-        self.change(next)
+        let made = self.history.write(self.alloc, at as usize, from);
+        self.changed(made)
     }
 
     fn cut(&mut self, len: u64) -> Result<(), PortError>
@@ -174,8 +151,8 @@ impl Disk for MemDisk {
         if self.failures.next_fails() {
             return Err(PortError::Failed);
         }
-        let next = self.present.shortened(self.alloc, len as usize);
-        self.change(next)
+        let made = self.history.cut(self.alloc, len as usize);
+        self.changed(made)
     }
 
     fn sync(&mut self) -> Result<(), PortError>
@@ -189,11 +166,7 @@ impl Disk for MemDisk {
         if self.failures.next_fails() {
             return Err(PortError::Failed);
         }
-        let next = self.present.bytes.to_vec(self.alloc);
-        let next = match next {
-            Ok(bytes) => Moment::synced(self.alloc, bytes),
-            Err(error) => Err(error),
-        };
-        self.change(next)
+        let made = self.history.sync(self.alloc);
+        self.changed(made)
     }
 }

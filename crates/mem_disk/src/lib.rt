@@ -1,7 +1,9 @@
 //! A disk in memory, which keeps what a crash may leave at each moment and exposes it.
 #![tactic(auto)]
 
+mod change;
 mod disk;
+mod history;
 mod moment;
 
 pub use disk::MemDisk;

@@ -1,7 +1,8 @@
-ghost use Rattle.std.specs.Prelude.{◌≡◌, ◌<◌, ◌≤◌, [], ◌∷◌, IfOk, None, OnOk, Some, false, get_or, length, map, take};
-ghost use Rattle.dra_ports.specs.DiskContent.{Agrees, IsImage, blurred, exactly, shorter, spliced};
-ghost use Rattle.mem_disk.specs.Told.{StartsWith, gapped, sure_of};
+ghost use Rattle.std.specs.Prelude.{◌≡◌, ◌+◌, ◌-◌, ◌<◌, ◌≤◌, ◌++◌, [], ◌∷◌, IfOk, None, OnErr, OnOk, Some, drop, false, get_or, length, map, take};
+ghost use Rattle.dra_ports.specs.DiskContent.{Agrees, IsImage, spliced};
+ghost use Rattle.mem_disk.specs.Stages.{StartsWith, after, after_cut, after_sync, after_write, begun, gapped, stage_after, stage_of, sure_of};
 
+use crate::change::Change;
 use std::alloc::{AllocError, Global};
 
 /// How many ways there are to choose the bytes that a crash leaves.
@@ -30,43 +31,41 @@ fn all_sure(alloc: Global, bytes: &[u8]) -> Result<Vec<Option<u8>>, AllocError>
     Ok(places)
 }
 
-/// The bytes with others written over them from the offset `at` on.
-fn with_bytes(alloc: Global, at: usize, from: &[u8], bytes: &[u8]) -> Result<Vec<u8>, AllocError>
-    requires { at ≤ length bytes.now }
-    ensures { IfOk result (λ v. v.items ≡ spliced at from.now bytes.now) }
+/// Writes bytes over those from the offset `start` on.
+fn overwrite(bytes: &mut [u8], start: usize, from: &[u8])
+    requires { start + length from.now ≤ length bytes.old }
+    ensures { bytes.new ≡ take start bytes.old ++ from.now ++ drop (start + length from.now) bytes.old }
 {
-    let mut next = bytes[..at].to_vec(alloc)?;
-    next.extend_from_slice(from)?;
-    if from.len() < bytes.len() - at {
-        next.extend_from_slice(&bytes[at + from.len()..])?;
-    }
-    Ok(next)
+    bytes[start..start + from.len()].copy_from_slice(from);
 }
 
-/// The places, with `count` of them from the offset `at` on no longer sure, as far as they reach.
-fn with_gap(
-    alloc: Global,
-    at: usize,
-    count: usize,
-    places: &[Option<u8>],
-) -> Result<Vec<Option<u8>>, AllocError>
-    ensures { IfOk result (λ v. v.items ≡ gapped at count places.now) }
+/// Writes bytes from the offset `at` on, over what is there and past the end.
+fn splice(bytes: &mut Vec<u8>, at: usize, from: &[u8]) -> Result<(), AllocError>
+    ensures ok { OnOk result (bytes.new.items ≡ spliced at from.now bytes.old.items) }
+    ensures err { OnErr result (bytes.new.items ≡ bytes.old.items) }
+{
+    let start = at.min(bytes.len());
+    let (over, more) = from.split_at(from.len().min(bytes.len() - start));
+    bytes.extend_from_slice(more)?;
+    overwrite(bytes, start, over);
+    Ok(())
+}
+
+/// Makes `count` places from the offset `at` on unsure, as far as they reach.
+fn forget(places: &mut [Option<u8>], at: usize, count: usize)
+    ensures { places.new ≡ gapped at count places.old }
 {
     let start = at.min(places.len());
-    let end = start + count.min(places.len() - start);
-    let mut next = places[..start].to_vec(alloc)?;
-    for _place in start..end {
-        next.push(None)?;
+    let reached = count.min(places.len() - start);
+    for index in 0..reached {
+        places[start + index] = None;
     }
-    next.extend_from_slice(&places[end..])?;
-    Ok(next)
 }
 
 impl Moment {
     /// The moment after a sync that returned `Ok`: just these bytes are left.
     pub fn synced(alloc: Global, bytes: Vec<u8>) -> Result<Moment, AllocError>
-        ensures bytes { IfOk result (λ m. m.bytes.items ≡ bytes.items) }
-        ensures sure { IfOk result (λ m. sure_of m ≡ exactly bytes.items) }
+        ensures { IfOk result (λ m. stage_of m ≡ begun bytes.items) }
     {
         let places = all_sure(alloc, &bytes)?;
         Ok(Moment {
@@ -76,34 +75,61 @@ impl Moment {
         })
     }
 
-    /// The moment after bytes were written from the offset `at` on.
-    pub fn written(&self, alloc: Global, at: usize, from: &[u8]) -> Result<Moment, AllocError>
-        requires { at ≤ length self.now.bytes.items }
-        ensures bytes { IfOk result (λ m. m.bytes.items ≡ spliced at from.now self.now.bytes.items) }
-        ensures sure { IfOk result (λ m. sure_of m ≡ blurred at (length from.now) (sure_of self.now)) }
+    /// Writes bytes from the offset `at` on.
+    fn write(&mut self, at: usize, from: &[u8]) -> Result<(), AllocError>
+        ensures ok { OnOk result (stage_of self.new ≡ after_write at from.now (stage_of self.old)) }
+        ensures err { OnErr result (stage_of self.new ≡ stage_of self.old) }
     {
-        let bytes = with_bytes(alloc, at, from, &self.bytes)?;
-        let places = with_gap(alloc, at, from.len(), &self.places)?;
-        Ok(Moment {
-            bytes,
-            places,
-            longer: true,
-        })
+        splice(&mut self.bytes, at, from)?;
+        forget(&mut self.places, at, from.len());
+        self.longer = true;
+        Ok(())
     }
 
-    /// The moment after a cut to the length `len`.
-    pub fn shortened(&self, alloc: Global, len: usize) -> Result<Moment, AllocError>
-        requires { len ≤ length self.now.bytes.items }
-        ensures bytes { IfOk result (λ m. m.bytes.items ≡ take len self.now.bytes.items) }
-        ensures sure { IfOk result (λ m. sure_of m ≡ shorter len (sure_of self.now)) }
+    /// Cuts the bytes to the length `len`, if they are longer.
+    fn cut(&mut self, len: usize)
+        ensures { stage_of self.new ≡ after_cut len (stage_of self.old) }
     {
-        let bytes = self.bytes[..len].to_vec(alloc)?;
-        let places = self.places[..len.min(self.places.len())].to_vec(alloc)?;
-        Ok(Moment {
-            bytes,
-            places,
-            longer: true,
-        })
+        self.bytes.truncate(len);
+        self.places.truncate(len);
+        self.longer = true;
+    }
+
+    /// Makes all bytes sure.
+    fn sync(&mut self, alloc: Global) -> Result<(), AllocError>
+        ensures ok { OnOk result (stage_of self.new ≡ after_sync (stage_of self.old)) }
+        ensures err { OnErr result (stage_of self.new ≡ stage_of self.old) }
+    {
+        self.places = all_sure(alloc, &self.bytes)?;
+        self.longer = false;
+        Ok(())
+    }
+
+    /// Goes on to the moment after a change.
+    pub fn change(&mut self, alloc: Global, change: &Change) -> Result<(), AllocError>
+        ensures ok { OnOk result (stage_of self.new ≡ after change.now (stage_of self.old)) }
+        ensures err { OnErr result (stage_of self.new ≡ stage_of self.old) }
+    {
+        match change {
+            Change::Write(at, from) => self.write(*at, from),
+            Change::Cut(len) => {
+                self.cut(*len);
+                Ok(())
+            }
+            Change::Sync => self.sync(alloc),
+        }
+    }
+
+    /// The moment after these changes of a disk that held these bytes, all of them sure.
+    #[tactic(auto, using(crate::proofs::Past::no_change, crate::proofs::Past::first_change))]
+    pub fn after(alloc: Global, first: &[u8], changes: &[Change]) -> Result<Moment, AllocError>
+        ensures { IfOk result (λ m. stage_of m ≡ stage_after (begun first.now) changes.now) }
+    {
+        let mut moment = Moment::synced(alloc, first.to_vec(alloc)?)?;
+        for change in changes {
+            moment.change(alloc, change)?;
+        }
+        Ok(moment)
     }
 
     /// One of the byte lists that a crash may leave at this moment, chosen by `pick`.

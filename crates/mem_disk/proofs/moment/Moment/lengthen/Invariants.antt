@@ -1,5 +1,5 @@
 use Rattle.std.proofs.Common.{◌+◌, ◌-◌, length}
-use Rattle.mem_disk.specs.Told.{StartsWith}
+use Rattle.mem_disk.specs.Stages.{StartsWith}
 use Rattle.mem_disk.proofs.moment.Moment.lengthen.Given as goal
 
 abbrev pub invariant-loop-image : goal.invariant-loop-image
