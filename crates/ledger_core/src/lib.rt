@@ -4,6 +4,7 @@
 mod error;
 mod holding;
 mod ledger;
+mod recorded;
 mod room;
 mod snapshot;
 

@@ -13,3 +13,8 @@ pub mod Fewer
 pub mod Others
 pub mod Carrying
 pub mod Fitting
+pub mod Owning
+pub mod Owned
+pub mod Sharing
+pub mod Earlier
+pub mod Taking

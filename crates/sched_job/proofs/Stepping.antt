@@ -64,8 +64,13 @@ unfolding Each
 kept_from c before [] each = tt
 kept_from c before (e ∷ es) each = (λ mine. absurd (each.0 mine), kept_from c (before ++ e ∷ []) es each.1)
 
+-- a job without an entry has none
+pub none_new : (job : ℕ) (h : List Entry) → job_state_of h job ≡ job_state.Fresh → Each (λ b d. d.job ≡ job → ⊥) [] h
+unfolding job_state_of
+none_new job h fresh = (fresh_from job job_state.Fresh 0 [] h fresh).1
+
 -- a job without an entry has made none wrong
-kept_new : (c : Run) (h : List Entry) → job_state_of h c.job ≡ job_state.Fresh → JobKept c h
+pub kept_new : (c : Run) (h : List Entry) → job_state_of h c.job ≡ job_state.Fresh → JobKept c h
 unfolding job_state_of
 kept_new c h fresh = kept_from c [] h (fresh_from c.job job_state.Fresh 0 [] h fresh).1
 

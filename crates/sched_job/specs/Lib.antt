@@ -3,3 +3,5 @@ pub mod Runs
 pub mod Steps
 pub mod Turns
 pub mod Complete
+pub mod Owned
+pub mod Going

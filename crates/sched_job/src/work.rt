@@ -10,6 +10,7 @@ ghost use Rattle.sched_job.specs.Steps.{IsSearched, Thought, ThoughtOf};
 use crate::turns::step;
 use cluster::JobState;
 use commands::Command;
+use dra_ports::{Gate, Point};
 use histories::{histories_grow, legal_steps};
 use ledger_core::{Ledger, LedgerError, Snapshot};
 use object_fields::Key;
@@ -87,8 +88,8 @@ impl Work {
 
     /// Makes the search that is next over a snapshot, in which each search of a node looks at no more items
     /// of its walk than the budget says, and drops the snapshot. It reads no ledger. `AllocError` only
-    /// if memory runs out.
-    pub fn think(&mut self, alloc: Global, budget: u64) -> Result<(), AllocError>
+    /// if memory runs out; else its last act is to call the gate with its job at `Point::Searched`.
+    pub fn think<G: Gate>(&mut self, alloc: Global, gate: &G, budget: u64) -> Result<(), AllocError>
         ensures job { self.new.job ≡ self.old.job }
         ensures command { self.new.command ≡ self.old.command }
         ensures thought { OnOk result (Thought budget self.old.command self.old.stage self.new.stage) }
@@ -96,6 +97,7 @@ impl Work {
     {
         let stage = mem::replace(&mut self.stage, Stage::Ready);
         self.stage = thought(alloc, &self.command, stage, budget)?;
+        gate.reached(self.job, Point::Searched);
         Ok(())
     }
 }
