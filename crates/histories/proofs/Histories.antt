@@ -1,14 +1,10 @@
 -- What one entry more does to a history.
-use Rattle.std.proofs.Common.{ℕ, ◌+◌, ◌≤◌, List, [], ◌∷◌, ◌++◌, ◌≡◌, ◌∙◌, Bool, true, false, cond, eqb, length, refl, ap, arith, append_assoc, subst, sym, append-nil}
+use Rattle.std.proofs.Common.{ℕ, ◌+◌, List, [], ◌∷◌, ◌++◌, ◌≡◌, ◌∙◌, cond, eqb, length, refl, ap, arith, append_assoc, subst, sym, append-nil}
 use Rattle.cluster.specs.State.{empty_state}
 use Rattle.cluster.specs.declared.entry.Entry.{Entry}
-use Rattle.cluster.specs.declared.entry.Event.{Event}
-use Rattle.cluster.specs.declared.entry.Event.TheVariants.{Applied, Deleted, Reserved, Refused, Wrote, Conflict, Unreserved, Bound, VerdictGiven, Contended, Released, Adopted, Denied}
-use Rattle.cluster.specs.declared.entry.JobState.{JobState}
 use Rattle.cluster.specs.declared.entry.JobState.TheVariants.{Fresh}
 use Rattle.cluster.specs.Events.{after, job_state_after}
 use Rattle.cluster.specs.History.{next_job_state, next_state, job_state_of, state_of, told}
-use Rattle.cluster.specs.JobState.{failures}
 use Rattle.histories.specs.Legal.{Step, LegalAfter, Legal}
 
 told-more : {A : Type 0} (step : A → ℕ → Entry → A) (a : A) (n : ℕ) (es : List Entry) (e : Entry) → told step a n (es ++ e ∷ []) ≡ step (told step a n es) (n + length es + 1) e
@@ -55,36 +51,3 @@ Legal-empty = tt
 pub Legal-more : (es : List Entry) (e : Entry) → Legal es → Step es e → Legal (es ++ e ∷ [])
 unfolding Legal
 Legal-more es e legal step = LegalAfter-more [] es e legal step
-
--- one entry counts at most one failed attempt more
-one_more : (st : JobState) (index : ℕ) (e : Event) → failures (job_state_after st index e) ≤ failures st + 1
-one_more st index (Applied object mode) = omega arith
-one_more st index (Deleted target) = omega arith
-one_more st index (Reserved pod plan) = omega arith
-one_more st index (Refused pod plan why) = omega arith
-one_more st index (Wrote pod claim seen) = omega arith
-one_more st index (Conflict pod claim had now) = omega arith
-one_more st index (Unreserved pod) = omega arith
-one_more st index (Bound pod node) = omega arith
-one_more st index (VerdictGiven pod verdict) = omega arith
-one_more st index (Contended pod attempts) = omega arith
-one_more st index (Released pod) = omega arith
-one_more st index (Adopted claim status) = omega arith
-one_more st index (Denied command refusal) = omega arith
-
-more_by : (st : JobState) (index : ℕ) (e : Event) (b : Bool) → failures (cond b (job_state_after st index e) st) ≤ failures st + 1
-more_by st index e true = one_more st index e
-more_by st index e false = omega arith
-
-failures_along : (job : ℕ) (st : JobState) (n : ℕ) (es : List Entry) → failures (told (next_job_state job) st n es) ≤ failures st + length es
-unfolding told
-failures_along job st n [] = omega arith
-failures_along job st n (e ∷ es) =
-    let first = more_by st (n + 1) e.event (eqb e.job job) in
-    let rest = failures_along job (next_job_state job st (n + 1) e) (n + 1) es in
-    omega (arith, first, rest)
-
--- a job has failed at most as often as there are entries
-pub failures_within : (h : List Entry) (job : ℕ) → failures (job_state_of h job) ≤ length h
-unfolding job_state_of
-failures_within h job = let along = failures_along job Fresh 0 h in omega (arith, along)
