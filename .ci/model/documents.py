@@ -1,6 +1,7 @@
 """Documents of a script, and the commands that they ask for."""
 
 import json
+from dataclasses import dataclass
 
 import fields
 from jobs import Apply, Delete, Invalid, Release, Schedule
@@ -24,6 +25,31 @@ class NoCommand(Exception):
 
 class NotYet(Exception):
     """A command that isn't supported yet."""
+
+
+# What a document may ask for beside commands
+
+
+@dataclass
+class Together:
+    """Commands that run at once."""
+
+    commands: list
+
+
+@dataclass
+class Prepare:
+    pod: Key
+
+
+@dataclass
+class Unprepare:
+    pod: Key
+
+
+@dataclass
+class Reopen:
+    pass
 
 
 # JSON: the last of several members of one name counts; a number is a whole number of 64 bits if it is written as one
@@ -138,9 +164,9 @@ def items_of(document, member):
     return items
 
 
-def commands_of(document):
-    """The commands of a JSON value: one, or one for each item of a List. With a member that isn't allowed in it a List or
-    a Together is no command."""
+def asked_by(document):
+    """What a JSON value asks for: one thing, or one for each item of a List. With a member that isn't allowed in it a
+    List or a Together is no command."""
     form = form_of(document)
     if form == ("v1", "List"):
         items = items_of(document, "items")
@@ -148,15 +174,30 @@ def commands_of(document):
             raise NoCommand
         return [object_command(item) for item in items]
     if form == ("dra.replay/v1", "Together"):
-        items = items_of(document, "commands")
-        for item in items:
-            single_command(item)
-        if not 1 <= len(items) <= MOST_TOGETHER:
+        commands = [single_command(item) for item in items_of(document, "commands")]
+        if not 1 <= len(commands) <= MOST_TOGETHER:
             raise NoCommand
-        raise NotYet
-    if form in (("dra.replay/v1", "Prepare"), ("dra.replay/v1", "Unprepare")):
-        key_of(document)
-        raise NotYet
+        return [Together(commands)]
+    if form == ("dra.replay/v1", "Prepare"):
+        return [Prepare(key_of(document))]
+    if form == ("dra.replay/v1", "Unprepare"):
+        return [Unprepare(key_of(document))]
     if form == ("dra.replay/v1", "Reopen"):
-        raise NotYet
+        return [Reopen()]
     return [single_command(document)]
+
+
+def supported_by(document):
+    """What a JSON value asks for that a replay does: commands, each of which runs by itself, and Togethers."""
+    asked = asked_by(document)
+    if any(isinstance(one, (Prepare, Unprepare, Reopen)) for one in asked):
+        raise NotYet
+    return asked
+
+
+def commands_of(document):
+    """The commands of a JSON value, each of which runs by itself."""
+    asked = supported_by(document)
+    if any(isinstance(one, Together) for one in asked):
+        raise NotYet
+    return asked

@@ -137,6 +137,72 @@ def refusal_of_status(state, status):
     return f"Failure {failure}" if failure else None
 
 
+def refusal_of_single(state, command, job):
+    """The first refusal of a command that isn't a Schedule."""
+    if isinstance(command, Invalid):
+        return f"Invalid {command.error}"
+    if isinstance(command, Apply):
+        return refusal_of_apply(state, command)
+    if isinstance(command, Delete):
+        return refusal_of_delete(state, command)
+    if isinstance(command, Release):
+        return refusal_of_release(state, command.pod, job)
+    return refusal_of_status(state, command.status)
+
+
+# Entries: what follows from the state alone, as the kind and the rest of a line, and what it changes
+
+
+def single_entry(state, command, job):
+    """The one entry of a command that isn't a Schedule."""
+    refusal = refusal_of_single(state, command, job)
+    if refusal:
+        return "denied", refusal
+    if isinstance(command, Apply):
+        return "applied", f"{command.object.kind} {command.object.metadata.key}"
+    if isinstance(command, Delete):
+        return "deleted", f"{command.kind} {command.key}"
+    if isinstance(command, Release):
+        return "released", str(command.pod)
+    key = command.status.metadata.key
+    grants = journal.grants_text([(key, command.status.results)])
+    return "adopted", f"{key} {command.status.node} grants={grants}"
+
+
+def change_by_single(state, command, at):
+    """What the entry at that index changes, unless the command is denied."""
+    if isinstance(command, Apply):
+        state.put(command.object, at)
+    elif isinstance(command, Delete):
+        state.take_away(command.kind, command.key)
+    elif isinstance(command, Release):
+        state.give_up(command.pod, at)
+    else:
+        status = command.status
+        state.adopt(status.metadata.key, status.node, status.results, at)
+
+
+def entry_of_taken(state, pod):
+    """What is next for a pod that a job has taken: its first use that isn't written is written, or is in conflict if
+    the claim has another version than the job reserved; else the pod is bound."""
+    for claim in state.claims_of_pod(pod):
+        use, now = state.claims[claim].users[pod], state.claims[claim].version
+        if use == now:
+            return "wrote", f"{pod} {claim} seen={now}"
+        if use != WRITTEN:
+            return "conflict", f"{pod} {claim} had={use} now={now}"
+    return "bound", f"{pod} {state.pods[pod].phase.node}"
+
+
+def change_by_taken(state, pod, kind, at):
+    """What that entry changes."""
+    if kind == "wrote":
+        unwritten = [claim for claim in state.claims_of_pod(pod) if state.claims[claim].users[pod] != WRITTEN]
+        state.write(pod, unwritten[0], at)
+    elif kind == "bound":
+        state.bind(pod)
+
+
 # What a search finds
 
 
@@ -217,19 +283,15 @@ class Job:
         self.end = None
         self.failed = 0
         self.found = None
+        self.has_searched = False
         self.conflicted = False
 
     def step(self, history):
         """One step of the core. It changes nothing if the history is full."""
-        steps = {
-            Invalid: self.step_of_invalid,
-            Apply: self.step_of_apply,
-            Delete: self.step_of_delete,
-            Release: self.step_of_release,
-            WriteStatus: self.step_of_status,
-            Schedule: self.step_of_schedule,
-        }
-        steps[type(self.command)](history, history.state)
+        if isinstance(self.command, Schedule):
+            self.step_of_schedule(history, history.state)
+        else:
+            self.step_of_single(history, history.state)
 
     def run(self, history):
         """All steps of the job, one after another."""
@@ -239,40 +301,11 @@ class Job:
     def deny(self, history, refusal):
         self.end = history.append(self.number, "denied", refusal)
 
-    def step_of_invalid(self, history, _):
-        self.deny(history, f"Invalid {self.command.error}")
-
-    def step_of_apply(self, history, state):
-        new = self.command.object
-        refusal = refusal_of_apply(state, self.command)
-        if refusal:
-            return self.deny(history, refusal)
-        self.end = history.append(self.number, "applied", f"{new.kind} {new.metadata.key}")
-        state.put(new, self.end)
-
-    def step_of_delete(self, history, state):
-        refusal = refusal_of_delete(state, self.command)
-        if refusal:
-            return self.deny(history, refusal)
-        self.end = history.append(self.number, "deleted", f"{self.command.kind} {self.command.key}")
-        state.take_away(self.command.kind, self.command.key)
-
-    def step_of_release(self, history, state):
-        refusal = refusal_of_release(state, self.command.pod, self.number)
-        if refusal:
-            return self.deny(history, refusal)
-        self.end = history.append(self.number, "released", str(self.command.pod))
-        state.give_up(self.command.pod, self.end)
-
-    def step_of_status(self, history, state):
-        status = self.command.status
-        key = status.metadata.key
-        refusal = refusal_of_status(state, status)
-        if refusal:
-            return self.deny(history, refusal)
-        grants = journal.grants_text([(key, status.results)])
-        self.end = history.append(self.number, "adopted", f"{key} {status.node} grants={grants}")
-        state.adopt(key, status.node, status.results, self.end)
+    def step_of_single(self, history, state):
+        kind, rest = single_entry(state, self.command, self.number)
+        self.end = history.append(self.number, kind, rest)
+        if kind != "denied":
+            change_by_single(state, self.command, self.end)
 
     def step_of_schedule(self, history, state):
         pod = self.command.pod
@@ -295,6 +328,7 @@ class Job:
         if refusal:
             return self.deny(history, refusal)
         self.found = search(state, pod, len(history.lines), self.budget)
+        self.has_searched = True
 
     def step_of_reserve(self, history, state, pod):
         plan, text = self.found.plan, self.found.text
@@ -311,18 +345,11 @@ class Job:
         self.found = None
 
     def step_of_writes(self, history, state, pod):
-        for claim in state.claims_of_pod(pod):
-            use, now = state.claims[claim].users[pod], state.claims[claim].version
-            if use == WRITTEN:
-                continue
-            if use == now:
-                state.write(pod, claim, history.append(self.number, "wrote", f"{pod} {claim} seen={now}"))
-            else:
-                history.append(self.number, "conflict", f"{pod} {claim} had={use} now={now}")
-                self.conflicted = True
-            return
-        self.end = history.append(self.number, "bound", f"{pod} {state.pods[pod].phase.node}")
-        state.bind(pod)
+        kind, rest = entry_of_taken(state, pod)
+        at = history.append(self.number, kind, rest)
+        change_by_taken(state, pod, kind, at)
+        self.conflicted = kind == "conflict"
+        self.end = at if kind == "bound" else None
 
     def step_of_unreserve(self, history, state, pod):
         state.give_up(pod, history.append(self.number, "unreserved", str(pod)))

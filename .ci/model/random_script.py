@@ -29,7 +29,13 @@ def selectors(texts):
 
 
 class Generator:
-    """Random documents. There are at most four nodes and slices, eight claims and ten pods."""
+    """Random documents. There are at most four nodes, and as many slices, devices of each, claims and pods as is said
+    here, at most."""
+
+    slices = 4
+    devices = (1, 4)
+    claims = 8
+    pods = 10
 
     def __init__(self, seed):
         self.random = random.Random(seed)
@@ -41,6 +47,10 @@ class Generator:
 
     def pick(self, items):
         return self.random.choice(items)
+
+    def one_of(self, letter, count):
+        """A name of a letter and a number below the count."""
+        return f"{letter}{self.random.randrange(count)}"
 
     def node(self, number):
         labels = {"zone": self.pick("ab")}
@@ -74,7 +84,7 @@ class Generator:
     def slice(self, number, first=False):
         spec = {"driver": DRIVER, "pool": self.pool(number, first)}
         counted = number < 2 or self.chance(3)
-        spec["devices"] = [self.device(i, counted) for i in range(self.random.randint(1, 4))]
+        spec["devices"] = [self.device(i, counted) for i in range(self.random.randint(*self.devices))]
         spec |= {"allNodes": True} if self.chance(30) else {"nodeName": f"n{number % self.nodes}"}
         return document("resource.k8s.io/v1", "ResourceSlice", f"s{number}", spec=spec)
 
@@ -109,7 +119,7 @@ class Generator:
         return document("resource.k8s.io/v1", "ResourceClaim", f"c{number}", "default", spec={"devices": devices})
 
     def pod(self, number):
-        names = [f"c{self.random.randrange(8)}" for _ in range(self.pick((0, 1, 1, 1, 2, 2)))]
+        names = [self.one_of("c", self.claims) for _ in range(self.pick((0, 1, 1, 1, 2, 2)))]
         entries = [{"name": f"e{i}", "resourceClaimName": name} for i, name in enumerate(names)]
         return document("v1", "Pod", f"p{number}", "default", spec={"resourceClaims": entries})
 
@@ -125,8 +135,8 @@ class Generator:
 
     def delete(self):
         kind, name = self.pick(
-            [("Pod", f"p{self.random.randrange(10)}"), ("ResourceClaim", f"c{self.random.randrange(8)}")] * 3
-            + [("ResourceSlice", f"s{self.random.randrange(4)}"), ("ResourceSlice", f"c{self.random.randrange(2)}")]
+            [("Pod", self.one_of("p", self.pods)), ("ResourceClaim", self.one_of("c", self.claims))] * 3
+            + [("ResourceSlice", self.one_of("s", self.slices)), ("ResourceSlice", self.one_of("c", 2))]
             + [("Node", "n0"), ("DeviceClass", self.pick(CLASSES))]
         )
         return self.command("Delete", name, target=kind)
@@ -135,11 +145,11 @@ class Generator:
         """A command; Schedules and Releases come most often."""
         return self.random.choices(
             (
-                lambda: self.same_or_new(self.claim, self.random.randrange(8)),
-                lambda: self.same_or_new(self.pod, self.random.randrange(10)),
-                lambda: self.command("Schedule", f"p{self.random.randrange(11)}"),
-                lambda: self.command("Release", f"p{self.random.randrange(11)}"),
-                lambda: self.slice(self.random.randrange(4)),
+                lambda: self.same_or_new(self.claim, self.random.randrange(self.claims)),
+                lambda: self.same_or_new(self.pod, self.random.randrange(self.pods)),
+                lambda: self.command("Schedule", self.one_of("p", self.pods + 1)),
+                lambda: self.command("Release", self.one_of("p", self.pods + 1)),
+                lambda: self.slice(self.random.randrange(self.slices)),
                 lambda: self.counters(self.random.randrange(2)),
                 lambda: self.node(self.random.randrange(self.nodes + 1)),
                 self.delete,

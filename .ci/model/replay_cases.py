@@ -7,9 +7,10 @@ usage: python3 .ci/model/replay_cases.py < crates/replay_cases/stdin
 import sys
 
 from containers import Container, print_case
-from script import Input, Output, ReadFailed, replay
+from script import Input, Output, ReadFailed, Workers, replay
 
 PLAIN = {
+    "workers": 1,
     "entries": 10**6,
     "budget": 100_000,
     "attempts": 32,
@@ -17,6 +18,10 @@ PLAIN = {
     "takes": None,
     "fail-read": 0,
     "fail-write": 0,
+    "held": 0,
+    "reserved": 0,
+    "until": 0,
+    "turns": 100_000_000,
 }
 
 
@@ -26,10 +31,12 @@ class Outcome:
     def __init__(self, script, options):
         source = Input(script, options["pieces"], options["fail-read"])
         output = Output(options["takes"], options["fail-write"])
-        status = replay(source, output, options["budget"], options["attempts"], options["entries"])
+        workers = Workers(options["workers"], options["held"], options["reserved"] != 0, options["until"])
+        status = replay(source, output, options["budget"], options["attempts"], options["entries"], workers)
         self.reads = source.reads
         self.writes = output.writes
-        self.head = f"{status}, faults {source.faults} {output.faults}".encode()
+        waited = ", waited in vain" if workers.in_vain else ""
+        self.head = f"{status}, faults {source.faults} {output.faults}{waited}".encode()
         self.left = left_in(source).encode()
         self.content = output.content
 

@@ -3,7 +3,7 @@ as it is complete; the lines of each command go out in one write, and the summar
 
 from functools import lru_cache
 
-from documents import NoCommand, NotYet, commands_of, read_json
+from documents import NoCommand, NotYet, Together, read_json, supported_by
 from jobs import History, HistoryFull, Job
 
 BLANKS = b" \t\r\n"
@@ -116,25 +116,63 @@ def documents(source):
 def commands(document):
     """The commands of a document, or the class of what it is instead."""
     try:
-        return commands_of(read_json(document))
+        return supported_by(read_json(document))
     except (NoCommand, NotYet) as other:
         return type(other)
 
 
-def do_command(history, job, output):
-    """Does a command, and writes its lines, also those of a command that met the limit of entries."""
+class Workers:
+    """How many workers do the commands of a Together, and the two jobs of which `until` waits where it has searched until
+    `held` has, or has reserved, and `held` there until `until` has ended. `in_vain` says that one waited in vain."""
+
+    def __init__(self, count=1, held=0, reserved=False, until=0):
+        self.count = count
+        self.held = held
+        self.reserved = reserved
+        self.until = until
+        self.in_vain = False
+
+    def order(self, jobs):
+        """The jobs in the order in which one after another runs to its end, and the one that is held before, where that is
+        determined: by one worker, or for two jobs of two workers of which one is held."""
+        if self.count == 1 or len(jobs) == 1:
+            return jobs, None
+        held, until = sorted(jobs, key=lambda job: job.number != self.held)
+        if (held.number, until.number) != (self.held, self.until):
+            raise ValueError("the order of these jobs isn't determined")
+        return [until, held], held
+
+    def run(self, history, jobs):
+        """Runs the jobs to their ends, and says whether one met the limit of entries."""
+        jobs, first = self.order(jobs)
+        if first:
+            first.step(history)
+        if first and self.reserved:
+            first.step(history)
+        return any([self.runs_full(history, job, jobs) for job in jobs])
+
+    def runs_full(self, history, job, jobs):
+        """Runs a job to its end, and says whether it met the limit of entries."""
+        waits = job.number == self.held and not any(other.end for other in jobs if other.number == self.until)
+        try:
+            job.run(history)
+        except HistoryFull:
+            return True
+        finally:
+            self.in_vain |= waits and job.has_searched
+        return False
+
+
+def do_commands(history, workers, jobs, output):
+    """Does commands beside each other, and writes their lines, also where one met the limit of entries."""
     before = len(history.lines)
-    try:
-        job.run(history)
-        full = False
-    except HistoryFull:
-        full = True
+    full = workers.run(history, jobs)
     output.write_all("".join(history.lines[before:]))
     if full:
         raise Ended(8, "limit", len(history.lines))
 
 
-def replay_all(source, output, budget, attempts, entries):
+def replay_all(source, output, workers, how, entries):
     """Does all commands of a script, each as the job of its number, and writes the summary."""
     history = History(entries)
     number = 0
@@ -145,15 +183,16 @@ def replay_all(source, output, budget, attempts, entries):
         if found is NotYet:
             raise Ended(11, "not-yet", at)
         for command in found:
-            number += 1
-            do_command(history, Job(number, command, budget, attempts), output)
+            members = command.commands if isinstance(command, Together) else [command]
+            do_commands(history, workers, [Job(number + i, member, *how) for i, member in enumerate(members, 1)], output)
+            number += len(members)
     output.write_all(history.summary(number))
 
 
-def replay(source, output, budget, attempts, entries):
+def replay(source, output, budget, attempts, entries, workers=None):
     """Replays a script, and returns the text of the status."""
     try:
-        replay_all(source, output, budget, attempts, entries)
+        replay_all(source, output, workers or Workers(), (budget, attempts), entries)
     except Ended as end:
         return " ".join(map(str, end.args))
     except ReadFailed:

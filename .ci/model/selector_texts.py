@@ -1,4 +1,4 @@
-"""The selectors of the cases. This is no reader of the selector language, of which `selector_cases` has cases of its
+"""The selectors of the cases. This is no reader of the selector language, of which `value_cases` has cases of its
 own: here is each form of text with what it evaluates to, worked out by hand. A case with another text is left out."""
 
 import re

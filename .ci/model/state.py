@@ -1,7 +1,7 @@
 """The state of a cluster: its objects with their uids and versions, who was granted what, and the phases of pods. A
 uid and a version are the index of the entry that created the object, or that changed it last."""
 
-from dataclasses import dataclass, field
+from dataclasses import dataclass, field, replace
 
 from objects import NAMESPACED
 from values import Key
@@ -56,8 +56,16 @@ STORED = {"ResourceClaim": StoredClaim, "Pod": StoredPod}
 
 
 class State:
+    """The tables of objects. A change puts another object in the place of the one that is stored."""
+
     def __init__(self):
         self.tables = {kind: {} for kind in ("Node", "ResourceSlice", "DeviceClass", "ResourceClaim", "Pod")}
+
+    def copy(self):
+        """The state as it is now, which later changes leave as it is."""
+        other = State()
+        other.tables = {kind: dict(table) for kind, table in self.tables.items()}
+        return other
 
     @property
     def claims(self):
@@ -132,47 +140,53 @@ class State:
         table = self.tables[new.kind]
         key = new.metadata.key
         if key in table:
-            table[key].object = new
-            table[key].version = at
+            table[key] = replace(table[key], object=new, version=at)
         else:
             table[key] = STORED.get(new.kind, Stored)(new, at, at)
 
     def take_away(self, kind, key):
         del self.tables[kind][key]
 
+    def change_claim(self, key, **changes):
+        self.claims[key] = replace(self.claims[key], **changes)
+
+    def change_phase(self, pod, phase):
+        self.pods[pod] = replace(self.pods[pod], phase=phase)
+
+    def use(self, pod, claim, use):
+        """Makes the pod a user of a claim, or its use another one."""
+        self.change_claim(claim, users={**self.claims[claim].users, pod: use})
+
     def reserve(self, pod, job, node, grants):
         """Makes the grants, makes the pod an assumed user of all its claims, and takes the pod."""
         for claim, results in grants:
-            self.claims[claim].grant = Grant(node, results)
+            self.change_claim(claim, grant=Grant(node, results))
         for claim in self.claims_of_pod(pod):
-            self.claims[claim].users[pod] = self.claims[claim].version
-        self.pods[pod].phase = Taken(job, node)
+            self.use(pod, claim, self.claims[claim].version)
+        self.change_phase(pod, Taken(job, node))
 
     def write(self, pod, claim, at):
         """Writes the pod's use of a claim."""
-        self.claims[claim].users[pod] = WRITTEN
-        self.claims[claim].version = at
+        self.use(pod, claim, WRITTEN)
+        self.change_claim(claim, version=at)
 
     def give_up(self, pod, at):
         """Takes the pod's uses away. A claim whose written use goes has another version, and the last user of a claim
         takes its grant along."""
-        for claim in self.claims.values():
-            use = claim.users.pop(pod, None)
-            if use is None:
+        for key, claim in list(self.claims.items()):
+            if pod not in claim.users:
                 continue
-            if use == WRITTEN:
-                claim.version = at
-            if not claim.users:
-                claim.grant = None
-        self.pods[pod].phase = None
+            users = {user: use for user, use in claim.users.items() if user != pod}
+            version = at if claim.users[pod] == WRITTEN else claim.version
+            self.change_claim(key, users=users, version=version, grant=claim.grant if users else None)
+        self.change_phase(pod, None)
 
     def bind(self, pod):
-        self.pods[pod].phase = Bound(self.pods[pod].phase.node)
+        self.change_phase(pod, Bound(self.pods[pod].phase.node))
 
     def adopt(self, claim, node, results, at):
         """Makes the grant that a write of the claim's status asks for."""
-        self.claims[claim].grant = Grant(node, results)
-        self.claims[claim].version = at
+        self.change_claim(claim, grant=Grant(node, results), version=at)
 
 
 def key_for(kind, namespace, name):

@@ -9,6 +9,7 @@ pub mod Breaking
 pub mod Counting
 pub mod Summing
 pub mod Totalled
+pub mod Added
 pub mod Alike
 pub mod Ordered
 pub mod Checked

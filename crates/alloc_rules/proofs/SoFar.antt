@@ -18,11 +18,6 @@ pub record HeldSoFar (holders own : Holders) (ds done left : List DueFields) : T
   pub found : (w : SearchInput) (pairs : List (DeviceId × Key)) → AreHeld holders pairs → held_from pairs (map (due_seen w) done) (map (due_seen w) left) ≡ held pairs (map (due_seen w) ds)
   pub kept : (w : SearchInput) → AreHeld own (pairs_of (map (due_seen w) done))
 
--- with the devices of those done, which were held by nobody, as those of the rest are
-pub record PutSoFar (old now : Holders) (ds done left : List DueFields) : Type 0 where
-  pub free : (w : SearchInput) (pairs : List (DeviceId × Key)) → held pairs (map (due_seen w) ds) ≡ None → held_from pairs (map (due_seen w) done) (map (due_seen w) left) ≡ None
-  pub kept : (w : SearchInput) (pairs : List (DeviceId × Key)) → AreHeld old pairs → held pairs (map (due_seen w) ds) ≡ None → AreHeld now (pairs ++ pairs_of (map (due_seen w) done))
-
 -- ---- holders of pairs
 
 cond_else : (b : Bool) (k : Key) (o p : Option Key) → or_else (cond b (Some k) o) p ≡ cond b (Some k) (or_else o p)
@@ -106,7 +101,7 @@ held_here holders own ds i d f w pairs h e k s a =
     (sym (k ∙ decides_among pairs (map (due_seen w) (take i ds)) holders own (due_seen w d) a (s.kept w))))
     ∙ s.found w pairs a
 
--- ---- one more is put
+-- ---- none
 
 -- none is the first of two that are none
 pub first_none : (o p : Option Failure) → or_else o p ≡ None → o ≡ None
@@ -116,18 +111,3 @@ first_none (Some f) p e = absurd (cc)
 pub later_none : (o p : Option Failure) → or_else o p ≡ None → p ≡ None
 later_none None p e = e
 later_none (Some f) p e = absurd (cc)
-
-pub put_next : (old now new : Holders) (ds : List DueFields) (i : ℕ) (d : DueFields) → i < length ds → d ≡ get_or ds i d
-    → ((w : SearchInput) (pairs : List (DeviceId × Key)) → AreHeld now pairs → held_in now (due_seen w d) ≡ None → AreHeld new (pairs ++ pairs_of (due_seen w d ∷ [])))
-    → PutSoFar old now ds (take i ds) (drop i ds) → PutSoFar old new ds (take (i + 1) ds) (drop (i + 1) ds)
-put_next old now new ds i d h e g s = record {
-  free = λ w pairs n.
-      later_none (held_behind pairs (map (due_seen w) (take i ds)) (due_seen w d)) (held_from pairs (map (due_seen w) (take (i + 1) ds)) (map (due_seen w) (drop (i + 1) ds)))
-      (sym (parts w pairs ds i d h e) ∙ s.free w pairs n);
-  kept = λ w pairs a n.
-      rw (seen_next w ds i d h e, pairs_end (map (due_seen w) (take i ds)) (due_seen w d), ← append_assoc pairs (pairs_of (map (due_seen w) (take i ds))) (pairs_of (due_seen w d ∷ [])))
-      (g w (pairs ++ pairs_of (map (due_seen w) (take i ds))) (s.kept w pairs a n)
-      (decides pairs (map (due_seen w) (take i ds)) now (due_seen w d) (s.kept w pairs a n)
-      ∙ first_none (held_behind pairs (map (due_seen w) (take i ds)) (due_seen w d)) (held_from pairs (map (due_seen w) (take (i + 1) ds)) (map (due_seen w) (drop (i + 1) ds)))
-      (sym (parts w pairs ds i d h e) ∙ s.free w pairs n)));
-}

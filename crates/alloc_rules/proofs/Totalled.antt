@@ -51,7 +51,7 @@ pub record Drawing (i : Inventory) (w : SearchInput) (c : CounterId) (d : Due) :
   pub on : DrawsOn i d device
   pub amount_is : amount c (draws w (pick_of w d)) ≡ cond d.result.admin 0 (drawn_from c device)
 
-due_sum : (i : Inventory) (w : SearchInput) (pairs : List (DeviceId × Key)) (c : CounterId) (before ds : List Due) → ((j : ℕ) (d : Due) → slice_get ds j ≡ Some d → Drawing i w c d) → held_from pairs before ds ≡ None
+pub due_sum : (i : Inventory) (w : SearchInput) (pairs : List (DeviceId × Key)) (c : CounterId) (before ds : List Due) → ((j : ℕ) (d : Due) → slice_get ds j ≡ Some d → Drawing i w c d) → held_from pairs before ds ≡ None
     → drawn (usable_slices i) (pairs ++ pairs_of (before ++ ds)) c ≡ drawn (usable_slices i) (pairs ++ pairs_of before) c + sum_by (λ p. amount c (draws w p)) (map (pick_of w) ds)
 due_sum i w pairs c before [] h none =
     let e : drawn (usable_slices i) (pairs ++ pairs_of (before ++ [])) c ≡ drawn (usable_slices i) (pairs ++ pairs_of before) c = ap (λ (l : List Due). drawn (usable_slices i) (pairs ++ pairs_of l) c) (append-nil before) in
@@ -71,12 +71,12 @@ due_sum i w pairs c before (d ∷ ds) h none =
 -- ---- the device of one result
 
 -- the device at the position of an id
-record PlacedAt (n : ℕ) (id : DeviceId) (os : List Offered) (x : ℕ) : Type 0 where
-  place : ℕ
-  device : Offered
-  sum : x ≡ n + place
-  at : slice_get os place ≡ Some device
-  is : device_eq (id_in device) id ≡ true
+pub record PlacedAt (n : ℕ) (id : DeviceId) (os : List Offered) (x : ℕ) : Type 0 where
+  pub place : ℕ
+  pub device : Offered
+  pub sum : x ≡ n + place
+  pub at : slice_get os place ≡ Some device
+  pub is : device_eq (id_in device) id ≡ true
 
 placed_if : (n : ℕ) (id : DeviceId) (o : Offered) (os : List Offered) (x : ℕ) (b : Bool) → device_eq (id_in o) id ≡ b → cond b (Some n) (position_from (n + 1) id os) ≡ Some x → (position_from (n + 1) id os ≡ Some x → PlacedAt (n + 1) id os x)
     → PlacedAt n id (o ∷ os) x
@@ -93,7 +93,7 @@ placed_by : (w : SearchInput) (r : DeviceResult) (x : ℕ) (o : Option ℕ) → 
 placed_by w r x None e f h = absurd (omega (arith, f, h))
 placed_by w r x (Some y) e f h = e ∙ ap (λ (n : ℕ). Some n) (sym f)
 
-due_at : (w : SearchInput) (d : DueFields) → IsDue w d → PlacedAt 0 d.result.device w.devices d.position
+pub due_at : (w : SearchInput) (d : DueFields) → IsDue w d → PlacedAt 0 d.result.device w.devices d.position
 due_at w d h = placed_at 0 d.result.device w.devices d.position (placed_by w d.result d.position (position_of d.result.device w.devices) refl h.position h.on_node)
 
 in_map : {X Y : Type 0} (f : X → Y) (xs : List X) (x : X) → Contains xs x → Contains (map f xs) (f x)
@@ -104,7 +104,7 @@ in_flat f [] i x y e h = absurd (cc)
 in_flat f (z ∷ xs) zero x y e h = let same : z ≡ x = cc in Contains-append_left (f z) (flat_map f xs) y (subst (λ q. Contains (f q) y) (sym same) h)
 in_flat f (z ∷ xs) (suc i) x y e h = Contains-append_right (f z) (flat_map f xs) y (in_flat f xs i x y e h)
 
-offered_in : (i : Inventory) (o : Offered) → Contains (usable_slices i) o.slice → Contains o.slice.devices o.device → Contains (usable_devices i) o
+pub offered_in : (i : Inventory) (o : Offered) → Contains (usable_slices i) o.slice → Contains o.slice.devices o.device → Contains (usable_devices i) o
 unfolding usable_devices
 offered_in i o h k = in_flat offers (usable_slices i) h.0 o.slice o (at_place (usable_slices i) o.slice h) (in_map (offered_by o.slice) o.slice.devices o.device k)
 
@@ -112,7 +112,7 @@ offered_in i o h k = in_flat offers (usable_slices i) h.0 o.slice o (at_place (u
 abbrev pub IdsDiffer : Inventory → Type 0
 IdsDiffer i = (n m : ℕ) (o p : Offered) → slice_get (usable_devices i) n ≡ Some o → slice_get (usable_devices i) m ≡ Some p → id_in o ≡ id_in p → n ≡ m
 
-alone_in : (i : Inventory) (o : Offered) → IdsDiffer i → Contains (usable_devices i) o → IsAlone i o
+pub alone_in : (i : Inventory) (o : Offered) → IdsDiffer i → Contains (usable_devices i) o → IsAlone i o
 alone_in i o ids h = record { place = h.0; at = at_place (usable_devices i) o h; alone = λ n p e same. ids h.0 n o p (at_place (usable_devices i) o h) e same }
 
 amount_by : (w : SearchInput) (p : Pick) (o : Offered) (c : CounterId) (admin b : Bool) → p.label.admin ≡ b → admin ≡ b → slice_get w.devices p.position ≡ Some o → amount c (draws w p) ≡ cond admin 0 (drawn_from c o)
@@ -137,7 +137,7 @@ drawing i v w c d same listed ids h =
 
 -- ---- all of it
 
-drawing_at : (i : Inventory) (v w : SearchInput) (c : CounterId) (ds : List DueFields) → w.devices ≡ v.devices → AreListed v.devices (usable_slices i) → IdsDiffer i → Each (IsDue v) ds → (j : ℕ) (d : Due) → slice_get (map (due_seen v) ds) j ≡ Some d → Drawing i w c d
+pub drawing_at : (i : Inventory) (v w : SearchInput) (c : CounterId) (ds : List DueFields) → w.devices ≡ v.devices → AreListed v.devices (usable_slices i) → IdsDiffer i → Each (IsDue v) ds → (j : ℕ) (d : Due) → slice_get (map (due_seen v) ds) j ≡ Some d → Drawing i w c d
 drawing_at i v w c [] same listed ids each j d e = absurd (cc)
 drawing_at i v w c (x ∷ ds) same listed ids each zero d e = let is : due_seen v x ≡ d = cc in subst (Drawing i w c) is (drawing i v w c x same listed ids (each 0 x refl))
 drawing_at i v w c (x ∷ ds) same listed ids each (suc j) d e = drawing_at i v w c ds same listed ids (λ k y f. each (suc k) y f) j d e
@@ -160,7 +160,7 @@ held_alone pairs before (d ∷ ds) e =
 pub free_alone : (pairs : List (DeviceId × Key)) (ds : List Due) → held pairs ds ≡ None → held [] ds ≡ None
 free_alone pairs ds e = held_alone pairs [] ds e
 
-results_sum : (i : Inventory) (v w : SearchInput) (c : CounterId) (ds : List DueFields) (pairs : List (DeviceId × Key)) → w.devices ≡ v.devices → AreListed v.devices (usable_slices i) → IdsDiffer i → Each (IsDue v) ds → held pairs (map (due_seen v) ds) ≡ None
+pub results_sum : (i : Inventory) (v w : SearchInput) (c : CounterId) (ds : List DueFields) (pairs : List (DeviceId × Key)) → w.devices ≡ v.devices → AreListed v.devices (usable_slices i) → IdsDiffer i → Each (IsDue v) ds → held pairs (map (due_seen v) ds) ≡ None
     → drawn (usable_slices i) (pairs_of (map (due_seen v) ds)) c ≡ sum_by (λ p. amount c (draws w p)) (map (pick_of w) (map (due_seen v) ds))
 results_sum i v w c ds pairs same listed ids each free =
     let whole : drawn (usable_slices i) (pairs_of (map (due_seen v) ds)) c ≡ drawn (usable_slices i) [] c + sum_by (λ p. amount c (draws w p)) (map (pick_of w) (map (due_seen v) ds)) =

@@ -4,17 +4,18 @@ ghost use Rattle.allocations.specs.Input.{input_of};
 ghost use Rattle.cluster.specs.Held.{held};
 ghost use Rattle.pool_view.specs.Names.{at_key};
 ghost use Rattle.request_rules.specs.Lists.{Each};
-ghost use Rattle.pool_totals.specs.Drawn.{AreDrawnByBoth};
+ghost use Rattle.pool_totals.specs.Counting.{AreCounted};
 ghost use Rattle.request_rows.specs.Wanted as wanting;
 ghost use Rattle.plan_rules.specs.Failing as spec;
 ghost use Rattle.plan_rules.specs.Chosen.{pick_of};
-ghost use Rattle.alloc_rules.specs.Rows.{AreByClaim, AreRowsOf, IsDue, IsViewOf, due_seen, pairs_of};
+ghost use Rattle.alloc_rules.specs.Rows.{AreByClaim, AreRowsOf, IsDue, IsViewOf, due_seen};
 ghost use Rattle.plan_rules.specs.Standing as standing;
 
 use crate::agreeing::constraint_broken;
 use crate::counters::{counter_short, draws_any};
+use crate::drawing::totals_with;
 use crate::due::Due;
-use crate::holding::{held, put_all};
+use crate::holding::held;
 use crate::known::{changed, claim_full, claim_gone};
 use crate::naming::Named;
 use crate::results::{device_gone, selector_fault, selector_no, tainted};
@@ -25,41 +26,24 @@ use counter_sets::{Held, Totals};
 use dra_values::{Seq, Text};
 use node_inputs::{devices_differ, wanted_claims};
 use object_fields::Key;
-use pool_totals::totals_of_both;
 use pool_view::{PoolView, usable_slices_differ};
 use ready_objects::ReadyClaim;
 use request_rows::{Rows, WantedClaim, Wants};
 use std::alloc::{AllocError, Global};
 
-/// The counters of the usable pools, with what is drawn by the devices that claims hold, and by those of the
-/// results, which nobody holds.
-fn totals_with<'a>(
-    alloc: Global,
-    state: &State,
-    holders: &Held,
-    rows: &'a Rows<'a>,
-    dues: &[Due],
-) -> Result<Totals, AllocError>
-    requires holders { AreHeld holders.now (held state.now) }
-    requires free { standing.held (held state.now) (map (due_seen (wanting.input_of rows.now)) dues.now) ≡ None }
-    ensures { IfOk result (AreDrawnByBoth state.now.inventory (held state.now) (pairs_of (map (due_seen (wanting.input_of rows.now)) dues.now))) }
-{
-    let mut own = Held::new(alloc);
-    put_all(alloc, &mut own, dues)?;
-    totals_of_both(alloc, &state.inventory, holders, &own)
-}
-
-/// The first counter that doesn't have enough for the results, whose devices nobody holds. If one of them
-/// draws on a counter, it takes two passes over the slices of usable pools that counters are about.
+/// The first counter that doesn't have enough for the results, whose devices nobody holds. Only if one of them
+/// draws on a counter are the totals copied.
 fn failing_counters<'a>(
     alloc: Global,
     state: &State,
     holders: &Held,
+    totals: &Totals,
     rows: &'a Rows<'a>,
     node: &Text,
     dues: &[Due],
 ) -> Result<Option<Failure>, AllocError>
     requires holders { AreHeld holders.now (held state.now) }
+    requires totals { AreCounted state.now.inventory holders.now totals.now }
     requires rows { AreRowsOf state.now node.now rows.now }
     requires dues { Each (IsDue (wanting.input_of rows.now)) dues.now }
     requires free { standing.held (held state.now) (map (due_seen (wanting.input_of rows.now)) dues.now) ≡ None }
@@ -71,7 +55,7 @@ fn failing_counters<'a>(
     }
     usable_slices_differ();
     devices_differ(&state.inventory, node);
-    let mut totals = totals_with(alloc, state, holders, rows, dues)?;
+    let mut totals = totals_with(alloc, state, holders, totals, rows, node, dues)?;
     counter_short(alloc, rows, &mut totals, dues)
 }
 
@@ -81,12 +65,14 @@ fn failing_held<'a>(
     alloc: Global,
     state: &State,
     holders: &Held,
+    totals: &Totals,
     rows: &'a Rows<'a>,
     node: &Text,
     claims: &'a [WantedClaim<'a>],
     dues: &[Due],
 ) -> Result<Option<Failure>, AllocError>
     requires holders { AreHeld holders.now (held state.now) }
+    requires totals { AreCounted state.now.inventory holders.now totals.now }
     requires rows { AreRowsOf state.now node.now rows.now }
     requires claims { claims.now ≡ rows.now.wants.claims }
     requires dues { Each (IsDue (wanting.input_of rows.now)) dues.now }
@@ -96,7 +82,7 @@ fn failing_held<'a>(
     if let Some(found) = held(alloc, holders, dues)? {
         return Ok(Some(found));
     }
-    if let Some(found) = failing_counters(alloc, state, holders, rows, node, dues)? {
+    if let Some(found) = failing_counters(alloc, state, holders, totals, rows, node, dues)? {
         return Ok(Some(found));
     }
     constraint_broken(alloc, rows, claims, dues)
@@ -107,12 +93,14 @@ fn failing_tolerated<'a>(
     alloc: Global,
     state: &State,
     holders: &Held,
+    totals: &Totals,
     rows: &'a Rows<'a>,
     node: &Text,
     claims: &'a [WantedClaim<'a>],
     dues: &[Due],
 ) -> Result<Option<Failure>, AllocError>
     requires holders { AreHeld holders.now (held state.now) }
+    requires totals { AreCounted state.now.inventory holders.now totals.now }
     requires rows { AreRowsOf state.now node.now rows.now }
     requires claims { claims.now ≡ rows.now.wants.claims }
     requires dues { Each (IsDue (wanting.input_of rows.now)) dues.now }
@@ -122,7 +110,7 @@ fn failing_tolerated<'a>(
     if let Some(found) = tainted(alloc, rows, dues)? {
         return Ok(Some(found));
     }
-    failing_held(alloc, state, holders, rows, node, claims, dues)
+    failing_held(alloc, state, holders, totals, rows, node, claims, dues)
 }
 
 /// The first failure of results of the right shape.
@@ -130,6 +118,7 @@ fn failing_shaped<'a>(
     alloc: Global,
     state: &State,
     holders: &Held,
+    totals: &Totals,
     rows: &'a Rows<'a>,
     node: &Text,
     claims: &'a [WantedClaim<'a>],
@@ -137,6 +126,7 @@ fn failing_shaped<'a>(
     dues: &[Due],
 ) -> Result<Option<Failure>, AllocError>
     requires holders { AreHeld holders.now (held state.now) }
+    requires totals { AreCounted state.now.inventory holders.now totals.now }
     requires rows { AreRowsOf state.now node.now rows.now }
     requires claims { claims.now ≡ rows.now.wants.claims }
     requires dues { Each (IsDue (wanting.input_of rows.now)) dues.now }
@@ -149,7 +139,7 @@ fn failing_shaped<'a>(
     if let Some(found) = selector_fault(alloc, rows, choice)? {
         return Ok(Some(found));
     }
-    failing_tolerated(alloc, state, holders, rows, node, claims, dues)
+    failing_tolerated(alloc, state, holders, totals, rows, node, claims, dues)
 }
 
 /// The first failure of grants whose devices are the node's.
@@ -157,6 +147,7 @@ fn failing_rows<'a>(
     alloc: Global,
     state: &State,
     holders: &Held,
+    totals: &Totals,
     view: &PoolView,
     rows: &'a Rows<'a>,
     node: &Text,
@@ -164,6 +155,7 @@ fn failing_rows<'a>(
     grants: &'a [Grant],
 ) -> Result<Option<Failure>, AllocError>
     requires holders { AreHeld holders.now (held state.now) }
+    requires totals { AreCounted state.now.inventory holders.now totals.now }
     requires view { IsViewOf state.now node.now view.now }
     requires rows { AreRowsOf state.now node.now rows.now }
     requires claims { claims.now ≡ rows.now.wants.claims }
@@ -177,7 +169,9 @@ fn failing_rows<'a>(
         return Ok(Some(found));
     }
     let choice = &named.choice;
-    failing_shaped(alloc, state, holders, rows, node, claims, choice, &dues)
+    failing_shaped(
+        alloc, state, holders, totals, rows, node, claims, choice, &dues,
+    )
 }
 
 /// The first failure of grants on a node, which the view is of.
@@ -185,12 +179,14 @@ fn failing_on(
     alloc: Global,
     state: &State,
     holders: &Held,
+    totals: &Totals,
     view: &PoolView,
     node: &Text,
     wants: &Wants,
     grants: &[Grant],
 ) -> Result<Option<Failure>, AllocError>
     requires holders { AreHeld holders.now (held state.now) }
+    requires totals { AreCounted state.now.inventory holders.now totals.now }
     requires view { IsViewOf state.now node.now view.now }
     requires classes { wants.now.classes ≡ state.now.classes }
     ensures { IfOk result (λ found. found ≡ spec.failing_in (input_of state.now wants.now.claims node.now) grants.now) }
@@ -203,6 +199,7 @@ fn failing_on(
         alloc,
         state,
         holders,
+        totals,
         view,
         &rows,
         node,
@@ -216,11 +213,13 @@ fn failing_at(
     alloc: Global,
     state: &State,
     holders: &Held,
+    totals: &Totals,
     claims: Vec<WantedClaim>,
     node: &Text,
     grants: &[Grant],
 ) -> Result<Option<Failure>, AllocError>
     requires holders { AreHeld holders.now (held state.now) }
+    requires totals { AreCounted state.now.inventory holders.now totals.now }
     ensures { IfOk result (λ found. found ≡ spec.failing_at state.now claims.entry.items node.now grants.now) }
 {
     if state.inventory.nodes().get(node).is_none() {
@@ -231,7 +230,7 @@ fn failing_at(
         claims,
         classes: &state.classes,
     };
-    failing_on(alloc, state, holders, &view, node, &wants, grants)
+    failing_on(alloc, state, holders, totals, &view, node, &wants, grants)
 }
 
 /// The first failure of a plan for a pod that exists, whose claims all exist.
@@ -239,11 +238,13 @@ fn failing_for(
     alloc: Global,
     state: &State,
     holders: &Held,
+    totals: &Totals,
     key: &Key,
     pod: &PodState,
     plan: &Plan,
 ) -> Result<Option<Failure>, AllocError>
     requires holders { AreHeld holders.now (held state.now) }
+    requires totals { AreCounted state.now.inventory holders.now totals.now }
     ensures { IfOk result (λ found. found ≡ spec.failing_pod state.now key.now pod.now plan.now) }
 {
     if let Some(found) = changed(alloc, state, key, pod, plan)? {
@@ -254,27 +255,28 @@ fn failing_for(
     }
     let claims = wanted_claims(alloc, state, &pod.pod.object)?;
     let grants = plan.grants.as_slice();
-    failing_at(alloc, state, holders, claims, &plan.node, grants)
+    failing_at(alloc, state, holders, totals, claims, &plan.node, grants)
 }
 
-/// Checks a plan for a pod against a state, of which `holders` has the devices that claims hold: the
-/// first failure, or none.
+/// Checks a plan for a pod against a state, of which `holders` has the devices that claims hold, and `totals`
+/// what these draw: the first failure, or none.
 ///
 /// It is one of a claim that is gone, changed, or full, of the claims that the plan knew; the node that
 /// is gone; a device that isn't the node's; results that aren't of the shape that their claim asks for;
 /// a device that doesn't meet its request, or on which a selector has an evaluation error; a device with a
 /// taint that its request doesn't tolerate; a device that is held; a counter without enough; or a constraint
 /// that the results don't keep, in this order. A pod that doesn't exist is changed. It takes one pass over
-/// the devices of the node and the results, and, only if a result draws on a counter, two over the slices of
-/// usable pools that have counter sets or devices that draw from some. `AllocError` only if memory runs out.
+/// the devices of the node and the results. `AllocError` only if memory runs out.
 pub fn check(
     alloc: Global,
     state: &State,
     holders: &Held,
+    totals: &Totals,
     pod: &Key,
     plan: &Plan,
 ) -> Result<Option<Failure>, AllocError>
-    requires { AreHeld holders.now (held state.now) }
+    requires holders { AreHeld holders.now (held state.now) }
+    requires totals { AreCounted state.now.inventory holders.now totals.now }
     ensures { IfOk result (λ found. found ≡ spec.failing state.now pod.now plan.now) }
 {
     if let Some(found) = claim_gone(alloc, state, plan.known.claims.as_slice())? {
@@ -282,7 +284,7 @@ pub fn check(
     }
     match state.pods.get(pod) {
         None => Ok(Some(Failure::ClaimChanged(pod.copy(alloc)?))),
-        Some(found) => failing_for(alloc, state, holders, pod, found, plan),
+        Some(found) => failing_for(alloc, state, holders, totals, pod, found, plan),
     }
 }
 
@@ -309,35 +311,55 @@ fn failing_write(
     alloc: Global,
     state: &State,
     holders: &Held,
+    totals: &Totals,
     key: &Key,
     claim: &ReadyClaim,
     status: &ClaimStatus,
 ) -> Result<Option<Failure>, AllocError>
-    requires { AreHeld holders.now (held state.now) }
+    requires holders { AreHeld holders.now (held state.now) }
+    requires totals { AreCounted state.now.inventory holders.now totals.now }
     ensures { IfOk result (λ found. found ≡ spec.failing_results state.now key.now claim.now status.now) }
 {
     let grant = granted_by(alloc, key, status)?;
     let mut claims = Vec::new(alloc);
     claims.push(WantedClaim { key, claim })?;
-    failing_at(alloc, state, holders, claims, &status.node, &[grant])
+    failing_at(
+        alloc,
+        state,
+        holders,
+        totals,
+        claims,
+        &status.node,
+        &[grant],
+    )
 }
 
 /// Checks a status write to a claim that exists, as a plan of the claim's results on its node, against
-/// a state, of which `holders` has the devices that claims hold: the first failure from the node on, or
-/// none. `AllocError` only if memory runs out.
+/// a state, of which `holders` has the devices that claims hold, and `totals` what these draw: the first
+/// failure from the node on, or none. `AllocError` only if memory runs out.
 pub fn check_status(
     alloc: Global,
     state: &State,
     holders: &Held,
+    totals: &Totals,
     claim: &Key,
     status: &ClaimStatus,
 ) -> Result<Option<Failure>, AllocError>
     requires holders { AreHeld holders.now (held state.now) }
+    requires totals { AreCounted state.now.inventory holders.now totals.now }
     requires there { IsSome (at_key state.now.claims claim.now) }
     ensures { IfOk result (λ found. found ≡ spec.failing_status state.now claim.now status.now) }
 {
     match state.claims.get(claim) {
-        Some(found) => failing_write(alloc, state, holders, claim, &found.claim.object, status),
+        Some(found) => failing_write(
+            alloc,
+            state,
+            holders,
+            totals,
+            claim,
+            &found.claim.object,
+            status,
+        ),
         None => unreachable!(),
     }
 }

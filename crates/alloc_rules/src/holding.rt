@@ -63,25 +63,3 @@ pub fn held(alloc: Global, holders: &Held, dues: &[Due]) -> Result<Option<Failur
     }
     Ok(None)
 }
-
-/// Adds the device of a result that is held by nobody, unless the result has admin access.
-fn put(alloc: Global, holders: &mut Held, due: &Due) -> Result<(), AllocError>
-    ensures { (w : SearchInput) (pairs : List (DeviceId × Key)) → AreHeld holders.old pairs → held_in holders.old (due_seen w due.now) ≡ None → OnOk result (AreHeld holders.new (pairs ++ pairs_of (due_seen w due.now ∷ []))) }
-{
-    if due.result.admin {
-        return Ok(());
-    }
-    holders.insert(&due.result.device, due.claim.copy(alloc)?, alloc)
-}
-
-/// Adds the devices of results without admin access, which neither claims hold nor earlier results
-/// have.
-pub fn put_all(alloc: Global, holders: &mut Held, dues: &[Due]) -> Result<(), AllocError>
-    ensures { (w : SearchInput) (pairs : List (DeviceId × Key)) → AreHeld holders.old pairs → spec.held pairs (map (due_seen w) dues.now) ≡ None →
-        OnOk result (AreHeld holders.new (pairs ++ pairs_of (map (due_seen w) dues.now))) }
-{
-    for due in dues {
-        put(alloc, holders, due)?;
-    }
-    Ok(())
-}

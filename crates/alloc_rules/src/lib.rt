@@ -4,6 +4,7 @@
 mod agreeing;
 mod checking;
 mod counters;
+mod drawing;
 mod due;
 mod holding;
 mod known;

@@ -195,7 +195,7 @@ same_from_key_cmp a b e =
     let parts = then_by (text_cmp a.namespace b.namespace) (text_cmp a.name b.name) e in
     same_names a.namespace b.namespace a.name b.name (same_from_text_cmp a.namespace b.namespace parts.0) (same_from_text_cmp a.name b.name parts.1)
 
-key_eq-same : (k : Key) → key_eq k k ≡ true
+pub key_eq-same : (k : Key) → key_eq k k ≡ true
 key_eq-same k = and_from (text_eq k.namespace k.namespace) (text_eq k.name k.name) (text_eq-same k.namespace) (text_eq-same k.name)
 
 skip_by : (e : Key × ClaimState) (es : Claims) (k l : Key) (w : ClaimState) (b c : Bool) → k ≢ l → is_eq (key_cmp k e.0) ≡ b → is_eq (key_cmp l e.0) ≡ c
@@ -205,26 +205,26 @@ skip_by e es k l w true false n is at later = rw (is) (rw (at) refl)
 skip_by e es k l w false c n is at later = rw (is) (ap (λ o. cond (is_eq (key_cmp l e.0)) (Some e.1) o) later)
 
 -- writing at a key leaves the others unchanged
-skip_there : (es : Claims) (k l : Key) (w : ClaimState) → k ≢ l → at_key (set_value (is_at (key_cmp k)) es w) l ≡ at_key es l
+pub skip_there : (es : Claims) (k l : Key) (w : ClaimState) → k ≢ l → at_key (set_value (is_at (key_cmp k)) es w) l ≡ at_key es l
 skip_there [] k l w n = refl
 skip_there (e ∷ es) k l w n = skip_by e es k l w (is_eq (key_cmp k e.0)) (is_eq (key_cmp l e.0)) n refl refl (skip_there es k l w n)
 
 -- a claim that exists without a grant
-record Ungranted (claims : Claims) (k : Key) : Type 0 where
-  claim : ClaimState
-  is_there : at_key claims k ≡ Some claim
-  none : claim.grant ≡ None
+pub record Ungranted (claims : Claims) (k : Key) : Type 0 where
+  pub claim : ClaimState
+  pub is_there : at_key claims k ≡ Some claim
+  pub none : claim.grant ≡ None
 
-abbrev EachUngranted : Claims → List ResourceClaim → Type 0
+abbrev pub EachUngranted : Claims → List ResourceClaim → Type 0
 EachUngranted claims [] = Unit {0}
 EachUngranted claims (c ∷ cs) = Ungranted claims c.key × EachUngranted claims cs
 
 -- none of the claims has the key
-abbrev Away : Key → List ResourceClaim → Type 0
+abbrev pub Away : Key → List ResourceClaim → Type 0
 Away k [] = Unit {0}
 Away k (c ∷ cs) = (k ≢ c.key) × Away k cs
 
-abbrev KeysApart : List ResourceClaim → Type 0
+abbrev pub KeysApart : List ResourceClaim → Type 0
 KeysApart [] = Unit {0}
 KeysApart (c ∷ cs) = Away c.key cs × KeysApart cs
 
@@ -237,7 +237,7 @@ each_by : (claims : Claims) (k : Key) (o : Option ClaimState) (others : List Res
 each_by claims k None others is each = each
 each_by claims k (Some x) others is each = each_with claims k x x.grant others is refl each
 
-each_wanted : (s : State) (ks : List Key) → EachUngranted s.claims (wanted_of s ks)
+pub each_wanted : (s : State) (ks : List Key) → EachUngranted s.claims (wanted_of s ks)
 each_wanted s [] = tt
 each_wanted s (k ∷ ks) = each_by s.claims k (at_key s.claims k) (wanted_of s ks) refl (each_wanted s ks)
 
@@ -282,31 +282,31 @@ apart_if s l seen ks false here later =
     (away_seen s l ks (l ∷ seen) (ap (λ b. b || list_any (λ m. key_eq m l) seen) (key_eq-same l))) later
 
 -- the claims that a pod needs have keys that differ
-apart_wanted : (s : State) (ks seen : List Key) → KeysApart (wanted_of s (first_places seen ks))
+pub apart_wanted : (s : State) (ks seen : List Key) → KeysApart (wanted_of s (first_places seen ks))
 apart_wanted s [] seen = tt
 apart_wanted s (l ∷ ks) seen = apart_if s l seen ks (list_any (λ m. key_eq m l) seen) (apart_wanted s ks seen) (apart_wanted s ks (l ∷ seen))
 
 -- ---- the grants of a plan
 
-abbrev granted : List ℕ → Key → List DeviceResult → ClaimState → ClaimState
+abbrev pub granted : List ℕ → Key → List DeviceResult → ClaimState → ClaimState
 granted node pod results x = record x { grant = Some (record { node = node; results = results; published = false }); users = insert_entry key_cmp x.users pod (Assumed x.claim.version) }
 
-grant_sets : (node : List ℕ) (pod k : Key) (results : List DeviceResult) (claims : Claims) (u : Ungranted claims k)
+pub grant_sets : (node : List ℕ) (pod k : Key) (results : List DeviceResult) (claims : Claims) (u : Ungranted claims k)
     → with_grant node pod k results claims ≡ set_value (is_at (key_cmp k)) claims (granted node pod results u.claim)
 grant_sets node pod k results claims u = ap (λ o. option_map_or (λ x. set_value (is_at (key_cmp k)) claims (granted node pod results x)) o claims) u.is_there
 
 -- the claims of the grants exist, and have no grant
-abbrev EachOpen : Claims → List Grant → Type 0
+abbrev pub EachOpen : Claims → List Grant → Type 0
 EachOpen claims [] = Unit {0}
 EachOpen claims (g ∷ gs) = Ungranted claims g.claim × EachOpen claims gs
 
 -- none of the grants is of the claim
-abbrev NoneOf : Key → List Grant → Type 0
+abbrev pub NoneOf : Key → List Grant → Type 0
 NoneOf k [] = Unit {0}
 NoneOf k (g ∷ gs) = (k ≢ g.claim) × NoneOf k gs
 
 -- the grants are of different claims
-abbrev OfDifferent : List Grant → Type 0
+abbrev pub OfDifferent : List Grant → Type 0
 OfDifferent [] = Unit {0}
 OfDifferent (g ∷ gs) = NoneOf g.claim gs × OfDifferent gs
 
@@ -315,7 +315,7 @@ abbrev devices_of : List Grant → List DeviceId
 devices_of gs = flat_map (λ g. devices_held g.results) gs
 
 -- the other claims have no grant as before
-each_kept : (node : List ℕ) (pod k : Key) (results : List DeviceResult) (claims : Claims) (u : Ungranted claims k) (gs : List Grant) → NoneOf k gs → EachOpen claims gs
+pub each_kept : (node : List ℕ) (pod k : Key) (results : List DeviceResult) (claims : Claims) (u : Ungranted claims k) (gs : List Grant) → NoneOf k gs → EachOpen claims gs
     → EachOpen (with_grant node pod k results claims) gs
 each_kept node pod k results claims u [] away each = tt
 each_kept node pod k results claims u (g ∷ gs) away each = (
@@ -423,7 +423,7 @@ cut_disjoint i j rs n once d h g =
     (λ lt. once b.place a.place b.result a.result lt b.is_there a.is_there b.plain a.plain (b.device ∙ sym a.device)) o)
     (cases_order a.place b.place)
 
-abbrev cuts : ℕ → List ResourceClaim → List Result → List Grant
+abbrev pub cuts : ℕ → List ResourceClaim → List Result → List Grant
 cuts i cs rs = map grant_of (grants_from i cs rs)
 
 -- a device of the claims from an index on is among the results of one of them
@@ -451,7 +451,7 @@ cuts_apart i (c ∷ cs) rs once =
     let le = l.after in
     cut_disjoint i l.claim rs (λ (e : i ≡ l.claim). absurd (omega (arith, le, e))) once d h l.among)
 
-cuts_open : (claims : Claims) (i : ℕ) (cs : List ResourceClaim) (rs : List Result) → EachUngranted claims cs → EachOpen claims (cuts i cs rs)
+pub cuts_open : (claims : Claims) (i : ℕ) (cs : List ResourceClaim) (rs : List Result) → EachUngranted claims cs → EachOpen claims (cuts i cs rs)
 cuts_open claims i [] rs each = tt
 cuts_open claims i (c ∷ cs) rs each = (each.0, cuts_open claims (i + 1) cs rs each.1)
 
@@ -459,7 +459,7 @@ cuts_away : (k : Key) (i : ℕ) (cs : List ResourceClaim) (rs : List Result) →
 cuts_away k i [] rs away = tt
 cuts_away k i (c ∷ cs) rs away = (away.0, cuts_away k (i + 1) cs rs away.1)
 
-cuts_differ : (i : ℕ) (cs : List ResourceClaim) (rs : List Result) → KeysApart cs → OfDifferent (cuts i cs rs)
+pub cuts_differ : (i : ℕ) (cs : List ResourceClaim) (rs : List Result) → KeysApart cs → OfDifferent (cuts i cs rs)
 cuts_differ i [] rs a = tt
 cuts_differ i (c ∷ cs) rs a = (cuts_away c.key (i + 1) cs rs a.0, cuts_differ (i + 1) cs rs a.1)
 

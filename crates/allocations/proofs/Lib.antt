@@ -5,3 +5,7 @@ pub mod Walks
 pub mod HeldIds
 pub mod Holding
 pub mod Changes
+pub mod Freed
+pub mod Growths
+pub mod GrowthHeld
+pub mod GrowthLost

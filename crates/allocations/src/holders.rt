@@ -12,8 +12,10 @@ ghost use Rattle.cluster.specs.Applied.{with_object};
 ghost use Rattle.cluster.specs.Bound.{with_bound};
 ghost use Rattle.cluster.specs.Deleted.{without_object};
 ghost use Rattle.cluster.specs.Held.{HeldOnce, held_by};
+ghost use Rattle.cluster.specs.Released.{with_released};
 ghost use Rattle.cluster.specs.Reserved.{with_reserved};
 ghost use Rattle.cluster.specs.State.{empty_state};
+ghost use Rattle.cluster.specs.Unreserved.{with_unreserved};
 ghost use Rattle.cluster.specs.Wrote.{with_written};
 ghost use Rattle.allocations.specs.Claims.{wanted};
 ghost use Rattle.allocations.specs.Allocation.{IsAllocation};
@@ -34,6 +36,8 @@ pub fn changes_hold_once()
     ensures empty { HeldOnce empty_state }
     ensures applied { (place : ℕ) (object : Object) (s : State) → HeldOnce s → HeldOnce (with_object place object s) }
     ensures deleted { (target : Target) (s : State) → HeldOnce s → HeldOnce (without_object target s) }
+    ensures unreserved { (place : ℕ) (pod : Key) (s : State) → HeldOnce s → HeldOnce (with_unreserved place pod s) }
+    ensures released { (place : ℕ) (pod : Key) (s : State) → HeldOnce s → HeldOnce (with_released place pod s) }
     ensures written { (place : ℕ) (pod claim : Key) (s : State) → HeldOnce s → HeldOnce (with_written place pod claim s) }
     ensures bound { (pod : Key) (node : List ℕ) (s : State) → HeldOnce s → HeldOnce (with_bound pod node s) }
 {}

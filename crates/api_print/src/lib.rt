@@ -38,8 +38,6 @@ mod slice;
 mod spec;
 mod status;
 mod taints;
-#[cfg(test)]
-mod tests;
 
 pub use claim::claim_value;
 pub use class::class_value;

@@ -1,4 +1,5 @@
 ghost use Rattle.std.specs.Prelude.{◌≡◌, ◌↔◌, ◌⊎◌, ◌+◌, ◌<◌, ◌≤◌, ◌^◌, ℕ, IfSome, IsErrOf, IsOk, OnErr, OnOk, false, length, true};
+ghost use Rattle.std.specs.List.{AllByRecursion};
 ghost use Rattle.std.specs.Option.{option_map};
 ghost use Rattle.dra_ports.specs.Causes.{HasCause, Rose};
 ghost use Rattle.dra_ports.specs.DiskImages.{AtEachMoment};
@@ -9,7 +10,7 @@ ghost use Rattle.ckpt_journal.specs.Plan.{is_full};
 ghost use Rattle.ckpt_journal.specs.Planned.{IsReached, steps_of};
 ghost use Rattle.ckpt_journal.specs.Standing.{IsBeforeOrAfter, Keeps};
 ghost use Rattle.ckpt_journal.specs.Steps.{StoppedIn, all_done};
-ghost use Rattle.ckpt_journal.specs.Table.{row_after};
+ghost use Rattle.ckpt_journal.specs.Table.{compact, row_after};
 ghost use Rattle.ckpt_journal.specs.Words.{IsSame, disk_of, half_of, has_ended, rows_of};
 
 use crate::layout::Halves;
@@ -46,6 +47,13 @@ impl<D: Disk> Journal<D> {
         ensures { result.now ≡ rows_of self.now }
     {
         &self.rows
+    }
+
+    /// Whether an earlier call on this journal returned `DiskFault`, which ended it. Allocates nothing.
+    pub fn has_ended(&self) -> bool
+        ensures { result ≡ has_ended self.now }
+    {
+        self.ended
     }
 
     /// Adds a record. Once this has returned `Ok`, whatever a crash leaves has the table with it. A crash at
@@ -96,9 +104,11 @@ impl<D: Disk> Journal<D> {
         }
     }
 
-    /// States what an open journal that has not ended keeps: its table, which whatever a crash leaves has.
+    /// States what a journal keeps: if it has not ended, whatever a crash leaves has its table; and the records of its
+    /// rows may be appended again.
     pub fn keeps(&self)
-        ensures { has_ended self.now ≡ false → IfSome (D.content (disk_of self.now)) (Keeps (rows_of self.now)) }
+        ensures table { has_ended self.now ≡ false → IfSome (D.content (disk_of self.now)) (Keeps (rows_of self.now)) }
+        ensures readable { AllByRecursion ReadsBack (compact (rows_of self.now)) }
     {
         let _ended = self.ended;
     }

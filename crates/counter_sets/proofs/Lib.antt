@@ -7,3 +7,4 @@ pub mod Pairs
 pub mod Putting
 pub mod Room
 pub mod Shortages
+pub mod Replacing

@@ -120,6 +120,10 @@ or_found : {V : Type 0} (b : Bool) (v : List V) (o : Option (List V)) → or_emp
 or_found true v o = refl
 or_found false v o = refl
 
+-- the table at a name, after one was put there
+pub put_name : {V : Type 0} (n k : List ℕ) (f : List (List ℕ × V) → List (List ℕ × V)) (table : Tabled (List (List ℕ × V))) → at_name (put_in n f table) k ≡ found (text_eq n k) (f (or_empty (at_name table k))) (at_name table k)
+put_name n k f table = put_by (is_some (at_name table n)) n k f table refl
+
 pub put_at : {V : Type 0} (n k : List ℕ) (f : List (List ℕ × V) → List (List ℕ × V)) (table : Tabled (List (List ℕ × V)))
     → or_empty (at_name (put_in n f table) k) ≡ (if text_eq n k then f (or_empty (at_name table k)) else or_empty (at_name table k))
 put_at n k f table =

@@ -1,5 +1,5 @@
 -- What is kept of the counters of slices, and how a device's draws change it.
-use Rattle.std.specs.Prelude.{ℕ, ◌+◌, ◌-◌, ◌==◌, ℤ, List, [], ◌∷◌, ◌++◌, Bool, false, Option, None, Some, is_some, map, min, nat_le, option_map, if◌then◌else◌}
+use Rattle.std.specs.Prelude.{ℕ, ◌≡◌, ◌+◌, ◌-◌, ◌==◌, ℤ, List, [], ◌∷◌, ◌++◌, Bool, true, false, Option, None, Some, is_some, map, min, nat_le, option_map, if◌then◌else◌}
 use Rattle.std.specs.BTreeMap.{insert_entry, is_at}
 use Rattle.std.specs.List.{list_all}
 use Rattle.std.specs.Map.{remove_entry, set_value}
@@ -192,3 +192,28 @@ pools_with pool ss pools = put_in pool (λ sets. with_sets ss sets) pools
 -- with the counters of a slice
 unfoldable pub with_slice : ResourceSlice → KeptCounters → KeptCounters
 with_slice x kept = put_in x.driver (λ pools. pools_with x.pool.name x.counters pools) kept
+
+-- ---- the counters of a pool, in place of those that are kept of it
+
+-- there is room for the counters of the slice's pool
+unfoldable pub has_pool : ResourceSlice → KeptCounters → Bool
+has_pool x kept = is_some (at_name (or_empty (at_name kept x.driver)) x.pool.name)
+
+-- the counters that other totals have of the slice's pool can be put in place of those that are kept of it
+abbrev pub HasPlace : ResourceSlice → (from kept : KeptCounters) → Type 0
+HasPlace x from kept = has_pool x from ≡ true → has_pool x kept ≡ true
+
+-- with room for the slice's pool
+unfoldable pub with_pool : ResourceSlice → KeptCounters → KeptCounters
+with_pool x kept = put_in x.driver (λ pools. pools_with x.pool.name [] pools) kept
+
+-- if other totals have counters of it
+abbrev pub with_place : ResourceSlice → (from kept : KeptCounters) → KeptCounters
+with_place x from kept = if has_pool x from then with_pool x kept else kept
+
+abbrev pub sets_replaced : List ℕ → PoolCounters → Tabled PoolCounters → Tabled PoolCounters
+sets_replaced pool sets pools = changed_at pool (λ old. sets) pools
+
+-- with these counters of the slice's pool, if there is room for them
+unfoldable pub replaced : ResourceSlice → PoolCounters → KeptCounters → KeptCounters
+replaced x sets kept = changed_at x.driver (λ pools. sets_replaced x.pool.name sets pools) kept

@@ -186,8 +186,9 @@ fn add_to_pool(
     pools.insert(name, sets)
 }
 
+/// Adds these sets to those of a pool.
 #[tactic(auto, using(std::proofs::lemmas::Map::Steps::set_value_same))]
-fn add_to_driver(
+pub fn add_to_driver(
     drivers: &mut Table<Text, DriverCounters>,
     driver: &Text,
     pool: &Text,

@@ -7,6 +7,7 @@ mod change;
 mod counter;
 mod covered;
 mod held;
+mod pools;
 mod short;
 mod totals;
 

@@ -1,7 +1,7 @@
-ghost use Rattle.std.specs.Prelude.{◌≡◌, Option, None, Some, IfSome, min, option_map, List, ◌∷◌, ◌++◌, ◌+◌, ◌-◌, ◌<◌, ◌≤◌, [], true, false, OnOk, OnErr, IfOk, is_some};
-ghost use Rattle.request_rules.specs.Draws.{CounterId, counter_for, counter_value, first_short, drawn, drawn_by, drawn_from, is_covered, or_value};
+ghost use Rattle.std.specs.Prelude.{◌≡◌, Option, None, Some, IfSome, min, option_map, List, ◌∷◌, ◌++◌, ◌+◌, ◌-◌, ◌<◌, ◌≤◌, [], true, false, OnOk, OnErr, IfOk, is_some, if◌then◌else◌};
+ghost use Rattle.request_rules.specs.Draws.{CounterId, counter_for, counter_value, first_short, drawn, drawn_by, drawn_from, is_covered, is_of_pool, or_value};
 ghost use Rattle.counter_sets.specs.Totals as spec;
-ghost use Rattle.counter_sets.specs.Totals.{drawn_in, keeps, value_of};
+ghost use Rattle.counter_sets.specs.Totals.{HasPlace, drawn_in, has_pool, keeps, value_of};
 ghost use Rattle.counter_sets.specs.Holding.{AreHeld, added_held, offered_held};
 ghost use Rattle.object_fields.specs.declared.key.DeviceId.{DeviceId};
 ghost use Rattle.object_fields.specs.declared.key.Key.{Key};
@@ -12,6 +12,7 @@ use crate::change::{Change, move_device};
 use crate::counter::DriverCounters;
 use crate::covered::{covers, pool_of};
 use crate::held::{Held, draw_devices};
+use crate::pools::{keep_pool, put_pool, taken_pool};
 use crate::short::{Shortage, first_short, missing_from};
 use api_slice::ResourceSlice;
 use dra_values::{Duplicate, Table, Text};
@@ -118,6 +119,17 @@ impl Totals {
         self.change(Change::Draw, device);
     }
 
+    /// Draws what a device draws that a claim holds, also if its counters, which were added, don't cover it.
+    /// What is drawn must stay below 2^128. Allocates nothing.
+    pub fn hold(&mut self, device: &DeviceRef<'_>)
+        requires kept { (c : CounterId) → keeps self.old c ≡ false → drawn_from c device.now ≡ 0 }
+        requires fits { (c : CounterId) → drawn_in self.old c + drawn_from c device.now ≤ spec.sum_most }
+        ensures drawn { (c : CounterId) → drawn_in self.new c ≡ drawn_in self.old c + drawn_from c device.now }
+        ensures value { (c : CounterId) → value_of self.new c ≡ value_of self.old c }
+    {
+        self.change(Change::Draw, device);
+    }
+
     /// Subtracts what a device drew. Allocates nothing.
     #[tactic(auto, using(crate::proofs::Moves::given_back))]
     pub fn give_back(&mut self, device: &DeviceRef<'_>)
@@ -136,6 +148,53 @@ impl Totals {
             device.slice(),
             device.device().consumes.as_slice(),
         );
+    }
+
+    /// Makes room for the counters that other totals have of a slice's pool (`take_pool`); none if these have no
+    /// slice of it. No counter changes. `AllocError` is returned only if memory runs out.
+    pub fn keep_pool(
+        &mut self,
+        slice: &ResourceSlice,
+        from: &Totals,
+        alloc: Global,
+    ) -> Result<(), AllocError>
+        ensures place { OnOk result (HasPlace slice.now from.now self.new) }
+        ensures others { (x : ResourceSlice) → has_pool x self.old ≡ true → has_pool x self.new ≡ true }
+        ensures value { (c : CounterId) → value_of self.new c ≡ value_of self.old c }
+        ensures drawn { (c : CounterId) → drawn_in self.new c ≡ drawn_in self.old c }
+    {
+        self.room_for(slice, from, alloc)
+    }
+
+    fn room_for(
+        &mut self,
+        slice: &ResourceSlice,
+        from: &Totals,
+        alloc: Global,
+    ) -> Result<(), AllocError>
+        ensures ok { OnOk result (self.new ≡ spec.with_place slice.now from.now self.old) }
+        ensures err { OnErr result (self.new ≡ self.old) }
+    {
+        keep_pool(&mut self.drivers, &from.drivers, slice, alloc)
+    }
+
+    /// Takes the counters of a slice's pool from other totals, in place of its own, with what is drawn from them.
+    /// Allocates nothing.
+    pub fn take_pool(&mut self, slice: &ResourceSlice, from: Totals, alloc: Global)
+        requires { HasPlace slice.now from self.old }
+        ensures others { (x : ResourceSlice) → has_pool x self.old ≡ true → has_pool x self.new ≡ true }
+        ensures value { (c : CounterId) → value_of self.new c ≡ (if is_of_pool slice.now c then value_of from c else value_of self.old c) }
+        ensures drawn { (c : CounterId) → drawn_in self.new c ≡ (if is_of_pool slice.now c then drawn_in from c else drawn_in self.old c) }
+    {
+        self.replace_pool(slice, from, alloc);
+    }
+
+    fn replace_pool(&mut self, slice: &ResourceSlice, from: Totals, alloc: Global)
+        ensures { self.new ≡ spec.replaced slice.now (spec.pool_in from slice.now.driver slice.now.pool.name) self.old }
+    {
+        let driver = slice.driver.as_text();
+        let sets = taken_pool(from.drivers, driver, &slice.pool.name, alloc);
+        put_pool(&mut self.drivers, slice, sets);
     }
 
     /// Equal totals. `AllocError` is returned only if memory runs out.

@@ -7,3 +7,4 @@ pub mod Passing
 pub mod Going
 pub mod Joined
 pub mod Laid
+pub mod Scanned

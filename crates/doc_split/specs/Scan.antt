@@ -27,3 +27,7 @@ piece_length s (b ∷ bs) = if (scan_after s b).depth == 0 then 1 else 1 + piece
 abbrev pub scan_behind : Scan → List ℕ → Scan
 scan_behind s [] = s
 scan_behind s (b ∷ bs) = if (scan_after s b).depth == 0 then scan_after s b else scan_behind (scan_after s b) bs
+
+-- the scan behind the brace that a document begins with
+abbrev pub begun : Scan
+begun = record { place = Outside; depth = 1 }

@@ -4,6 +4,7 @@
 
 mod doc;
 mod error;
+mod first;
 mod laws;
 mod limits;
 mod next;
@@ -13,5 +14,6 @@ mod splitter;
 
 pub use doc::Doc;
 pub use error::DocError;
+pub use first::documents_come_first;
 pub use laws::documents_lie_in_order;
 pub use splitter::Splitter;

@@ -1,5 +1,6 @@
 -- What the journal that a run prints says.
-use Rattle.std.specs.Prelude.{ℕ, ◌≡◌, List, ◌∷◌, ◌++◌, Option, Contains}
+use mathlib.Core.Logic.{inl, inr}
+use Rattle.std.specs.Prelude.{ℕ, ◌≡◌, ◌+◌, ◌⊎◌, List, ◌∷◌, ◌++◌, Option, Contains}
 use Rattle.object_fields.specs.declared.key.Key.{Key}
 use Rattle.cluster.specs.declared.plan.Cause.TheVariants.{Budget}
 use Rattle.cluster.specs.declared.plan.Passed.{Passed}
@@ -12,6 +13,7 @@ use Rattle.cluster.specs.declared.entry.Command.{Command}
 use Rattle.cluster.specs.declared.entry.Refusal.{Refusal}
 use Rattle.cluster.specs.declared.entry.Entry.{Entry}
 use Rattle.cluster.specs.declared.entry.Event.TheVariants.{Reserved, Refused, VerdictGiven, Adopted, Denied}
+use Rattle.histories.specs.Alone.{NeverSetBack}
 use Rattle.histories.specs.Denied.{MayDeny}
 use Rattle.histories.specs.Refused.{MayRefuse}
 use Rattle.api_claim.specs.declared.types.ClaimStatus.{ClaimStatus}
@@ -25,8 +27,10 @@ use Rattle.commands.specs.declared.given.Given.{Given}
 use Rattle.commands.specs.declared.given.Given.TheVariants.{One}
 use Rattle.replay_core.specs.declared.options.ReplayOptions.{ReplayOptions}
 use Rattle.replay_core.specs.Complete.{Scheduled}
-use Rattle.replay_core.specs.Replay.{EndsDone}
-use Rattle.replay_core.specs.Script.{commands_of}
+use Rattle.replay_core.specs.declared.form.Form.{Form}
+use Rattle.replay_core.specs.Forms.{count_of}
+use Rattle.replay_core.specs.Replay.{EndsAt, EndsDone, EndsFull, EndsNotYet, EndsRead, EndsShort, IsLines, IsPartLines, IsText}
+use Rattle.replay_core.specs.Script.{Ending, commands_of}
 
 -- each node whose cause is the budget was searched with this one
 abbrev pub NamesBudget : ℕ → Reason → Type 0
@@ -55,10 +59,54 @@ pub record IsTrueHistory (budget : ℕ) (h : List Entry) : Type 0 where
   pub users : (place : ℕ) → UsersAreBusy (state_at h place)
   pub uses : (place : ℕ) → PodsUseClaims (state_at h place)
 
--- All commands of the script were done, what was written is the text of their history, and it is true. Each Schedule
--- that is a single command is complete: if its pod is there and Idle after the entries of the commands before it, the
--- pod is bound to the first node by name that fits, or its one entry is the verdict that says why not.
+-- The commands were done, and their history is true. Each Schedule that is a single command is undisturbed, so none of its
+-- entries is a refusal of its plan, a conflict or contended; and it is complete: if its pod is there and Idle after the
+-- entries of the commands before it, the pod is bound to the first node by name that fits, or its one entry is the
+-- verdict that says why not.
+pub record IsTrueRun (options : ReplayOptions) (done : List (ℕ × Given)) (h : List Entry) : Type 0 where
+  pub history : IsTrueHistory options.budget h
+  pub schedules : (prefix back : List Given) (pod : Key) (attempts : ℕ) → commands_of done ≡ prefix ++ One (Schedule pod attempts) ∷ back → Scheduled options.budget prefix pod attempts h
+
+-- The same of a history that ends with a part of one more command. If that is a single Schedule, it is undisturbed as far
+-- as it came.
+pub record IsTruePart (options : ReplayOptions) (done : List (ℕ × Given)) (c : Given) (h : List Entry) : Type 0 where
+  pub run : IsTrueRun options done h
+  pub undisturbed : (pod : Key) (attempts : ℕ) → c ≡ One (Schedule pod attempts) → NeverSetBack (count_of (commands_of done) + 1) h
+
+-- ---- by status: what was printed, and that it is true
+
+-- all commands of the script were done, and what was written is the text of their history
 pub record Replayed (options : ReplayOptions) (left before after : Option (List ℕ)) : Type 0 where
   pub ends : EndsDone options left before after
-  pub history : IsTrueHistory options.budget ends.history
-  pub schedules : (prefix back : List Given) (pod : Key) (attempts : ℕ) → commands_of ends.done ≡ prefix ++ One (Schedule pod attempts) ∷ back → Scheduled options.budget prefix pod attempts ends.history
+  pub run : IsTrueRun options ends.done ends.history
+
+-- all commands of a script that ends otherwise
+pub record ReplayedTo (options : ReplayOptions) (ending : Ending) (left before after : Option (List ℕ)) : Type 0 where
+  pub ends : EndsAt options ending left before after
+  pub run : IsTrueRun options ends.done ends.history
+
+-- the commands of the documents that are whole in what was taken
+pub record ReplayedRead (options : ReplayOptions) (left left_now before after : Option (List ℕ)) : Type 0 where
+  pub ends : EndsRead options left left_now before after
+  pub run : IsTrueRun options ends.done ends.history
+
+-- the commands before one whose form isn't supported
+pub record ReplayedNotYet (options : ReplayOptions) (at : ℕ) (form : Form) (left before after : Option (List ℕ)) : Type 0 where
+  pub ends : EndsNotYet options at form left before after
+  pub run : IsTrueRun options ends.done ends.history
+
+-- the commands before one that reached the limit, and a part of that one
+pub record ReplayedFull (options : ReplayOptions) (count : ℕ) (left before after : Option (List ℕ)) : Type 0 where
+  pub ends : EndsFull options count left before after
+  pub part : IsTruePart options ends.done ends.command ends.history
+
+-- what a prefix was printed of
+abbrev pub TrueDue : (options : ReplayOptions) (left : Option (List ℕ)) (text : List ℕ) → IsLines options left text ⊎ (IsPartLines options left text ⊎ IsText options left text) → Type 0
+TrueDue options left text (inl lines) = IsTrueRun options lines.done lines.history
+TrueDue options left text (inr (inl part)) = IsTruePart options part.done part.command part.history
+TrueDue options left text (inr (inr whole)) = IsTrueRun options whole.done whole.history
+
+-- a prefix of such lines, or of the whole text
+pub record ReplayedShort (options : ReplayOptions) (left before after : Option (List ℕ)) : Type 0 where
+  pub ends : EndsShort options left before after
+  pub due : TrueDue options left ends.text ends.due

@@ -7,7 +7,7 @@ use Rattle.std.specs.Str.Parse.{digits_value}
 use Rattle.object_fields.specs.Qualified.{cut_at}
 use Rattle.dra_cli.specs.declared.words.Given.{Given}
 use Rattle.dra_cli.specs.declared.words.Name.{Name}
-use Rattle.dra_cli.specs.declared.words.Name.TheVariants.{Budget, Attempts, Entries}
+use Rattle.dra_cli.specs.declared.words.Name.TheVariants.{Workers, Budget, Attempts, Entries}
 use Rattle.replay_core.specs.declared.options.ReplayOptions.{ReplayOptions}
 
 abbrev pub are_digits : List ℕ → Bool
@@ -33,13 +33,15 @@ once (Some n) most word = None
 -- the option of that name
 abbrev pub name_of : List ℕ → Option Name
 name_of word =
-    if bytes_eq word (codes "--budget") then Some Budget
+    if bytes_eq word (codes "--workers") then Some Workers
+    else if bytes_eq word (codes "--budget") then Some Budget
     else if bytes_eq word (codes "--attempts") then Some Attempts
     else if bytes_eq word (codes "--entries") then Some Entries
     else None
 
 -- these options, with this value of one more
 abbrev pub with_value : Given → Name → List ℕ → Option Given
+with_value g Workers value = option_map (λ n. record g { workers = Some n; awaited = None }) (once g.workers 64 value)
 with_value g Budget value = option_map (λ n. record g { budget = Some n; awaited = None }) (once g.budget 10000000 value)
 with_value g Attempts value = option_map (λ n. record g { attempts = Some n; awaited = None }) (once g.attempts 64 value)
 with_value g Entries value = option_map (λ n. record g { entries = Some n; awaited = None }) (once g.entries 1000000 value)
@@ -67,16 +69,19 @@ complete None g = Some g
 complete (Some name) g = None
 
 abbrev pub no_options : Given
-no_options = record { budget = None; attempts = None; entries = None; awaited = None }
+no_options = record { workers = None; budget = None; attempts = None; entries = None; awaited = None }
 
 -- each number that is given is in its range
 pub record IsFit (g : Given) : Type 0 where
+  pub workers : IfSome g.workers (λ n. (1 ≤ n) × (n ≤ 64))
   pub budget : IfSome g.budget (λ n. (1 ≤ n) × (n ≤ 10000000))
   pub attempts : IfSome g.attempts (λ n. (1 ≤ n) × (n ≤ 64))
   pub entries : IfSome g.entries (λ n. (1 ≤ n) × (n ≤ 1000000))
 
 -- each option is in its range
 pub record AreFit (o : ReplayOptions) : Type 0 where
+  pub least_workers : 1 ≤ o.workers
+  pub most_workers : o.workers ≤ 64
   pub least_budget : 1 ≤ o.budget
   pub most_budget : o.budget ≤ 10000000
   pub least_attempts : 1 ≤ o.attempts
@@ -91,7 +96,7 @@ options_from g (word ∷ words) = option_and_then (λ h. options_from h words) (
 
 -- an option that isn't given has its default
 abbrev pub with_defaults : Given → ReplayOptions
-with_defaults g = record { budget = unwrap_or g.budget 100000; attempts = unwrap_or g.attempts 32; entries = unwrap_or g.entries 1000000 }
+with_defaults g = record { workers = unwrap_or g.workers 1; budget = unwrap_or g.budget 100000; attempts = unwrap_or g.attempts 32; entries = unwrap_or g.entries 1000000 }
 
 -- the options of a replay that the arguments ask for
 abbrev pub options_of : List (List ℕ) → Option ReplayOptions

@@ -1,9 +1,10 @@
-//! The program `dra`: `dra replay [--budget B] [--attempts A] [--entries E] < script` replays a script
-//! of the Kubernetes API's objects and prints the journal of what was decided.
+//! The program `dra`: `dra replay [--workers n] [--budget B] [--attempts A] [--entries E] < script` replays
+//! a script of the Kubernetes API's objects and prints the journal of what was decided.
 #![tactic(auto)]
 
 mod asked;
 mod denials;
+mod headline;
 mod message;
 mod position;
 mod program;
@@ -12,7 +13,7 @@ mod tail;
 mod words;
 
 use denials::{Denials, WatchedSink};
-use dra_ports::{Sink, Source};
+use dra_ports::OpenGate;
 use message::Message;
 use program::{exit_number, run};
 use replay_core::Status;
@@ -31,17 +32,12 @@ fn words_of_call(rt: &HostRuntime) -> io::Result<Vec<String>> {
     Ok(words)
 }
 
-/// Does what the arguments of this call ask for, over an input and an output.
-fn run_here<S: Source, K: Sink>(rt: &HostRuntime, input: &mut S, output: &mut K) -> Status {
-    match words_of_call(rt) {
-        Ok(words) => run(rt, &words, input, output),
-        Err(error) => {
-            if error.kind() == ErrorKind::OutOfMemory {
-                Status::Memory
-            } else {
-                Status::Usage
-            }
-        }
+/// The status if the arguments of this call can't be had.
+fn status_without_words(error: &io::Error) -> Status {
+    if error.kind() == ErrorKind::OutOfMemory {
+        Status::Memory
+    } else {
+        Status::Usage
     }
 }
 
@@ -61,7 +57,10 @@ fn report(rt: &HostRuntime, denials: &Denials) {
 fn main(rt: HostRuntime) -> ExitCode {
     let mut input = TailSource::new(StdSource::new(rt.stdin()), rt.alloc());
     let mut output = WatchedSink::new(StdSink::new(rt.stdout()), rt.alloc());
-    let status = run_here(&rt, &mut input, &mut output);
+    let status = match words_of_call(&rt) {
+        Ok(words) => run(&rt, &words, &mut input, &mut output, &OpenGate),
+        Err(error) => status_without_words(&error),
+    };
     report(&rt, output.denials());
     if status != Status::Done {
         // If the standard error fails, only the exit status reports the result.

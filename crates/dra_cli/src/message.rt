@@ -69,7 +69,6 @@ fn stray<W: fmt::Write>(byte: Option<u8>, f: &mut fmt::Formatter<W>) -> fmt::Res
 
 fn form_name(form: Form) -> &'static str {
     match form {
-        Form::Together => "Together",
         Form::Prepare => "Prepare",
         Form::Unprepare => "Unprepare",
         Form::Reopen => "Reopen",
@@ -123,9 +122,7 @@ fn asked<W: fmt::Write>(form: Form, pod: &Option<Key>, f: &mut fmt::Formatter<W>
         (Form::Prepare | Form::Unprepare, Some(pod)) => {
             write!(f, "{} of the pod {pod}", form_name(form))
         }
-        (Form::Prepare | Form::Unprepare | Form::Together | Form::Reopen, _) => {
-            f.write_str(form_name(form))
-        }
+        (Form::Prepare | Form::Unprepare | Form::Reopen, _) => { f.write_str(form_name(form)) }
     }
 }
 
@@ -169,8 +166,8 @@ impl fmt::Display for Message {
             Status::Done => f.write_str("all was done"),
             Status::Usage => f.write_str(
                 "these arguments are not supported; the one command is `replay`\n\
-                 usage: dra replay [--budget 1..10000000] [--attempts 1..64] [--entries 1..1000000] \
-                 < script",
+                 usage: dra replay [--workers 1..64] [--budget 1..10000000] [--attempts 1..64] \
+                 [--entries 1..1000000] < script",
             ),
             Status::Document(offset, why) => write!(
                 f,

@@ -3,23 +3,23 @@ ghost use Rattle.std.specs.Io.KnownBytes.{IsAtEnd};
 ghost use Rattle.dra_ports.specs.Causes.{Rose};
 ghost use Rattle.replay_core.specs.declared.form.Form.{Form};
 ghost use Rattle.replay_core.specs.declared.status.Rejection.{Rejection};
-ghost use Rattle.replay_core.specs.Replay.{EndsAt, EndsFull, EndsNotYet, EndsRead, EndsShort};
 ghost use Rattle.replay_core.specs.Script.{Bad, Long, most_input};
-ghost use Rattle.dra_cli.specs.Headline.{Replayed};
+ghost use Rattle.dra_cli.specs.Headline.{Replayed, ReplayedFull, ReplayedNotYet, ReplayedRead, ReplayedShort, ReplayedTo};
 ghost use Rattle.dra_cli.specs.Program.{AsksFor, exit_number};
 ghost use Rattle.dra_cli.specs.Words.{options_of};
 
+use crate::headline::runs_are_true;
 use crate::words::options_of;
-use dra_ports::{Sink, Source};
-use histories::{
-    adoptions_are_allocations, denials_change_nothing, grants_are_allocations, legal_steps,
-    objects_keep_limits, one_holder, pods_use_claims, users_are_busy, verdicts_are_true,
-};
-use replay_core::{Status, replay, runs_are_complete, runs_search_within};
+use dra_ports::{Gate, Sink, Source};
+use replay_core::{Status, replay};
+use std::sync::Wait;
+use std::thread::Threads;
 
 /// Does what the arguments of a call, without the program's name, ask for, over the objects that
 /// are passed in: `replay`, with its options after it, replays the script that the input is and
-/// prints to the output.
+/// prints to the output. The commands of a Together are done by as many workers as the option says, and
+/// what is stated here holds for every number of workers and however their turns interleave. The gate is
+/// called as these jobs go on.
 ///
 /// `Usage` is returned if and only if the arguments are no such command (`options_of`), and then nothing
 /// was read or written. `Memory` is returned only if memory runs out, `Read` and `Write` only
@@ -37,45 +37,38 @@ use replay_core::{Status, replay, runs_are_complete, runs_search_within};
 /// last command still made; with `Memory` and `Write` a prefix of such lines or of the whole text,
 /// perhaps all of it.
 ///
-/// Each command that was done is of a supported form, its searches are those within the budget of the
-/// option, and the history has at most as many entries as the option says. With `Done` each Schedule that
-/// is a single command is complete: if its pod is there and Idle as it begins, the pod is bound to the
-/// first node by name that fits within the budget, or its one entry is the verdict that says why not.
-pub fn run<R: AllocGlobal, S: Source, K: Sink>(
+/// With each status that prints: each command that was done is of a supported form, its searches are those
+/// within the budget of the option, and the history has at most as many entries as the option says. It is legal
+/// and true: each grant is an allocation, each verdict is true at its index, and at no index does a device have
+/// two holders. Each Schedule that is a single command is never refused by the check of its plan, in conflict or
+/// contended, and is complete: if its pod is there and Idle as it begins, the pod is bound to the first node by
+/// name that fits within the budget, or its one entry is the verdict that says why not.
+pub fn run<R: AllocGlobal + Threads + Wait + Sync, S: Source, K: Sink, G: Gate + Sync>(
     rt: &R,
     words: &Vec<String>,
     input: &mut S,
     output: &mut K,
+    gate: &G,
 ) -> Status
     ensures usage { result ≡ Status.Usage ↔ options_of (map string_bytes words.now.items) ≡ None }
     ensures usage_input { result ≡ Status.Usage → input.new ≡ input.old }
     ensures usage_output { result ≡ Status.Usage → output.new ≡ output.old }
     ensures done { result ≡ Status.Done → AsksFor (map string_bytes words.now.items) (λ o. Replayed o (S.left input.old) (K.written output.old) (K.written output.new)) }
     ensures all_read { result ≡ Status.Done → IsAtEnd (S.left input.new) }
-    ensures document { (at : ℕ) (why : Rejection) → result ≡ Status.Document at why → AsksFor (map string_bytes words.now.items) (λ o. EndsAt o (Bad at why) (S.left input.old) (K.written output.old) (K.written output.new)) }
-    ensures memory { result ≡ Status.Memory → AsksFor (map string_bytes words.now.items) (λ o. EndsShort o (S.left input.old) (K.written output.old) (K.written output.new)) }
+    ensures document { (at : ℕ) (why : Rejection) → result ≡ Status.Document at why → AsksFor (map string_bytes words.now.items) (λ o. ReplayedTo o (Bad at why) (S.left input.old) (K.written output.old) (K.written output.new)) }
+    ensures memory { result ≡ Status.Memory → AsksFor (map string_bytes words.now.items) (λ o. ReplayedShort o (S.left input.old) (K.written output.old) (K.written output.new)) }
     ensures read { result ≡ Status.Read → Rose (S.faults input.old) (S.faults input.new) }
-    ensures read_prints { result ≡ Status.Read → AsksFor (map string_bytes words.now.items) (λ o. EndsRead o (S.left input.old) (S.left input.new) (K.written output.old) (K.written output.new)) }
+    ensures read_prints { result ≡ Status.Read → AsksFor (map string_bytes words.now.items) (λ o. ReplayedRead o (S.left input.old) (S.left input.new) (K.written output.old) (K.written output.new)) }
     ensures faultless_input { (result ≡ Status.Read → ⊥) → S.faults input.new ≡ S.faults input.old }
     ensures write { result ≡ Status.Write → Rose (K.faults output.old) (K.faults output.new) }
-    ensures write_prints { result ≡ Status.Write → AsksFor (map string_bytes words.now.items) (λ o. EndsShort o (S.left input.old) (K.written output.old) (K.written output.new)) }
+    ensures write_prints { result ≡ Status.Write → AsksFor (map string_bytes words.now.items) (λ o. ReplayedShort o (S.left input.old) (K.written output.old) (K.written output.new)) }
     ensures faultless_output { (result ≡ Status.Write → ⊥) → K.faults output.new ≡ K.faults output.old }
-    ensures limit { (count : ℕ) → result ≡ Status.Limit count → AsksFor (map string_bytes words.now.items) (λ o. EndsFull o count (S.left input.old) (K.written output.old) (K.written output.new) ⊎ ((count ≡ most_input) × EndsAt o Long (S.left input.old) (K.written output.old) (K.written output.new))) }
-    ensures not_yet { (at : ℕ) (form : Form) → result ≡ Status.NotYet at form → AsksFor (map string_bytes words.now.items) (λ o. EndsNotYet o at form (S.left input.old) (K.written output.old) (K.written output.new)) }
+    ensures limit { (count : ℕ) → result ≡ Status.Limit count → AsksFor (map string_bytes words.now.items) (λ o. ReplayedFull o count (S.left input.old) (K.written output.old) (K.written output.new) ⊎ ((count ≡ most_input) × ReplayedTo o Long (S.left input.old) (K.written output.old) (K.written output.new))) }
+    ensures not_yet { (at : ℕ) (form : Form) → result ≡ Status.NotYet at form → AsksFor (map string_bytes words.now.items) (λ o. ReplayedNotYet o at form (S.left input.old) (K.written output.old) (K.written output.new)) }
 {
-    grants_are_allocations();
-    verdicts_are_true();
-    legal_steps();
-    adoptions_are_allocations();
-    denials_change_nothing();
-    one_holder();
-    objects_keep_limits();
-    users_are_busy();
-    pods_use_claims();
-    runs_are_complete();
-    runs_search_within();
+    runs_are_true();
     match options_of(words) {
-        Some(options) => replay(rt.alloc(), options, input, output),
+        Some(options) => replay(rt, options, input, output, gate),
         None => Status::Usage,
     }
 }

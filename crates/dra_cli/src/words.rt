@@ -7,6 +7,7 @@ use replay_core::ReplayOptions;
 /// An option of `replay`.
 #[derive(Clone, Copy, Drop)]
 pub enum Name {
+    Workers,
     Budget,
     Attempts,
     Entries,
@@ -15,6 +16,7 @@ pub enum Name {
 /// The options that arguments set, each at most once, and the one whose value is the next argument.
 #[derive(Clone, Copy, Drop)]
 pub struct Given {
+    pub workers: Option<u64>,
     pub budget: Option<u64>,
     pub attempts: Option<u64>,
     pub entries: Option<u64>,
@@ -22,6 +24,8 @@ pub struct Given {
 }
 
 /// The most of each option, whose least is 1.
+const MOST_WORKERS: u64 = 64;
+
 const MOST_BUDGET: u64 = 10_000_000;
 
 const MOST_ATTEMPTS: u64 = 64;
@@ -89,6 +93,7 @@ fn name_of(word: &str) -> Option<Name>
     ensures { result ≡ name_of word.now }
 {
     match word {
+        "--workers" => Some(Name::Workers),
         "--budget" => Some(Name::Budget),
         "--attempts" => Some(Name::Attempts),
         "--entries" => Some(Name::Entries),
@@ -104,6 +109,14 @@ fn with_value(given: Given, name: Name, value: &str) -> Option<Given>
 {
     let awaited = None;
     match name {
+        Name::Workers => {
+            let workers = Some(once(given.workers, value, MOST_WORKERS)?);
+            Some(Given {
+                workers,
+                awaited,
+                ..given
+            })
+        }
         Name::Budget => {
             let budget = Some(once(given.budget, value, MOST_BUDGET)?);
             Some(Given {
@@ -164,6 +177,7 @@ fn options_from(words: &[String]) -> Option<Given>
     ensures fit { IfSome result IsFit }
 {
     let mut given = Given {
+        workers: None,
         budget: None,
         attempts: None,
         entries: None,
@@ -185,6 +199,7 @@ fn with_defaults(given: Given) -> ReplayOptions
     ensures fit { AreFit result }
 {
     ReplayOptions {
+        workers: given.workers.unwrap_or(1),
         budget: given.budget.unwrap_or(100_000),
         attempts: given.attempts.unwrap_or(32),
         entries: given.entries.unwrap_or(MOST_ENTRIES),
@@ -192,9 +207,9 @@ fn with_defaults(given: Given) -> ReplayOptions
 }
 
 /// The options of the replay that the arguments ask for, or `None` if they are no such command: the
-/// argument `replay`, and after it in any order, each at most once, `--budget` with 1 to 10,000,000
-/// (else 100,000), `--attempts` with 1 to 64 (else 32) and `--entries` with 1 to 1,000,000 (else
-/// 1,000,000). The number, of one to eight decimal digits, is the next argument, or follows the name and
+/// argument `replay`, and after it in any order, each at most once, `--workers` with 1 to 64 (else 1),
+/// `--budget` with 1 to 10,000,000 (else 100,000), `--attempts` with 1 to 64 (else 32) and `--entries` with 1
+/// to 1,000,000 (else 1,000,000). The number, of one to eight decimal digits, is the next argument, or follows the name and
 /// `=` in the same one.
 pub fn options_of(words: &[String]) -> Option<ReplayOptions>
     ensures options { result ≡ options_of (map string_bytes words.now) }

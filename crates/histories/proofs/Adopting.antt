@@ -42,11 +42,17 @@ free_claim status None e = absurd (cc)
 free_claim status (Some c) e =
     (c, refl, no_grant c.grant (when_none (is_some c.grant) refusal.Exists (later_none (conflict_of status.version (Some c.claim.version)) (when (is_some c.grant) refusal.Exists) e)))
 
+-- and so is one that a status write is for
+pub adopted_free : (s : State) (claim : Key) (status : ClaimStatus) → MayAdopt s claim status → (c : ClaimState) × (at_key s.claims claim ≡ Some c) × (c.grant ≡ None)
+adopted_free s claim status may =
+    free_claim status (at_key s.claims claim)
+    (first_none (status_refusal status (at_key s.claims claim)) (option_map refusal.Failure (failing_status s claim status)) may.unrefused)
+
 pub adoption_of : StatusLaw → (h : List Entry) (claim : Key) (status : ClaimStatus) → MayAdopt (state_of h) claim status → IsAdoptionOf h claim status
 adoption_of law h claim status may =
     let s : State = state_of h in
     let failure : Option Refusal = option_map refusal.Failure (failing_status s claim status) in
-    let free = free_claim status (at_key s.claims claim) (first_none (status_refusal status (at_key s.claims claim)) failure may.unrefused) in
+    let free = adopted_free s claim status may in
     let sound = no_failure (failing_status s claim status) (later_none (status_refusal status (at_key s.claims claim)) failure may.unrefused) in
     let a = law s claim status free.0 free.1 sound in
     record { state = free.0; there = free.1; free = free.2; choice = a.0; allocation = a.1 }

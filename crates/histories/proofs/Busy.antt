@@ -40,15 +40,15 @@ use Rattle.histories.proofs.Histories.{job_state_of-more, state_of-empty, state_
 
 -- ---- how many pods a job has taken
 
-abbrev taken_by : ℕ → Phase → ℕ
+abbrev pub taken_by : ℕ → Phase → ℕ
 taken_by job phase.Idle = 0
 taken_by job (phase.Taken j node) = cond (eqb j job) 1 0
 taken_by job (phase.Bound node) = 0
 
-abbrev Pods : Type 0
+abbrev pub Pods : Type 0
 Pods = List (Key × PodState)
 
-abbrev pods_taken : ℕ → Pods → ℕ
+abbrev pub pods_taken : ℕ → Pods → ℕ
 pods_taken job [] = 0
 pods_taken job (e ∷ es) = taken_by job e.1.phase + pods_taken job es
 
@@ -280,7 +280,7 @@ there_by job test false e es p there later =
     omega (arith, h)
 
 -- a pod that is there counts
-counted : (job : ℕ) (test : Key → Bool) (es : Pods) (p : PodState) → lookup test es ≡ Some p → taken_by job p.phase ≤ pods_taken job es
+pub counted : (job : ℕ) (test : Key → Bool) (es : Pods) (p : PodState) → lookup test es ≡ Some p → taken_by job p.phase ≤ pods_taken job es
 counted job test [] p there = absurd (cc)
 counted job test (e ∷ es) p there = there_by job test (test e.0) e es p there (λ g. counted job test es p g)
 
@@ -328,7 +328,7 @@ trying (job_state.Failed k) e f = absurd (cc)
 trying (job_state.Ended index) e f = absurd (cc)
 
 -- a job that has taken a pod has it, and isn't one that may be denied
-holder_of : (h : List Entry) (job holder : ℕ) → Legal h → may_try (job_state_of h job) ≡ true → 1 ≤ pods_taken holder (state_of h).pods → (has_pod (job_state_of h holder) ≡ true) × (holder ≢ job)
+pub holder_of : (h : List Entry) (job holder : ℕ) → Legal h → may_try (job_state_of h job) ≡ true → 1 ≤ pods_taken holder (state_of h).pods → (has_pod (job_state_of h holder) ≡ true) × (holder ≢ job)
 holder_of h job holder legal may one =
     let few = few_now h legal holder in
     let least : 1 ≤ most (job_state_of h holder) = omega (arith, few, one) in

@@ -14,7 +14,7 @@ told-more step a n (d ∷ es) e =
     let eq : n + 1 + length es + 1 ≡ n + length (d ∷ es) + 1 = omega arith in
     told-more step (step a (n + 1) d) (n + 1) es e ∙ ap (λ (k : ℕ). step (told step (step a (n + 1) d) (n + 1) es) k e) eq
 
-told_whole : {A : Type 0} (step : A → ℕ → Entry → A) (a : A) (es : List Entry) (e : Entry) → told step a 0 (es ++ e ∷ []) ≡ step (told step a 0 es) (length es + 1) e
+pub told_whole : {A : Type 0} (step : A → ℕ → Entry → A) (a : A) (es : List Entry) (e : Entry) → told step a 0 (es ++ e ∷ []) ≡ step (told step a 0 es) (length es + 1) e
 told_whole step a es e =
     let eq : 0 + length es + 1 ≡ length es + 1 = omega arith in
     told-more step a 0 es e ∙ ap (λ (k : ℕ). step (told step a 0 es) k e) eq

@@ -60,7 +60,7 @@ removed_none_by : {V : Type 0} (b : Bool) (k : Key) (e : Key × V) (es less : Li
 removed_none_by true k e es less off none later = none
 removed_none_by false k e es less off none later = ap (λ c. cond c (Some e.1) (at_key less k)) off ∙ later
 
-removed_none : {V : Type 0} (test : Key → Bool) (k : Key) (es : List (Key × V)) → at_key es k ≡ None → at_key (remove_entry test es) k ≡ None
+pub removed_none : {V : Type 0} (test : Key → Bool) (k : Key) (es : List (Key × V)) → at_key es k ≡ None → at_key (remove_entry test es) k ≡ None
 removed_none test k [] none = none
 removed_none test k (e ∷ es) none =
     let parts = behind_none (is_at (key_cmp k) e.0) e.1 (at_key es k) none in

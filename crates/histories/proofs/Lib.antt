@@ -12,3 +12,7 @@ pub mod Adopting
 pub mod Limits
 pub mod Holders
 pub mod Histories
+mod Granting
+mod Reserving
+mod Determining
+pub mod GrowthDates

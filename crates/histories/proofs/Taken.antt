@@ -41,7 +41,7 @@ use Rattle.histories.proofs.Keyed.{insert_other, remove_other, some_same}
 use Rattle.histories.proofs.Using.{idle_of}
 
 -- the pod is there, and taken by the job for a node
-abbrev TakenBy : Pods → Key → ℕ → Type 0
+abbrev pub TakenBy : Pods → Key → ℕ → Type 0
 TakenBy pods pod job = (p : PodState) × (node : List ℕ) × (at_key pods pod ≡ Some p) × (p.phase ≡ phase.Taken job node)
 
 -- ---- what another job does
@@ -70,14 +70,14 @@ put_stays index x pods (Some p) pod job is t =
     subst (λ (o : Option PodState). TakenBy (option_map_or (λ v. set_value (is_at (key_cmp x.key)) pods (updated_pod index x v)) o pods) pod job) is
     (updated_by index x pods pod job (same_or_not (key_cmp pod x.key) pod x.key refl) t)
 
-applied_stays : (index : ℕ) (x : Object) (s : State) (pod : Key) (job : ℕ) → TakenBy s.pods pod job → TakenBy (with_object index x s).pods pod job
+pub applied_stays : (index : ℕ) (x : Object) (s : State) (pod : Key) (job : ℕ) → TakenBy s.pods pod job → TakenBy (with_object index x s).pods pod job
 applied_stays index (object.Node x) s pod job t = t
 applied_stays index (object.Slice x) s pod job t = t
 applied_stays index (object.Class x) s pod job t = t
 applied_stays index (object.Claim x) s pod job t = t
 applied_stays index (object.Pod x) s pod job t = put_stays index x s.pods (at_key s.pods x.key) pod job refl t
 
-deleted_stays : (x : Target) (s : State) (pod : Key) (job : ℕ) → first_refusal s (Delete x) ≡ None → TakenBy s.pods pod job → TakenBy (without_object x s).pods pod job
+pub deleted_stays : (x : Target) (s : State) (pod : Key) (job : ℕ) → first_refusal s (Delete x) ≡ None → TakenBy s.pods pod job → TakenBy (without_object x s).pods pod job
 deleted_stays (target.Node name) s pod job free t = t
 deleted_stays (target.Slice name) s pod job free t = t
 deleted_stays (target.Class name) s pod job free t = t

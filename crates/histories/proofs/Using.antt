@@ -53,21 +53,21 @@ use Rattle.histories.proofs.Headlines.{at_places}
 use Rattle.histories.proofs.Always.{always_state}
 use Rattle.histories.proofs.Keyed.{AllAt, Once, Rising, all_changed, all_put, each_at, gone, in_contains, insert_other, once_changed, once_of, once_put, once_removed, passed, remove_other, removed_case, rising_changed, rising_inserted, rising_removed, some_same}
 
-abbrev Users : Type 0
+abbrev pub Users : Type 0
 Users = List (Key × Use)
 
 -- the pod is there, is taken or bound, and names the claim
-abbrev Uses : Pods → Key → Key → Type 0
+abbrev pub Uses : Pods → Key → Key → Type 0
 Uses pods claim pod = (p : PodState) × (at_key pods pod ≡ Some p) × (is_busy (Some p) ≡ true) × In claim (claims_of p)
 
 -- these users of the claim are in order, and each is such a pod
-abbrev UsersOf : Pods → Key → Users → Type 0
+abbrev pub UsersOf : Pods → Key → Users → Type 0
 UsersOf pods claim users = Rising users × ((pod : Key) → is_some (at_key users pod) ≡ true → Uses pods claim pod)
 
-abbrev UserFits : Pods → Key → ClaimState → Type 0
+abbrev pub UserFits : Pods → Key → ClaimState → Type 0
 UserFits pods claim c = UsersOf pods claim c.users
 
-abbrev UsersFit : Pods → Claims → Type 0
+abbrev pub UsersFit : Pods → Claims → Type 0
 UsersFit pods claims = Once claims × AllAt (UserFits pods) claims
 
 -- ---- pods that stay users
@@ -119,7 +119,7 @@ remove_stays key pods idle =
 
 -- ---- users
 
-user_case : (us : Users) (pod l : Key) (u : Use) → (l ≡ pod) ⊎ (l ≡ pod → ⊥) → is_some (at_key (insert_entry key_cmp us pod u) l) ≡ true → (l ≡ pod) ⊎ (is_some (at_key us l) ≡ true)
+pub user_case : (us : Users) (pod l : Key) (u : Use) → (l ≡ pod) ⊎ (l ≡ pod → ⊥) → is_some (at_key (insert_entry key_cmp us pod u) l) ≡ true → (l ≡ pod) ⊎ (is_some (at_key us l) ≡ true)
 user_case us pod l u (inl e) h = inl e
 user_case us pod l u (inr differ) h = inr (ap is_some (sym (insert_other pod l us u differ)) ∙ h)
 
@@ -142,7 +142,7 @@ written_same : (test other : Key → Bool) (es : Users) (w : Use) → is_some (l
 written_same test other [] w = refl
 written_same test other (e ∷ es) w = written_set test other (test e.0) (other e.0) e es w refl refl (written_same test other es w)
 
-written_users : (pod l : Key) (us : Users) (o : Option Use) → is_some (at_key (option_map_or (λ x. set_value (is_at (key_cmp pod)) us Written) o us) l) ≡ is_some (at_key us l)
+pub written_users : (pod l : Key) (us : Users) (o : Option Use) → is_some (at_key (option_map_or (λ x. set_value (is_at (key_cmp pod)) us Written) o us) l) ≡ is_some (at_key us l)
 written_users pod l us None = refl
 written_users pod l us (Some x) = written_same (is_at (key_cmp pod)) (is_at (key_cmp l)) us Written
 
@@ -188,7 +188,7 @@ from_wanted k l None cs h = inr h
 from_wanted k l (Some c) cs h = from_ungranted k l c c.grant cs h
 
 -- a claim that is wanted is one of them
-wanted_in : (s : State) (ks : List Key) (k : Key) → In k (keys_in (wanted_of s ks)) → In k ks
+pub wanted_in : (s : State) (ks : List Key) (k : Key) → In k (keys_in (wanted_of s ks)) → In k ks
 wanted_in s [] k h = h
 wanted_in s (l ∷ ls) k h = ⊎_elim (λ (e : l ≡ k). inl e) (λ (g : In k (keys_in (wanted_of s ls))). inr (wanted_in s ls k g)) (from_wanted k l (at_key s.claims l) (wanted_of s ls) h)
 
@@ -321,7 +321,7 @@ fits_after law before index job (Denied command refusal) may fit h = h
 fits_first : UsersFit empty_state.pods empty_state.claims
 fits_first = (tt, λ k c is. absurd (cc))
 
-fits_now : SameClaims → (h : List Entry) → Legal h → UsersFit (state_of h).pods (state_of h).claims
+pub fits_now : SameClaims → (h : List Entry) → Legal h → UsersFit (state_of h).pods (state_of h).claims
 fits_now law h legal =
     always_state (λ s. UsersFit s.pods s.claims) fits_first (λ g e l s p. fits_after law g (length g + 1) e.job e.event s.follows (fit_now law g l) p) h legal
 

@@ -19,3 +19,7 @@ pub mod Owners
 pub mod Histories
 pub mod Alone
 pub mod JobRuns
+pub mod Granted
+pub mod Reservations
+pub mod Determined
+pub mod Growth

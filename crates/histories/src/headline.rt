@@ -7,6 +7,7 @@ ghost use Rattle.cluster.specs.declared.entry.Command.{Command};
 ghost use Rattle.cluster.specs.declared.entry.Command.TheVariants.{Release, Schedule};
 ghost use Rattle.cluster.specs.declared.entry.Refusal.{Refusal};
 ghost use Rattle.cluster.specs.declared.entry.Refusal.TheVariants.{Busy};
+ghost use Rattle.cluster.specs.declared.state.ClaimState.{ClaimState};
 ghost use Rattle.cluster.specs.declared.state.PodState.{PodState};
 ghost use Rattle.cluster.specs.State.{claims_of};
 ghost use Rattle.api_claim.specs.declared.types.ClaimStatus.{ClaimStatus};
@@ -18,12 +19,14 @@ ghost use Rattle.cluster.specs.History.{job_state_of, state_at, state_of};
 ghost use Rattle.histories.specs.Legal.{Legal, Step};
 ghost use Rattle.histories.specs.Denied.{MayDeny};
 ghost use Rattle.histories.specs.Headline.{IsAdoptionOf, IsGrantOf, IsVerdictOf};
+ghost use Rattle.histories.specs.Granted.{UsersAreGranted};
 ghost use Rattle.histories.specs.Limits.{ObjectsKept};
+ghost use Rattle.histories.specs.Reservations.{IsVersionReserved};
 ghost use Rattle.histories.specs.Users.{PodsUseClaims, UsersAreBusy};
 ghost use Rattle.cluster.specs.Denied.{is_busy, is_user};
 ghost use Rattle.pool_view.specs.Names.{at_key};
 
-use allocations::{budget_is_true, grants_hold_once};
+use allocations::budget_is_true;
 use cluster::same_is_equal;
 use plan_rules::{checked_is_allocation, one_holder_is_kept};
 
@@ -123,6 +126,30 @@ pub fn pods_use_claims()
     same_is_equal();
 }
 
+/// After a legal history and at each index of it a claim with a user has a grant, and a pod that is taken
+/// for a node, or bound to it, has the grants of all its claims there. So a claim that is adopted has no
+/// users.
+pub fn users_are_granted()
+    ensures now { (h : List Entry) → Legal h → UsersAreGranted (state_of h) }
+    ensures always { (h : List Entry) (index : ℕ) → Legal h → UsersAreGranted (state_at h index) }
+    ensures adopted { (prefix back : List Entry) (job : ℕ) (claim : Key) (status : ClaimStatus) (c : ClaimState) →
+        Legal (prefix ++ record { job = job; event = Event.Adopted claim status } ∷ back) →
+        at_key (state_of prefix).claims claim ≡ Some c → c.users ≡ [] }
+{
+    same_is_equal();
+}
+
+/// In a legal history a write of a use, and a conflict, name the version that the claim had as their job
+/// last reserved, which was for the same pod.
+pub fn versions_are_reserved()
+    ensures wrote { (prefix back : List Entry) (job : ℕ) (pod claim : Key) (seen : ℕ) →
+        Legal (prefix ++ record { job = job; event = Event.Wrote pod claim seen } ∷ back) → IsVersionReserved prefix job pod claim seen }
+    ensures conflict { (prefix back : List Entry) (job : ℕ) (pod claim : Key) (had now : ℕ) →
+        Legal (prefix ++ record { job = job; event = Event.Conflict pod claim had now } ∷ back) → IsVersionReserved prefix job pod claim had }
+{
+    same_is_equal();
+}
+
 /// Each object keeps the limits and name rules of the API references of `v1` and of
 /// `resource.k8s.io/v1` after a legal history, and at each index of it.
 pub fn objects_keep_limits()
@@ -137,6 +164,5 @@ pub fn one_holder()
     ensures always { (h : List Entry) (index : ℕ) → Legal h → HeldOnce (state_at h index) }
 {
     one_holder_is_kept();
-    grants_hold_once();
     checked_is_allocation();
 }

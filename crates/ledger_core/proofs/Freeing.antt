@@ -1,5 +1,5 @@
 -- What claims hold once grants go, and that other changes leave all devices with their claims.
-use Rattle.std.proofs.Common.{ℕ, ◌+◌, ◌≡◌, ◌∙◌, List, [], ◌∷◌, ◌++◌, Bool, true, false, cond, eqb, length, ◌&&◌, Option, None, Some, is_some, refl, sym, ap, subst, arith, ne_eqb}
+use Rattle.std.proofs.Common.{ℕ, ◌≡◌, ◌∙◌, List, [], ◌∷◌, ◌++◌, Bool, true, false, cond, eqb, length, ◌&&◌, Option, None, Some, is_some, refl, sym, ap, subst, arith, ne_eqb}
 use Rattle.std.specs.BTreeMap.{is_at}
 use Rattle.std.specs.Map.{remove_entry, set_value}
 use Rattle.std.specs.Option.{option_map, option_map_or}

@@ -7,6 +7,7 @@ pub mod Splitting
 pub mod Opening
 pub mod Giving
 pub mod Freeing
+pub mod Unsliced
 pub mod Keeping
 pub mod Taking
 pub mod Reserving

@@ -1,5 +1,5 @@
 -- Lists of devices with their claims, in which no device comes twice.
-use Rattle.std.proofs.Common.{ℕ, suc, ◌+◌, ◌<◌, ◌≡◌, ◌≢◌, ◌∙◌, List, [], ◌∷◌, ◌++◌, Bool, true, false, cond, ◌||◌, Option, None, Some, map, refl, sym, ap, arith}
+use Rattle.std.proofs.Common.{ℕ, suc, ◌<◌, ◌≡◌, ◌≢◌, ◌∙◌, List, [], ◌∷◌, ◌++◌, Bool, true, false, cond, ◌||◌, Option, None, Some, map, refl, sym, ap, arith}
 use Rattle.std.specs.List.{list_any, slice_get}
 use Rattle.std.specs.Map.{lookup}
 use Rattle.object_fields.specs.declared.key.DeviceId.{DeviceId}

@@ -3,6 +3,7 @@ use Rattle.std.proofs.Common.{ℕ, ◌+◌, ◌≡◌, List, Option, None, Some,
 use Rattle.object_fields.specs.declared.key.Key.{Key}
 use Rattle.api_claim.specs.declared.types.ClaimStatus.{ClaimStatus}
 use Rattle.counter_sets.specs.Holding.{Holders}
+use Rattle.counter_sets.specs.Totals.{KeptCounters}
 use Rattle.pool_view.specs.Names.{at_key}
 use Rattle.cluster.specs.declared.entry.Command.TheVariants.{Adopt}
 use Rattle.cluster.specs.declared.entry.Entry.{Entry}
@@ -25,13 +26,13 @@ use Rattle.ledger_core.proofs.Giving.{Adopts, Reserves, adopts, reserves}
 use Rattle.ledger_core.proofs.Keeping.{OneHolder, once_after}
 use Rattle.ledger_core.proofs.Opening.{Grantable, Open, allocation_opens}
 
-pub taking : OneHolder → (es : List Entry) (s : State) (hs : Holders) (job_states : List (ℕ × JobState)) (limit : ℕ) → IsKept es s hs job_states limit → (job : ℕ) (pod : Key) (plan : Plan)
+pub taking : OneHolder → (es : List Entry) (s : State) (hs : Holders) (ts : KeptCounters) (job_states : List (ℕ × JobState)) (limit : ℕ) → IsKept es s hs ts job_states limit → (job : ℕ) (pod : Key) (plan : Plan)
     → Step es (record { job = job; event = Reserved pod plan }) → Reserves s (with_reserved job pod plan s) plan.grants
-taking law es s hs job_states limit kept job pod plan step =
+taking law es s hs ts job_states limit kept job pod plan step =
     let holds = step.follows.holds_now in
     let able = allocation_opens (state_of es) holds.state.pod.object plan.node holds.choice plan.grants holds.allocation in
     reserves s job pod plan (subst (λ (t : State). Grantable t.claims plan.grants) (sym kept.state_is) able)
-    (once_after law es (record { job = job; event = Reserved pod plan }) s hs job_states limit kept step)
+    (once_after law es (record { job = job; event = Reserved pod plan }) s hs ts job_states limit kept step)
 
 first_none : (a b : Option Refusal) → or_else a b ≡ None → a ≡ None
 first_none None b e = refl
@@ -54,10 +55,10 @@ open_by s claim status (Some c) is e =
 pub open_claim : (s : State) (claim : Key) (status : ClaimStatus) → first_refusal s (Adopt claim status) ≡ None → Open s.claims claim
 open_claim s claim status e = open_by s claim status (at_key s.claims claim) refl e
 
-pub adopting : OneHolder → (es : List Entry) (s : State) (hs : Holders) (job_states : List (ℕ × JobState)) (limit : ℕ) → IsKept es s hs job_states limit → (job : ℕ) (claim : Key) (status : ClaimStatus)
+pub adopting : OneHolder → (es : List Entry) (s : State) (hs : Holders) (ts : KeptCounters) (job_states : List (ℕ × JobState)) (limit : ℕ) → IsKept es s hs ts job_states limit → (job : ℕ) (claim : Key) (status : ClaimStatus)
     → Step es (record { job = job; event = Adopted claim status }) → Adopts s (with_adopted (length es + 1) claim status s) claim (map result_of status.results)
-adopting law es s hs job_states limit kept job claim status step =
+adopting law es s hs ts job_states limit kept job claim status step =
     let now = state_of es in
     let unrefused = first_none (first_refusal now (Adopt claim status)) (grant_refusal now (Adopt claim status)) step.follows.unrefused in
     adopts s (length es + 1) claim status (subst (λ (t : State). Open t.claims claim) (sym kept.state_is) (open_claim now claim status unrefused))
-    (once_after law es (record { job = job; event = Adopted claim status }) s hs job_states limit kept step)
+    (once_after law es (record { job = job; event = Adopted claim status }) s hs ts job_states limit kept step)

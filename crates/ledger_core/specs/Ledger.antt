@@ -7,10 +7,12 @@ use Rattle.std.specs.Ordering.{nat_cmp}
 use Rattle.cluster.specs.declared.entry.JobState.{JobState}
 use Rattle.cluster.specs.declared.entry.JobState.TheVariants.{Fresh}
 use Rattle.counter_sets.specs.Holding.{AreHeld, Holders}
+use Rattle.counter_sets.specs.Totals.{KeptCounters}
 use Rattle.cluster.specs.Held.{held}
 use Rattle.cluster.specs.declared.state.State.{State}
 use Rattle.cluster.specs.declared.entry.Entry.{Entry}
 use Rattle.cluster.specs.declared.entry.Event.{Event}
+use Rattle.pool_totals.specs.Counting.{AreCounted}
 use Rattle.histories.specs.Legal.{Legal}
 use Rattle.cluster.specs.History.{job_state_of, state_of}
 
@@ -31,11 +33,12 @@ at table n = lookup (is_at (nat_cmp n)) table
 abbrev pub job_state_in : List (ℕ × JobState) → ℕ → JobState
 job_state_in job_states job = unwrap_or (at job_states job) Fresh
 
--- the entries are a legal history, and the state, its holders and each job's state are those after them
-pub record IsKept (entries : List Entry) (state : State) (holders : Holders) (job_states : List (ℕ × JobState)) (limit : ℕ) : Type 0 where
+-- the entries are a legal history, and the state, its holders, the totals and each job's state are those after them
+pub record IsKept (entries : List Entry) (state : State) (holders : Holders) (totals : KeptCounters) (job_states : List (ℕ × JobState)) (limit : ℕ) : Type 0 where
   pub legal : Legal entries
   pub state_is : state ≡ state_of entries
   pub holders_are : AreHeld holders (held state)
+  pub counted : AreCounted state.inventory holders totals
   pub job_states_are : (job : ℕ) → job_state_in job_states job ≡ job_state_of entries job
   pub within : length entries ≤ limit
   pub small : limit < 2 ^ 48

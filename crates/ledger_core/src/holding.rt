@@ -1,6 +1,6 @@
 //! The claims that hold devices, changed with each kind of entry.
 
-ghost use Rattle.std.specs.Prelude.{◌≡◌, ◌++◌, [], IfOk, OnOk, OnErr, map};
+ghost use Rattle.std.specs.Prelude.{◌≡◌, ◌++◌, [], None, IfOk, OnOk, OnErr, map};
 ghost use Rattle.object_fields.specs.declared.key.DeviceId.{DeviceId};
 ghost use Rattle.pool_view.specs.Names.{at_key};
 ghost use Rattle.counter_sets.specs.Holding.{holder_in};
@@ -8,94 +8,130 @@ ghost use Rattle.cluster.specs.Adopted.{result_of, with_adopted};
 ghost use Rattle.cluster.specs.Deleted.{without_object};
 ghost use Rattle.cluster.specs.Freed.{without_uses};
 ghost use Rattle.cluster.specs.Reserved.{with_reserved};
+ghost use Rattle.cluster.specs.declared.object.Target.TheVariants as targets;
 ghost use Rattle.request_rules.specs.Lists.{add_some};
+ghost use Rattle.pool_totals.specs.Counting.{AreCounted};
 ghost use Rattle.ledger_core.specs.Holding.{given_each, given_one, given_to, grant_at, left_by, left_each, left_of, left_one, lost_among, lost_at, lost_by, lost_of, lost_with};
 
+use crate::counting;
 use allocations::keys_of_pod;
 use api_claim::{ClaimStatus, StatusResult};
 use cluster::{ClaimState, DeviceResult, Grant, Granted, Plan, State, Target};
-use counter_sets::Held;
+use counter_sets::{Held, Totals};
 use dra_values::{Duplicate, Seq, Shared, Table};
 use object_fields::Key;
+use pool_totals::hold;
+use pool_view::Pools;
 use std::alloc::{AllocError, Global};
 
 /// Gives a claim the device of a result, unless the result has admin access.
 fn give(
     alloc: Global,
+    pools: &Pools,
     holders: &mut Held,
+    totals: &mut Totals,
     claim: &Key,
     found: &DeviceResult,
 ) -> Result<(), AllocError>
+    requires counted { AreCounted pools.now holders.old totals.old }
     ensures ok { OnOk result ((id : DeviceId) → holder_in holders.new id ≡ given_one claim.now found.now id (holder_in holders.old id)) }
     ensures err { OnErr result (holders.new ≡ holders.old) }
+    ensures counted { AreCounted pools.now holders.new totals.new }
 {
     if found.admin {
         return Ok(());
     }
     let claim = claim.copy(alloc)?;
-    holders.insert(&found.device, claim, alloc)
+    hold(alloc, pools, holders, totals, &found.device, claim)
 }
 
 /// Gives a claim the devices of results without admin access. After an error it may have some of them.
 fn give_all(
     alloc: Global,
+    pools: &Pools,
     holders: &mut Held,
+    totals: &mut Totals,
     claim: &Key,
     results: &[DeviceResult],
 ) -> Result<(), AllocError>
+    requires counted { AreCounted pools.now holders.old totals.old }
     ensures ok { OnOk result ((id : DeviceId) → holder_in holders.new id ≡ given_to claim.now results.now id (holder_in holders.old id)) }
     ensures others { (id : DeviceId) → left_of results.now id (holder_in holders.new id) ≡ left_of results.now id (holder_in holders.old id) }
+    ensures counted { AreCounted pools.now holders.new totals.new }
 {
     for found in results {
-        give(alloc, holders, claim, found)?;
+        give(alloc, pools, holders, totals, claim, found)?;
     }
     Ok(())
 }
 
 /// Gives each claim its devices. After an error some of them may be given.
-fn give_each(alloc: Global, holders: &mut Held, grants: &[Grant]) -> Result<(), AllocError>
+fn give_each(
+    alloc: Global,
+    pools: &Pools,
+    holders: &mut Held,
+    totals: &mut Totals,
+    grants: &[Grant],
+) -> Result<(), AllocError>
+    requires counted { AreCounted pools.now holders.old totals.old }
     ensures ok { OnOk result ((id : DeviceId) → holder_in holders.new id ≡ given_each grants.now id (holder_in holders.old id)) }
     ensures others { (id : DeviceId) → left_each grants.now id (holder_in holders.new id) ≡ left_each grants.now id (holder_in holders.old id) }
+    ensures counted { AreCounted pools.now holders.new totals.new }
 {
     for grant in grants {
-        give_all(alloc, holders, &grant.claim, grant.results.as_slice())?;
+        give_all(
+            alloc,
+            pools,
+            holders,
+            totals,
+            &grant.claim,
+            grant.results.as_slice(),
+        )?;
     }
     Ok(())
 }
 
 /// Gives the device of a result back, unless the result has admin access.
-fn leave(holders: &mut Held, found: &DeviceResult)
-    ensures { (id : DeviceId) → holder_in holders.new id ≡ left_one found.now id (holder_in holders.old id) }
+fn leave(pools: &Pools, holders: &mut Held, totals: &mut Totals, found: &DeviceResult)
+    requires counted { AreCounted pools.now holders.old totals.old }
+    ensures left { (id : DeviceId) → holder_in holders.new id ≡ left_one found.now id (holder_in holders.old id) }
+    ensures counted { AreCounted pools.now holders.new totals.new }
 {
     if !found.admin {
-        holders.remove(&found.device);
+        pool_totals::leave(pools, holders, totals, &found.device);
     }
 }
 
 /// Gives the devices of results without admin access back.
-fn leave_all(holders: &mut Held, results: &[DeviceResult])
-    ensures { (id : DeviceId) → holder_in holders.new id ≡ left_of results.now id (holder_in holders.old id) }
+fn leave_all(pools: &Pools, holders: &mut Held, totals: &mut Totals, results: &[DeviceResult])
+    requires counted { AreCounted pools.now holders.old totals.old }
+    ensures left { (id : DeviceId) → holder_in holders.new id ≡ left_of results.now id (holder_in holders.old id) }
+    ensures counted { AreCounted pools.now holders.new totals.new }
 {
     for found in results {
-        leave(holders, found);
+        leave(pools, holders, totals, found);
     }
 }
 
 /// Gives the devices of these grants back.
-fn leave_each(holders: &mut Held, grants: &[Grant])
-    ensures { (id : DeviceId) → holder_in holders.new id ≡ left_each grants.now id (holder_in holders.old id) }
+fn leave_each(pools: &Pools, holders: &mut Held, totals: &mut Totals, grants: &[Grant])
+    requires counted { AreCounted pools.now holders.old totals.old }
+    ensures left { (id : DeviceId) → holder_in holders.new id ≡ left_each grants.now id (holder_in holders.old id) }
+    ensures counted { AreCounted pools.now holders.new totals.new }
 {
     for grant in grants {
-        leave_all(holders, grant.results.as_slice());
+        leave_all(pools, holders, totals, grant.results.as_slice());
     }
 }
 
 /// Gives the devices of grants that go back.
-fn leave_lost(holders: &mut Held, lost: &[Shared<Granted>])
-    ensures { (id : DeviceId) → holder_in holders.new id ≡ left_by lost.now id (holder_in holders.old id) }
+fn leave_lost(pools: &Pools, holders: &mut Held, totals: &mut Totals, lost: &[Shared<Granted>])
+    requires counted { AreCounted pools.now holders.old totals.old }
+    ensures left { (id : DeviceId) → holder_in holders.new id ≡ left_by lost.now id (holder_in holders.old id) }
+    ensures counted { AreCounted pools.now holders.new totals.new }
 {
     for grant in lost {
-        leave_all(holders, grant.results.as_slice());
+        leave_all(pools, holders, totals, grant.results.as_slice());
     }
 }
 
@@ -103,15 +139,23 @@ fn leave_lost(holders: &mut Held, lost: &[Shared<Granted>])
 
 /// Gives the claims of a plan their devices, which are free. `AllocError` is returned only if memory runs out,
 /// and then each device is held as it was.
-fn hold_plan(alloc: Global, holders: &mut Held, grants: &[Grant]) -> Result<(), AllocError>
-    requires { (id : DeviceId) → left_each grants.now id (holder_in holders.old id) ≡ holder_in holders.old id }
+fn hold_plan(
+    alloc: Global,
+    pools: &Pools,
+    holders: &mut Held,
+    totals: &mut Totals,
+    grants: &[Grant],
+) -> Result<(), AllocError>
+    requires counted { AreCounted pools.now holders.old totals.old }
+    requires free { (id : DeviceId) → left_each grants.now id (holder_in holders.old id) ≡ holder_in holders.old id }
     ensures ok { OnOk result ((id : DeviceId) → holder_in holders.new id ≡ given_each grants.now id (holder_in holders.old id)) }
     ensures err { OnErr result ((id : DeviceId) → holder_in holders.new id ≡ holder_in holders.old id) }
+    ensures counted { AreCounted pools.now holders.new totals.new }
 {
-    match give_each(alloc, holders, grants) {
+    match give_each(alloc, pools, holders, totals, grants) {
         Ok(()) => Ok(()),
         Err(error) => {
-            leave_each(holders, grants);
+            leave_each(pools, holders, totals, grants);
             Err(error)
         }
     }
@@ -120,22 +164,26 @@ fn hold_plan(alloc: Global, holders: &mut Held, grants: &[Grant]) -> Result<(), 
 fn reserve_held(
     alloc: Global,
     state: &mut State,
+    pools: &Pools,
     holders: &mut Held,
+    totals: &mut Totals,
     job: u64,
     pod: &Key,
     plan: &Plan,
 ) -> Result<(), AllocError>
-    requires { (id : DeviceId) → left_each plan.now.grants id (holder_in holders.old id) ≡ holder_in holders.old id }
+    requires counted { AreCounted pools.now holders.old totals.old }
+    requires free { (id : DeviceId) → left_each plan.now.grants id (holder_in holders.old id) ≡ holder_in holders.old id }
     ensures ok { OnOk result (state.new ≡ with_reserved job pod.now plan.now state.old) }
     ensures given { OnOk result ((id : DeviceId) → holder_in holders.new id ≡ given_each plan.now.grants id (holder_in holders.old id)) }
     ensures err { OnErr result (state.new ≡ state.old) }
     ensures same { OnErr result ((id : DeviceId) → holder_in holders.new id ≡ holder_in holders.old id) }
+    ensures counted { AreCounted pools.now holders.new totals.new }
 {
-    hold_plan(alloc, holders, plan.grants.as_slice())?;
+    hold_plan(alloc, pools, holders, totals, plan.grants.as_slice())?;
     match state.reserve(alloc, job, pod, plan) {
         Ok(()) => Ok(()),
         Err(error) => {
-            leave_each(holders, plan.grants.as_slice());
+            leave_each(pools, holders, totals, plan.grants.as_slice());
             Err(error)
         }
     }
@@ -148,20 +196,28 @@ pub fn reserve(
     alloc: Global,
     state: &mut State,
     holders: &mut Shared<Held>,
+    totals: &mut Shared<Totals>,
     job: u64,
     pod: &Key,
     plan: &Plan,
 ) -> Result<(Key, Shared<Plan>), AllocError>
-    requires { (id : DeviceId) → left_each plan.now.grants id (holder_in holders.old id) ≡ holder_in holders.old id }
+    requires counted { AreCounted state.old.inventory holders.old totals.old }
+    requires free { (id : DeviceId) → left_each plan.now.grants id (holder_in holders.old id) ≡ holder_in holders.old id }
     ensures kept { IfOk result (λ kept. (kept.0 ≡ pod.now) × (kept.1 ≡ plan.now)) }
     ensures ok { OnOk result (state.new ≡ with_reserved job pod.now plan.now state.old) }
     ensures given { OnOk result ((id : DeviceId) → holder_in holders.new id ≡ given_each plan.now.grants id (holder_in holders.old id)) }
     ensures err { OnErr result (state.new ≡ state.old) }
     ensures same { OnErr result ((id : DeviceId) → holder_in holders.new id ≡ holder_in holders.old id) }
+    ensures counted { AreCounted state.old.inventory holders.new totals.new }
 {
     let kept_pod = pod.copy(alloc)?;
     let kept_plan = Shared::new(alloc, plan.copy(alloc)?)?;
-    reserve_held(alloc, state, holders.change(alloc)?, job, pod, plan)?;
+    state.sort(alloc)?;
+    let inventory = state.inventory.share()?;
+    let pools = Pools::of(alloc, &inventory)?;
+    let holders = holders.change(alloc)?;
+    let totals = totals.change(alloc)?;
+    reserve_held(alloc, state, &pools, holders, totals, job, pod, plan)?;
     Ok((kept_pod, kept_plan))
 }
 
@@ -240,18 +296,22 @@ fn lost_with(alloc: Global, state: &State, pod: &Key) -> Result<Vec<Shared<Grant
 fn free_held(
     alloc: Global,
     state: &mut State,
+    pools: &Pools,
     holders: &mut Held,
+    totals: &mut Totals,
     index: u64,
     pod: &Key,
 ) -> Result<(), AllocError>
+    requires counted { AreCounted pools.now holders.old totals.old }
     ensures ok { OnOk result (state.new ≡ without_uses index pod.now state.old) }
     ensures left { OnOk result ((id : DeviceId) → holder_in holders.new id ≡ left_by (lost_with state.old pod.now) id (holder_in holders.old id)) }
     ensures err { OnErr result (state.new ≡ state.old) }
     ensures same { OnErr result (holders.new ≡ holders.old) }
+    ensures counted { AreCounted pools.now holders.new totals.new }
 {
     let lost = lost_with(alloc, state, pod)?;
     state.free(alloc, index, pod)?;
-    leave_lost(holders, &lost);
+    leave_lost(pools, holders, totals, &lost);
     Ok(())
 }
 
@@ -261,17 +321,25 @@ pub fn free(
     alloc: Global,
     state: &mut State,
     holders: &mut Shared<Held>,
+    totals: &mut Shared<Totals>,
     index: u64,
     pod: &Key,
 ) -> Result<Key, AllocError>
+    requires counted { AreCounted state.old.inventory holders.old totals.old }
     ensures kept { IfOk result (λ kept. kept ≡ pod.now) }
     ensures ok { OnOk result (state.new ≡ without_uses index pod.now state.old) }
     ensures left { OnOk result ((id : DeviceId) → holder_in holders.new id ≡ left_by (lost_with state.old pod.now) id (holder_in holders.old id)) }
     ensures err { OnErr result (state.new ≡ state.old) }
     ensures same { OnErr result (holders.new ≡ holders.old) }
+    ensures counted { AreCounted state.old.inventory holders.new totals.new }
 {
     let kept = pod.copy(alloc)?;
-    free_held(alloc, state, holders.change(alloc)?, index, pod)?;
+    state.sort(alloc)?;
+    let inventory = state.inventory.share()?;
+    let pools = Pools::of(alloc, &inventory)?;
+    let holders = holders.change(alloc)?;
+    let totals = totals.change(alloc)?;
+    free_held(alloc, state, &pools, holders, totals, index, pod)?;
     Ok(kept)
 }
 
@@ -291,76 +359,121 @@ fn grant_at(
     }
 }
 
-/// The grant that goes with an object.
-fn lost_of(
-    alloc: Global,
-    state: &State,
-    target: &Target,
-) -> Result<Option<Shared<Granted>>, AllocError>
-    ensures { IfOk result (λ lost. lost ≡ lost_of state.now target.now) }
-{
-    match target {
-        Target::Claim(key) => grant_at(alloc, &state.claims, key),
-        Target::Node(_) | Target::Slice(_) | Target::Class(_) | Target::Pod(_) => Ok(None),
-    }
-}
-
 /// Takes an object away, with whose grant these results go.
 fn remove_held(
     alloc: Global,
     state: &mut State,
+    pools: &Pools,
     holders: &mut Held,
+    totals: &mut Totals,
     target: &Target,
     results: &[DeviceResult],
 ) -> Result<(), AllocError>
+    requires counted { AreCounted pools.now holders.old totals.old }
     ensures ok { OnOk result (state.new ≡ without_object target.now state.old) }
     ensures left { OnOk result ((id : DeviceId) → holder_in holders.new id ≡ left_of results.now id (holder_in holders.old id)) }
     ensures err { OnErr result (state.new ≡ state.old) }
     ensures same { OnErr result (holders.new ≡ holders.old) }
+    ensures counted { AreCounted pools.now holders.new totals.new }
 {
     state.remove(alloc, target)?;
-    leave_all(holders, results);
+    leave_all(pools, holders, totals, results);
     Ok(())
 }
 
-fn remove_with(
+/// Takes away a claim, with whose grant these results go.
+fn remove_granted(
     alloc: Global,
     state: &mut State,
     holders: &mut Shared<Held>,
+    totals: &mut Shared<Totals>,
     target: &Target,
-    lost: Option<Shared<Granted>>,
+    key: &Key,
+    results: &[DeviceResult],
 ) -> Result<(), AllocError>
+    requires target { target.now ≡ targets.Claim key.now }
+    requires counted { AreCounted state.old.inventory holders.old totals.old }
     ensures ok { OnOk result (state.new ≡ without_object target.now state.old) }
-    ensures left { OnOk result ((id : DeviceId) → holder_in holders.new id ≡ left_by (add_some lost []) id (holder_in holders.old id)) }
+    ensures left { OnOk result ((id : DeviceId) → holder_in holders.new id ≡ left_of results.now id (holder_in holders.old id)) }
     ensures err { OnErr result (state.new ≡ state.old) }
     ensures same { OnErr result (holders.new ≡ holders.old) }
+    ensures counted { AreCounted state.new.inventory holders.new totals.new }
 {
-    match lost {
-        None => state.remove(alloc, target),
+    state.sort(alloc)?;
+    let inventory = state.inventory.share()?;
+    let pools = Pools::of(alloc, &inventory)?;
+    let holders = holders.change(alloc)?;
+    let totals = totals.change(alloc)?;
+    remove_held(alloc, state, &pools, holders, totals, target, results)
+}
+
+/// Takes away a claim, with whose grant its devices go back.
+fn remove_claim(
+    alloc: Global,
+    state: &mut State,
+    holders: &mut Shared<Held>,
+    totals: &mut Shared<Totals>,
+    target: &Target,
+    key: &Key,
+) -> Result<(), AllocError>
+    requires target { target.now ≡ targets.Claim key.now }
+    requires counted { AreCounted state.old.inventory holders.old totals.old }
+    ensures ok { OnOk result (state.new ≡ without_object target.now state.old) }
+    ensures left { OnOk result ((id : DeviceId) → holder_in holders.new id ≡ left_by (add_some (lost_of state.old target.now) []) id (holder_in holders.old id)) }
+    ensures err { OnErr result (state.new ≡ state.old) }
+    ensures same { OnErr result (holders.new ≡ holders.old) }
+    ensures counted { AreCounted state.new.inventory holders.new totals.new }
+{
+    match grant_at(alloc, &state.claims, key)? {
+        None => counting::remove(alloc, state, holders.value(), totals, target),
         Some(grant) => {
             let results = grant.results.as_slice();
-            remove_held(alloc, state, holders.change(alloc)?, target, results)
+            remove_granted(alloc, state, holders, totals, target, key, results)
+        }
+    }
+}
+
+fn remove_by(
+    alloc: Global,
+    state: &mut State,
+    holders: &mut Shared<Held>,
+    totals: &mut Shared<Totals>,
+    target: &Target,
+) -> Result<(), AllocError>
+    requires counted { AreCounted state.old.inventory holders.old totals.old }
+    ensures ok { OnOk result (state.new ≡ without_object target.now state.old) }
+    ensures left { OnOk result ((id : DeviceId) → holder_in holders.new id ≡ left_by (add_some (lost_of state.old target.now) []) id (holder_in holders.old id)) }
+    ensures err { OnErr result (state.new ≡ state.old) }
+    ensures same { OnErr result (holders.new ≡ holders.old) }
+    ensures counted { AreCounted state.new.inventory holders.new totals.new }
+{
+    match target {
+        Target::Claim(key) => remove_claim(alloc, state, holders, totals, target, key),
+        Target::Node(_) | Target::Slice(_) | Target::Class(_) | Target::Pod(_) => {
+            counting::remove(alloc, state, holders.value(), totals, target)
         }
     }
 }
 
 /// Takes an object away, and returns its kind and name again. `AllocError` is returned only if memory runs
-/// out, and then nothing changed.
+/// out, and then the state is as it was, and each device is held as it was.
 pub fn remove(
     alloc: Global,
     state: &mut State,
     holders: &mut Shared<Held>,
+    totals: &mut Shared<Totals>,
     target: &Target,
 ) -> Result<Target, AllocError>
+    requires counted { AreCounted state.old.inventory holders.old totals.old }
     ensures kept { IfOk result (λ kept. kept ≡ target.now) }
     ensures ok { OnOk result (state.new ≡ without_object target.now state.old) }
     ensures left { OnOk result ((id : DeviceId) → holder_in holders.new id ≡ left_by (add_some (lost_of state.old target.now) []) id (holder_in holders.old id)) }
     ensures err { OnErr result (state.new ≡ state.old) }
     ensures same { OnErr result (holders.new ≡ holders.old) }
+    ensures counted { AreCounted state.new.inventory holders.new totals.new }
 {
     let kept = target.copy(alloc)?;
-    let lost = lost_of(alloc, state, target)?;
-    remove_with(alloc, state, holders, target, lost)?;
+    remove_by(alloc, state, holders, totals, target)?;
     Ok(kept)
 }
 
@@ -391,18 +504,22 @@ fn status_results(alloc: Global, status: &ClaimStatus) -> Result<Seq<DeviceResul
 /// memory runs out, and then each device is held as it was.
 fn hold_results(
     alloc: Global,
+    pools: &Pools,
     holders: &mut Held,
+    totals: &mut Totals,
     claim: &Key,
     results: &[DeviceResult],
 ) -> Result<(), AllocError>
-    requires { (id : DeviceId) → left_of results.now id (holder_in holders.old id) ≡ holder_in holders.old id }
+    requires counted { AreCounted pools.now holders.old totals.old }
+    requires free { (id : DeviceId) → left_of results.now id (holder_in holders.old id) ≡ holder_in holders.old id }
     ensures ok { OnOk result ((id : DeviceId) → holder_in holders.new id ≡ given_to claim.now results.now id (holder_in holders.old id)) }
     ensures err { OnErr result ((id : DeviceId) → holder_in holders.new id ≡ holder_in holders.old id) }
+    ensures counted { AreCounted pools.now holders.new totals.new }
 {
-    match give_all(alloc, holders, claim, results) {
+    match give_all(alloc, pools, holders, totals, claim, results) {
         Ok(()) => Ok(()),
         Err(error) => {
-            leave_all(holders, results);
+            leave_all(pools, holders, totals, results);
             Err(error)
         }
     }
@@ -411,23 +528,27 @@ fn hold_results(
 fn adopt_held(
     alloc: Global,
     state: &mut State,
+    pools: &Pools,
     holders: &mut Held,
+    totals: &mut Totals,
     index: u64,
     claim: &Key,
     status: &ClaimStatus,
 ) -> Result<(), AllocError>
-    requires { (id : DeviceId) → left_of (map result_of status.now.results) id (holder_in holders.old id) ≡ holder_in holders.old id }
+    requires counted { AreCounted pools.now holders.old totals.old }
+    requires free { (id : DeviceId) → left_of (map result_of status.now.results) id (holder_in holders.old id) ≡ holder_in holders.old id }
     ensures ok { OnOk result (state.new ≡ with_adopted index claim.now status.now state.old) }
     ensures given { OnOk result ((id : DeviceId) → holder_in holders.new id ≡ given_to claim.now (map result_of status.now.results) id (holder_in holders.old id)) }
     ensures err { OnErr result (state.new ≡ state.old) }
     ensures same { OnErr result ((id : DeviceId) → holder_in holders.new id ≡ holder_in holders.old id) }
+    ensures counted { AreCounted pools.now holders.new totals.new }
 {
     let results = status_results(alloc, status)?;
-    hold_results(alloc, holders, claim, results.as_slice())?;
+    hold_results(alloc, pools, holders, totals, claim, results.as_slice())?;
     match state.adopt(alloc, index, claim, status) {
         Ok(()) => Ok(()),
         Err(error) => {
-            leave_all(holders, results.as_slice());
+            leave_all(pools, holders, totals, results.as_slice());
             Err(error)
         }
     }
@@ -440,18 +561,26 @@ pub fn adopt(
     alloc: Global,
     state: &mut State,
     holders: &mut Shared<Held>,
+    totals: &mut Shared<Totals>,
     index: u64,
     claim: &Key,
     status: &ClaimStatus,
 ) -> Result<Key, AllocError>
-    requires { (id : DeviceId) → left_of (map result_of status.now.results) id (holder_in holders.old id) ≡ holder_in holders.old id }
+    requires counted { AreCounted state.old.inventory holders.old totals.old }
+    requires free { (id : DeviceId) → left_of (map result_of status.now.results) id (holder_in holders.old id) ≡ holder_in holders.old id }
     ensures kept { IfOk result (λ kept. kept ≡ claim.now) }
     ensures ok { OnOk result (state.new ≡ with_adopted index claim.now status.now state.old) }
     ensures given { OnOk result ((id : DeviceId) → holder_in holders.new id ≡ given_to claim.now (map result_of status.now.results) id (holder_in holders.old id)) }
     ensures err { OnErr result (state.new ≡ state.old) }
     ensures same { OnErr result ((id : DeviceId) → holder_in holders.new id ≡ holder_in holders.old id) }
+    ensures counted { AreCounted state.old.inventory holders.new totals.new }
 {
     let kept = claim.copy(alloc)?;
-    adopt_held(alloc, state, holders.change(alloc)?, index, claim, status)?;
+    state.sort(alloc)?;
+    let inventory = state.inventory.share()?;
+    let pools = Pools::of(alloc, &inventory)?;
+    let holders = holders.change(alloc)?;
+    let totals = totals.change(alloc)?;
+    adopt_held(alloc, state, &pools, holders, totals, index, claim, status)?;
     Ok(kept)
 }

@@ -2,6 +2,8 @@ ghost use Rattle.std.specs.Prelude.{◌≡◌, ◌≤◌, ◌<◌, ◌^◌, ◌+
 ghost use Rattle.std.specs.Vec.{vec_capacity};
 ghost use Rattle.std.specs.Map.{lookup};
 ghost use Rattle.counter_sets.specs.Holding.{AreHeld};
+ghost use Rattle.pool_totals.specs.Counting.{AreCounted};
+ghost use Rattle.pool_totals.specs.Drawn.{AreDrawn};
 ghost use Rattle.pool_view.specs.Names.{at_key, device_eq};
 ghost use Rattle.cluster.specs.declared.entry.Command.TheVariants.{Adopt, Invalid, Schedule};
 ghost use Rattle.cluster.specs.declared.entry.Event.TheVariants.{Adopted, Applied, Bound, Conflict, Contended, Deleted, Denied, VerdictGiven, Refused, Released, Reserved, Unreserved, Wrote};
@@ -32,6 +34,7 @@ ghost use Rattle.histories.specs.Unreserved.{MayUnreserve};
 ghost use Rattle.histories.specs.Wrote.{MayWrite};
 
 use crate::LedgerError;
+use crate::counting::{new_totals, put};
 use crate::holding::{adopt, free, remove, reserve};
 use crate::room::{JobStates, append, failures, job_state_in, make_room};
 use crate::snapshot::Snapshot;
@@ -41,13 +44,14 @@ use cluster::{
     Command, Entry, Event, Failure, JobState, Kept, Mode, Outcome, Phase, Plan, Ready, ReadyParts,
     Refusal, State, Target, Use, Users, Verdict,
 };
-use counter_sets::Held;
+use counter_sets::{Held, Totals};
 use dra_values::{Shared, Table, Text};
 use full_nodes::learn_full_slices;
 use histories::{one_holder, uids_keep_claims};
 use node_inputs::wanted_in;
 use object_fields::{DeviceId, FieldError, FieldErrorKind, Key};
 use plan_rules::{checked_is_allocation, checked_is_known};
+use pool_totals::kept_totals_are_drawn;
 use std::alloc::{AllocError, Global};
 use std::marker::Model;
 
@@ -75,6 +79,7 @@ pub struct Ledger {
     entries: Vec<Entry>,
     state: State,
     holders: Shared<Held>,
+    totals: Shared<Totals>,
     job_states: JobStates,
     limit: u64,
 }
@@ -86,7 +91,7 @@ impl Model for Ledger {
 
     ghost view = { λ l. record { entries = l.entries.items; limit = l.limit } };
 
-    ghost invariant = { λ l. IsKept l.entries.items l.state l.holders l.job_states l.limit };
+    ghost invariant = { λ l. IsKept l.entries.items l.state l.holders l.totals l.job_states l.limit };
 }
 
 impl Ledger {
@@ -97,10 +102,12 @@ impl Ledger {
     {
         let state = State::new(alloc)?;
         let holders = no_holders(alloc)?;
+        let totals = new_totals(alloc, &state, &holders)?;
         Ok(Ledger {
             entries: Vec::new(alloc),
             state,
             holders,
+            totals,
             job_states: Table::new(alloc),
             limit,
         })
@@ -141,6 +148,15 @@ impl Ledger {
         ensures { option_copied result ≡ lookup (λ d. device_eq d device.now) (held (state_of self.now.entries)) }
     {
         self.holders.holder(device)
+    }
+
+    /// The counters of the usable pools after all entries, with what the devices draw from each that claims hold.
+    /// Allocates nothing.
+    pub fn totals(&self) -> &Totals
+        ensures { AreDrawn (state_of self.now.entries).inventory (held (state_of self.now.entries)) result.now }
+    {
+        kept_totals_are_drawn();
+        &self.totals
     }
 
     /// The entry at an index, from 1.
@@ -246,7 +262,14 @@ impl Ledger {
         let at = self.len();
         match self.state.schedule_refusal(alloc, pod)? {
             None => {
-                let snapshot = take_snapshot(alloc, &mut self.state, &self.holders, pod, at)?;
+                let snapshot = take_snapshot(
+                    alloc,
+                    &mut self.state,
+                    &self.holders,
+                    &self.totals,
+                    pod,
+                    at,
+                )?;
                 Ok(Start::Seen(snapshot))
             }
             Some(refusal) => {
@@ -328,7 +351,14 @@ impl Ledger {
     {
         one_holder();
         let index = make_room(&mut self.entries, &mut self.job_states, self.limit, job)?;
-        let pod = free(alloc, &mut self.state, &mut self.holders, index, pod)?;
+        let pod = free(
+            alloc,
+            &mut self.state,
+            &mut self.holders,
+            &mut self.totals,
+            index,
+            pod,
+        )?;
         let event = Event::Unreserved(pod);
         append(&mut self.entries, &mut self.job_states, job, event);
         Ok(Done {
@@ -487,6 +517,8 @@ impl Ledger {
             &mut self.entries,
             &mut self.job_states,
             &mut self.state,
+            &self.holders,
+            &mut self.totals,
             self.limit,
             job,
             kept,
@@ -512,7 +544,13 @@ impl Ledger {
     {
         one_holder();
         let index = make_room(&mut self.entries, &mut self.job_states, self.limit, job)?;
-        let target = remove(alloc, &mut self.state, &mut self.holders, target)?;
+        let target = remove(
+            alloc,
+            &mut self.state,
+            &mut self.holders,
+            &mut self.totals,
+            target,
+        )?;
         let event = Event::Deleted(target);
         append(&mut self.entries, &mut self.job_states, job, event);
         Ok(Done {
@@ -562,7 +600,7 @@ impl Ledger {
         checked_is_known();
         checked_is_allocation();
         uids_keep_claims();
-        match check(alloc, &self.state, &self.holders, pod, plan)? {
+        match check(alloc, &self.state, &self.holders, &self.totals, pod, plan)? {
             None => self.take(alloc, job, pod, plan),
             Some(why) => self.refuse_plan(alloc, job, pod, plan, why),
         }
@@ -610,7 +648,15 @@ impl Ledger {
     {
         one_holder();
         let index = make_room(&mut self.entries, &mut self.job_states, self.limit, job)?;
-        let (pod, plan) = reserve(alloc, &mut self.state, &mut self.holders, job, pod, plan)?;
+        let (pod, plan) = reserve(
+            alloc,
+            &mut self.state,
+            &mut self.holders,
+            &mut self.totals,
+            job,
+            pod,
+            plan,
+        )?;
         let event = Event::Reserved { pod, plan };
         append(&mut self.entries, &mut self.job_states, job, event);
         Ok(Done {
@@ -701,7 +747,14 @@ impl Ledger {
     {
         one_holder();
         let index = make_room(&mut self.entries, &mut self.job_states, self.limit, job)?;
-        let pod = free(alloc, &mut self.state, &mut self.holders, index, pod)?;
+        let pod = free(
+            alloc,
+            &mut self.state,
+            &mut self.holders,
+            &mut self.totals,
+            index,
+            pod,
+        )?;
         let event = Event::Released(pod);
         append(&mut self.entries, &mut self.job_states, job, event);
         Ok(Done {
@@ -727,7 +780,14 @@ impl Ledger {
         ensures full { (n : ℕ) → IsErrOf result (LedgerError.Full n) → (length self.old.entries ≡ n) × (self.old.limit ≤ n) }
         ensures err { OnErr result (self.new ≡ self.old) }
     {
-        match check_status(alloc, &self.state, &self.holders, claim, &status)? {
+        match check_status(
+            alloc,
+            &self.state,
+            &self.holders,
+            &self.totals,
+            claim,
+            &status,
+        )? {
             None => {
                 let status = Shared::new(alloc, status)?;
                 self.make_grant(alloc, job, claim, status)
@@ -763,6 +823,7 @@ impl Ledger {
             alloc,
             &mut self.state,
             &mut self.holders,
+            &mut self.totals,
             index,
             claim,
             status.value(),
@@ -789,12 +850,15 @@ fn put_object(
     entries: &mut Vec<Entry>,
     job_states: &mut JobStates,
     state: &mut State,
+    holders: &Held,
+    totals: &mut Shared<Totals>,
     limit: u64,
     job: u64,
     kept: Kept,
 ) -> Result<u64, LedgerError>
     requires limit { limit < 2 ^ 48 }
     requires free { has_room state.old (object_of kept) ≡ true }
+    requires counted { AreCounted state.old.inventory holders.now totals.old }
     ensures entries { entries.new.items ≡ entries.old.items }
     ensures job_states { (j : ℕ) → job_state_in job_states.new j ≡ job_state_in job_states.old j }
     ensures row { OnOk result (is_some (at job_states.new job) ≡ true) }
@@ -804,9 +868,10 @@ fn put_object(
     ensures ok { OnOk result (state.new ≡ with_object (length entries.old.items + 1) (object_of kept) state.old) }
     ensures full { (n : ℕ) → IsErrOf result (LedgerError.Full n) → (length entries.old.items ≡ n) × (limit ≤ n) }
     ensures err { OnErr result (state.new ≡ state.old) }
+    ensures counted { AreCounted state.new.inventory holders.now totals.new }
 {
     let index = make_room(entries, job_states, limit, job)?;
-    state.put(alloc, index, kept)?;
+    put(alloc, state, holders, totals, index, kept)?;
     Ok(index)
 }
 
@@ -884,16 +949,18 @@ fn bind(alloc: Global, state: &mut State, pod: &Key) -> Result<(Key, Text), Allo
     Ok((kept, kept_node))
 }
 
-/// A snapshot of the state for the searches of a pod: its slices are sorted, and the inventory has found out
-/// about those whose devices are all held what `learn_full_slices` says.
+/// A snapshot of the state for the searches of a pod: its slices are sorted, and the inventory has found out about
+/// those whose devices are all held what `learn_full_slices` says.
 fn take_snapshot(
     alloc: Global,
     state: &mut State,
     holders: &Shared<Held>,
+    totals: &Shared<Totals>,
     pod: &Key,
     at: u64,
 ) -> Result<Snapshot, AllocError>
-    requires { AreHeld holders.now (held state.old) }
+    requires holders { AreHeld holders.now (held state.old) }
+    requires totals { AreCounted state.old.inventory holders.now totals.now }
     ensures same { state.new ≡ state.old }
     ensures seen { IfOk result (λ snapshot. snapshot ≡ record { at = at; state = state.old }) }
 {
@@ -901,7 +968,8 @@ fn take_snapshot(
     learn(alloc, state, holders, pod)?;
     let state = state.share()?;
     let holders = holders.share()?;
-    Ok(Snapshot::of(at, state, holders))
+    let totals = totals.share()?;
+    Ok(Snapshot::of(at, state, holders, totals))
 }
 
 /// Lets the inventory find out about slices for the searches of a pod, if it exists. The state stays the same.

@@ -1,6 +1,7 @@
 //! The history of a cluster, which stays legal, and the state after it.
 #![tactic(auto)]
 
+mod counting;
 mod error;
 mod holding;
 mod ledger;

@@ -8,6 +8,7 @@ use api_claim::ClaimStatus;
 use cluster::{Command, Entry, Event, Failure, Refusal};
 use dra_values::Shared;
 use object_fields::{FieldError, FieldErrorKind, Key};
+use pool_totals::kept_totals;
 use serde_json::Value;
 use std::alloc::{AllocError, Global};
 
@@ -42,7 +43,9 @@ pub fn of_plan(alloc: Global, setup: &Setup, text: &str) -> Result<String, CaseE
     let planned = read_plan(alloc, text)?;
     let state = setup.ledger.state();
     let holders = setup.ledger.holders();
-    match check(alloc, state, holders, &planned.pod, planned.plan.value())? {
+    let totals = kept_totals(alloc, &state.inventory, holders)?;
+    let plan = planned.plan.value();
+    match check(alloc, state, holders, &totals, &planned.pod, plan)? {
         None => Ok(String::from_str(alloc, "ok")?),
         Some(why) => plan_failure(alloc, planned, why),
     }
@@ -103,7 +106,9 @@ pub fn of_status(alloc: Global, setup: &Setup, text: &str) -> Result<String, Cas
     if state.claims.get(&claim).is_none() {
         return Err(CaseError::BadCase);
     }
-    match check_status(alloc, state, setup.ledger.holders(), &claim, &status)? {
+    let holders = setup.ledger.holders();
+    let totals = kept_totals(alloc, &state.inventory, holders)?;
+    match check_status(alloc, state, holders, &totals, &claim, &status)? {
         None => Ok(String::from_str(alloc, "ok")?),
         Some(why) => status_failure(alloc, claim, status, why),
     }

@@ -21,3 +21,5 @@ mod Accepting
 mod Telling
 mod Saying
 mod Knowing
+mod Unique
+mod AdoptedOnce

@@ -8,3 +8,4 @@ pub mod Failing
 pub mod Meant
 pub mod Fits
 pub mod Says
+pub mod Decided

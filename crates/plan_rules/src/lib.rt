@@ -2,10 +2,12 @@
 //! code.
 #![tactic(auto)]
 
+mod decided;
 mod failures;
 mod holders;
 mod plans;
 
+pub use decided::decisions_are_unique;
 pub use failures::{
     allocations_pass, checked_is_allocation, checked_is_known, failures_are_true,
     fitting_is_of_pod, unfailing_is_allocated,

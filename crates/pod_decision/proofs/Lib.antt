@@ -10,3 +10,4 @@ pub mod FullWalks
 pub mod FullInputs
 pub mod Unfaulted
 pub mod FullNodes
+pub mod OneDecision

@@ -4,6 +4,7 @@ ghost use Rattle.cluster.specs.Held.{held};
 ghost use Rattle.cluster.specs.State.{is_idle};
 ghost use Rattle.counter_sets.specs.Holding.{AreHeld};
 ghost use Rattle.allocations.specs.Claims.{joined, keys_of_pod};
+ghost use Rattle.pool_totals.specs.Drawn.{AreDrawn};
 ghost use Rattle.pod_decision.specs.Decisions.{IsDecision};
 ghost use Rattle.plan_rules.specs.Idle.{is_idle_pod};
 ghost use Rattle.pod_decision.specs.Parts.{decision_by, plan_by, unready};
@@ -14,7 +15,7 @@ use crate::nodes::{Taken, node_names, try_nodes};
 use crate::search::PodSearch;
 use allocations::{keys_of_pod, unsat_is_true};
 use cluster::{Known, PassedBuilder, PassedNodes, Phase, Plan, PodState, Reason, State, Verdict};
-use counter_sets::Held;
+use counter_sets::{Held, Totals};
 use dra_values::Seq;
 use object_fields::Key;
 use std::alloc::{AllocError, Global};
@@ -54,23 +55,26 @@ fn is_idle(phase: &Phase) -> bool
 /// the plan takes the first node on which a search finds an allocation and which has the grants of the
 /// claims that the pod joins; if there is none, the verdict has the cause of each node.
 ///
-/// `holders` are the devices that the state's claims hold. `at` is how many entries were in the history
-/// whose state this is, and `budget` how many items of a node's walk a search may look at.
+/// `holders` are the devices that the state's claims hold, and `totals` what these draw, which are copied once. `at` is
+/// how many entries were in the history whose state this is, and `budget` how many items of a node's walk a search may
+/// look at.
 /// `AllocError` is returned only if memory runs out.
 pub fn decide(
     alloc: Global,
     state: &State,
     holders: &Held,
+    totals: &Totals,
     pod: &Key,
     at: u64,
     budget: u64,
 ) -> Result<Decision, AllocError>
     requires idle { is_idle_pod state.now pod.now ≡ true }
     requires holders { AreHeld holders.now (held state.now) }
+    requires totals { AreDrawn state.now.inventory (held state.now) totals.now }
     ensures { IfOk result (IsDecision state.now pod.now budget at) }
 {
     match state.pods.get(pod) {
-        Some(found) => decide_for(alloc, state, holders, pod, found, at, budget),
+        Some(found) => decide_for(alloc, state, holders, totals, pod, found, at, budget),
         None => unreachable!(),
     }
 }
@@ -79,6 +83,7 @@ fn decide_for(
     alloc: Global,
     state: &State,
     holders: &Held,
+    totals: &Totals,
     key: &Key,
     pod: &PodState,
     at: u64,
@@ -86,6 +91,7 @@ fn decide_for(
 ) -> Result<Decision, AllocError>
     requires idle { IsIdle state.now key.now pod.now }
     requires holders { AreHeld holders.now (held state.now) }
+    requires totals { AreDrawn state.now.inventory (held state.now) totals.now }
     ensures { IfOk result (IsDecision state.now key.now budget at) }
 {
     let claims = keys_of_pod(alloc, &pod.pod.object)?;
@@ -95,6 +101,7 @@ fn decide_for(
             alloc,
             state,
             holders,
+            totals,
             key,
             pod,
             claims.as_slice(),
@@ -110,6 +117,7 @@ fn decide_among(
     alloc: Global,
     state: &State,
     holders: &Held,
+    totals: &Totals,
     key: &Key,
     pod: &PodState,
     claims: &[Key],
@@ -117,6 +125,7 @@ fn decide_among(
     budget: u64,
 ) -> Result<Decision, AllocError>
     requires holders { AreHeld holders.now (held state.now) }
+    requires totals { AreDrawn state.now.inventory (held state.now) totals.now }
     requires may_search { MaySearch state.now key.now pod.now }
     requires claims { claims.now ≡ keys_of_pod pod.now.pod.object }
     ensures { IfOk result (IsDecision state.now key.now budget at) }
@@ -124,7 +133,7 @@ fn decide_among(
     unsat_is_true();
     state.inventory.nodes().in_order();
     let search = PodSearch::of(alloc, state, holders, &pod.pod.object)?;
-    let mut totals = search.totals(alloc)?;
+    let mut totals = totals.copy(alloc)?;
     let joins = granted(alloc, state, claims)?;
     let mut passed = PassedBuilder::new(alloc, node_names(alloc, state)?);
     let object = &pod.pod.object;

@@ -14,7 +14,6 @@ use counter_sets::{Held, Totals};
 use dra_values::{Seq, Text};
 use full_nodes::{is_full, known_for};
 use node_inputs::{devices_differ, wanted_claims};
-use pool_totals::totals_among;
 use pool_view::{KnownSlices, Pools};
 use request_rows::Wants;
 use std::alloc::{AllocError, Global};
@@ -71,29 +70,15 @@ impl<'a> PodSearch<'a> {
         })
     }
 
-    /// What the held devices draw from the counters of the state's usable pools, as `outcome` needs it: made
-    /// once for all nodes, in two passes over the slices that have counter sets or devices that draw from
-    /// some. `AllocError` only if memory runs out.
-    pub fn totals(&self, alloc: Global) -> Result<Totals, AllocError>
-        ensures { IfOk result (AreDrawn self.now.state.inventory (held self.now.state)) }
-    {
-        totals_among(
-            alloc,
-            &self.state.inventory,
-            self.pools.counted(),
-            self.holders,
-        )
-    }
-
     /// Searches a node of the state for the least allocation of the claims, within a budget of so many
     /// items of the node's walk.
     ///
     /// The result is exactly that of the walk within the budget: the least allocation as a grant for
     /// each claim, a selector error that comes before each allocation, that there is neither, or that the
-    /// budget is spent before one of these is known. The totals have what the held devices draw, as
-    /// `totals` gives it, and again after the search, whatever it returns. If each request of the claims is
-    /// exclusive, all of the node's devices are held, and the inventory knows that no selector has an
-    /// evaluation error on them, nothing is matched. `AllocError` only if memory runs out.
+    /// budget is spent before one of these is known. The totals have what the held devices draw, and again
+    /// after the search, whatever it returns. If each request of the claims is exclusive, all of the node's
+    /// devices are held, and the inventory knows that no selector has an evaluation error on them, nothing is
+    /// matched. `AllocError` only if memory runs out.
     pub fn outcome(
         &self,
         alloc: Global,

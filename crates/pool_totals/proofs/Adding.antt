@@ -1,19 +1,16 @@
 -- What the held devices of slices draw, added slice after slice.
 use Rattle.std.proofs.Common.{ℕ, ◌+◌, ◌*◌, ◌<◌, ◌≤◌, ◌≡◌, ◌∙◌, List, [], ◌∷◌, false, Option, None, Some, drop, get_or, is_some, length, refl, sym, ap, subst, arith}
 use Rattle.std.proofs.lemmas.List.Sums.{sum_by-cons}
-use Rattle.object_fields.specs.declared.key.DeviceId.{DeviceId}
-use Rattle.object_fields.specs.declared.key.Key.{Key}
 use Rattle.api_slice.specs.Limits.{IsWithinLimits}
 use Rattle.api_slice.specs.declared.types.ResourceSlice.{ResourceSlice}
 use Rattle.pool_view.specs.Usable.{counted_slices, usable_slices}
 use Rattle.pool_view.specs.declared.inventory.Inventory.{Inventory}
-use Rattle.request_rules.specs.Draws.{CounterId, counter_value, drawn, drawn_by, or_value, value_among}
-use Rattle.counter_sets.specs.Holding.{AreHeld, Holders, offered_held}
+use Rattle.request_rules.specs.Draws.{CounterId, counter_value, drawn_by, or_value, value_among}
+use Rattle.counter_sets.specs.Holding.{Holders, offered_held}
 use Rattle.counter_sets.specs.Totals.{KeptCounters, drawn_in, keeps, sum_most, value_of}
 use Rattle.pool_totals.specs.Adding.{AreUndrawn, HasRoom, IsAdding, device_most, devices_in, held_draws}
-use Rattle.pool_totals.specs.Drawn.{AreDrawn, AreDrawnByBoth}
-use Rattle.pool_totals.proofs.Counted.{AreThere, drawn_counted, fewer_counted, no_held_draws, value_counted}
-use Rattle.pool_totals.proofs.Draws.{held_draw_most, held_drawn}
+use Rattle.pool_totals.proofs.Counted.{AreThere, fewer_counted, no_held_draws, value_counted}
+use Rattle.pool_totals.proofs.Draws.{held_draw_most}
 use Rattle.pool_totals.proofs.Places.{item_at}
 
 -- ---- the counters of slices
@@ -114,7 +111,7 @@ adds_next h x all xs old now new limits adding same more = record {
 -- ---- the counted slices of an inventory
 
 -- how many devices an inventory has at most
-abbrev all_most : ℕ
+abbrev pub all_most : ℕ
 all_most = 65536
 
 value_is : (i : Inventory) (xs : List ResourceSlice) (kept : KeptCounters) (c : CounterId) → xs ≡ counted_slices i → AreUndrawn xs kept → value_of kept c ≡ value_among (usable_slices i) c
@@ -134,42 +131,4 @@ pub room_of : (i : Inventory) (h : Holders) (xs : List ResourceSlice) (kept : Ke
 room_of i h xs kept are few e fresh = record {
   all_kept = λ c none. none_left i h xs kept c are e fresh none;
   fits = λ c. room_first (drawn_in kept c) (devices_in xs) (fresh.none c) (few_devices i xs e few);
-}
-
-room_second : (m k n : ℕ) → k ≡ 0 → m + 0 * device_most ≤ k + n * device_most → n ≤ all_most → m + n * device_most ≤ sum_most
-room_second m k n e h f = omega (arith, e, h, f)
-
--- and for what others draw after them
-pub room_besides : (i : Inventory) (h g : Holders) (xs : List ResourceSlice) (kept now : KeptCounters) → AreThere i → devices_in (usable_slices i) ≤ all_most → xs ≡ counted_slices i → AreUndrawn xs kept → IsAdding h xs [] kept now → HasRoom g xs now
-room_besides i h g xs kept now are few e fresh adding = record {
-  all_kept = λ c none. none_left i g xs kept c are e fresh (ap is_some (sym (adding.same c)) ∙ none);
-  fits = λ c. room_second (drawn_in now c) (drawn_in kept c) (devices_in xs) (fresh.none c) (adding.most c) (few_devices i xs e few);
-}
-
-held_all : (i : Inventory) (h : Holders) (xs : List ResourceSlice) (pairs : List (DeviceId × Key)) (c : CounterId) → xs ≡ counted_slices i → AreHeld h pairs → held_draws h xs c ≡ drawn (usable_slices i) pairs c
-held_all i h xs pairs c e held = held_drawn h pairs xs c held ∙ ap (λ (l : List ResourceSlice). drawn l pairs c) e ∙ drawn_counted i pairs c
-
-drawn_once : (m k n t : ℕ) → m + 0 ≡ k + n → k ≡ 0 → n ≡ t → m ≡ t
-drawn_once m k n t e f g = omega (arith, e, f, g)
-
-pub are_drawn : (i : Inventory) (h : Holders) (xs : List ResourceSlice) (kept new : KeptCounters) (pairs : List (DeviceId × Key)) → xs ≡ counted_slices i → AreUndrawn xs kept → IsAdding h xs [] kept new → AreHeld h pairs → AreDrawn i pairs new
-are_drawn i h xs kept new pairs e fresh adding held = record {
-  value_is = λ c. adding.same c ∙ value_is i xs kept c e fresh;
-  drawn_is = λ c. drawn_once (drawn_in new c) (drawn_in kept c) (held_draws h xs c) (drawn (usable_slices i) pairs c) (adding.drawn c) (fresh.none c) (held_all i h xs pairs c e held);
-}
-
-drawn_twice : (m k n a b s t : ℕ) → m + 0 ≡ n + b → n + 0 ≡ k + a → k ≡ 0 → a ≡ s → b ≡ t → m ≡ s + t
-drawn_twice m k n a b s t e f g h l = omega (arith, e, f, g, h, l)
-
-most_twice : (m k n d : ℕ) → m + 0 * device_most ≤ n + d * device_most → n + 0 * device_most ≤ k + d * device_most → k ≡ 0 → d ≤ all_most → m ≤ sum_most
-most_twice m k n d e f g h = omega (arith, e, f, g, h)
-
-pub are_drawn_by_both : (i : Inventory) (h g : Holders) (xs : List ResourceSlice) (kept now new : KeptCounters) (pairs others : List (DeviceId × Key)) → devices_in (usable_slices i) ≤ all_most → xs ≡ counted_slices i → AreUndrawn xs kept → IsAdding h xs [] kept now
-    → IsAdding g xs [] now new → AreHeld h pairs → AreHeld g others → AreDrawnByBoth i pairs others new
-are_drawn_by_both i h g xs kept now new pairs others few e fresh first second held also = record {
-  value_is = λ c. second.same c ∙ first.same c ∙ value_is i xs kept c e fresh;
-  drawn_is = λ c.
-      drawn_twice (drawn_in new c) (drawn_in kept c) (drawn_in now c) (held_draws h xs c) (held_draws g xs c) (drawn (usable_slices i) pairs c) (drawn (usable_slices i) others c) (second.drawn c) (first.drawn c) (fresh.none c)
-      (held_all i h xs pairs c e held) (held_all i g xs others c e also);
-  most = λ c. most_twice (drawn_in new c) (drawn_in kept c) (drawn_in now c) (devices_in xs) (second.most c) (first.most c) (fresh.none c) (few_devices i xs e few);
 }

@@ -169,7 +169,7 @@ value_there i x set name has =
     ∙ ap (λ (o : Option CounterSet). is_some (option_map natural (option_and_then (λ s. at_name s.counters name) o))) has.set_is
     ∙ some_map natural (at_name has.counters.counters name) has.value)
 
-none_at : (b : Bool) (n : ℕ) → (b ≡ true → ⊥) → cond b n 0 ≡ 0
+pub none_at : (b : Bool) (n : ℕ) → (b ≡ true → ⊥) → cond b n 0 ≡ 0
 none_at true n h = absurd (h refl)
 none_at false n h = refl
 
@@ -195,7 +195,7 @@ of_all : {X : Type 0} (p : X → Bool) (xs : List X) (j : ℕ) (x : X) → slice
 of_all p [] j x e = absurd (cc)
 of_all p (y ∷ ys) j x e = kept_at p (p y) y ys j x e (λ k f. of_all p ys k x f)
 
-counted_usable : (i : Inventory) (j : ℕ) (x : ResourceSlice) → slice_get (counted_slices i) j ≡ Some x → Contains (usable_slices i) x
+pub counted_usable : (i : Inventory) (j : ℕ) (x : ResourceSlice) → slice_get (counted_slices i) j ≡ Some x → Contains (usable_slices i) x
 unfolding counted_slices
 counted_usable i j x e = of_all is_counted (usable_slices i) j x e
 

@@ -72,7 +72,7 @@ consumed_sum x c (k ∷ ks) =
 times : (n s : ℕ) → s ≤ n * most → n ≤ amounts_most → s ≤ device_most
 times n s h l = omega (arith, h, l)
 
-device_sum : (x : ResourceSlice) (c : CounterId) (i : ℕ) (d : Device) → IsWithinLimits x → slice_get x.devices i ≡ Some d → drawn_from c (offered_by x d) ≤ device_most
+pub device_sum : (x : ResourceSlice) (c : CounterId) (i : ℕ) (d : Device) → IsWithinLimits x → slice_get x.devices i ≡ Some d → drawn_from c (offered_by x d) ≤ device_most
 unfolding draws_of drawn_from
 device_sum x c i d limits there =
     let keeps : KeepsLimits (is_per_device x.nodes) d = all_at (KeepsLimits (is_per_device x.nodes)) x.devices i d limits.devices there in
@@ -93,7 +93,7 @@ kept_most : (f : Offered → ℕ) (b : Bool) (o : Offered) (os : List Offered) (
 kept_most f true o os n m e h = subst (λ s. s ≤ suc n * m) (sym (sum_by-cons f o os)) (sum_step (f o) (sum_by f os) n m e h)
 kept_most f false o os n m e h = omega (arith, h)
 
-held_most : (f : Offered → ℕ) (p : Offered → Bool) (x : ResourceSlice) (m : ℕ) (ds : List Device) → ((i : ℕ) (d : Device) → slice_get ds i ≡ Some d → f (offered_by x d) ≤ m) → sum_by f (filter p (map (offered_by x) ds)) ≤ length ds * m
+pub held_most : (f : Offered → ℕ) (p : Offered → Bool) (x : ResourceSlice) (m : ℕ) (ds : List Device) → ((i : ℕ) (d : Device) → slice_get ds i ≡ Some d → f (offered_by x d) ≤ m) → sum_by f (filter p (map (offered_by x) ds)) ≤ length ds * m
 held_most f p x m [] h = omega arith
 held_most f p x m (d ∷ ds) h = kept_most f (p (offered_by x d)) (offered_by x d) (filter p (map (offered_by x) ds)) (length ds) m (h 0 d refl) (held_most f p x m ds (λ i e g. h (suc i) e g))
 

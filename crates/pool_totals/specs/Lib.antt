@@ -1,2 +1,4 @@
 pub mod Drawn
 pub mod Adding
+pub mod Counting
+pub mod Recounting

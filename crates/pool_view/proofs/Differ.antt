@@ -111,7 +111,7 @@ all_of_pool p [] = tt
 all_of_pool p (e ∷ es) =
     of_pool_by (text_eq e.1.object.driver p.driver && text_eq e.1.object.pool.name p.pool) p e.1.object (slices_of p.driver p.pool es) (is_pool e.1.object p) (all_of_pool p es)
 
-block_of_pool : (all : Named ResourceSlice) (p : PoolName) → AllByRecursion (OfPool p) (block all p)
+pub block_of_pool : (all : Named ResourceSlice) (p : PoolName) → AllByRecursion (OfPool p) (block all p)
 block_of_pool all p = all_block (OfPool p) all p (all_of_pool p all)
 
 -- what holds of each slice that is stored holds of them

@@ -18,3 +18,4 @@ mod SliceFields
 mod NodeSees
 mod Learned
 mod Listing
+pub mod OnePool

@@ -55,7 +55,7 @@ then_is Less b = refl
 then_is Equal b = refl
 then_is Greater b = refl
 
-is_of : (p : PoolName) (x : ResourceSlice) → is_eq (pool_cmp p (pool_named x)) ≡ (text_eq x.driver p.driver && text_eq x.pool.name p.pool)
+pub is_of : (p : PoolName) (x : ResourceSlice) → is_eq (pool_cmp p (pool_named x)) ≡ (text_eq x.driver p.driver && text_eq x.pool.name p.pool)
 is_of p x =
     then_is (text_cmp p.driver x.driver) (text_cmp p.pool x.pool.name)
     ∙ ap (λ (b : Bool). b && is_eq (text_cmp p.pool x.pool.name)) (sym (texts_ties p.driver x.driver) ∙ nat_list_eq_equiv.symm p.driver x.driver)

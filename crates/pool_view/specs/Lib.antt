@@ -11,3 +11,4 @@ pub mod NodeIndexes
 pub mod Sorted
 pub mod Known
 pub mod Sets
+pub mod OnePool

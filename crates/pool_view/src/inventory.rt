@@ -5,11 +5,13 @@ ghost use Rattle.std.specs.Map.{keys_of};
 ghost use Rattle.pool_view.specs.Inventory.{AtOwnNames, device_count, devices_by, devices_most, empty_inventory, has_room_for, with_node, with_slice, without_node, without_slice};
 ghost use Rattle.pool_view.specs.Known.{is_sure};
 ghost use Rattle.pool_view.specs.Names.{at_name, text_cmp};
+ghost use Rattle.pool_view.specs.OnePool.{only_pool};
 
 use crate::Stored;
 use crate::kept::SortedSlices;
 use crate::known::{KnownList, KnownSlices};
 use crate::learning::{position, share_lists, with_found};
+use crate::one_pool::{device_count, stored_in};
 use crate::sorting::sorted_slices;
 use crate::stored::put_named;
 use api_cluster::Node;
@@ -160,6 +162,23 @@ impl Inventory {
         self.sorted = None;
         self.known.clear();
         Ok(())
+    }
+
+    /// An inventory of the slices of one pool, without nodes, which shares the slices with this one. `AllocError`
+    /// is returned only if memory runs out.
+    pub fn pool(&self, alloc: Global, driver: &Text, pool: &Text) -> Result<Inventory, AllocError>
+        ensures { IfOk result (λ other. other ≡ only_pool driver.now pool.now self.now) }
+    {
+        let slices = stored_in(alloc, &self.slices, driver, pool)?;
+        let devices = device_count(&slices);
+        Ok(Inventory {
+            nodes: Table::new(alloc),
+            slices,
+            devices,
+            sorted: None,
+            known: Vec::new(alloc),
+            names: None,
+        })
     }
 
     /// Removes the node of a name, if there is one. Allocates nothing.

@@ -1,4 +1,4 @@
-ghost use Rattle.std.specs.Prelude.{◌≡◌, ◌≤◌, List, ℕ, ℤ, Some, Contains, length, map, slice_get};
+ghost use Rattle.std.specs.Prelude.{◌≡◌, ◌≤◌, List, ℕ, ℤ, Some, Contains, true, false, filter, length, map, slice_get};
 ghost use Rattle.std.specs.List.{sum_by};
 ghost use Rattle.std.specs.List.Sorted.{IsStrictlySortedBy};
 ghost use Rattle.std.specs.Map.{keys_of};
@@ -7,8 +7,9 @@ ghost use Rattle.api_slice.specs.declared.types.Device.{Device};
 ghost use Rattle.api_slice.specs.declared.types.ResourceSlice.{ResourceSlice};
 ghost use Rattle.pool_view.specs.declared.inventory.Inventory.{Inventory};
 ghost use Rattle.pool_view.specs.Differing.{HasCounter, IsAtItsName, usable_devices};
-ghost use Rattle.pool_view.specs.Inventory.{AtOwnNames, devices_most};
+ghost use Rattle.pool_view.specs.Inventory.{AtOwnNames, devices_most, has_room_for, with_slice, without_slice};
 ghost use Rattle.pool_view.specs.Names.{text_cmp};
+ghost use Rattle.pool_view.specs.OnePool.{AreInOrder, IsElsewhere, is_in, only_pool};
 ghost use Rattle.pool_view.specs.Pools.{Offered, id_in, id_of, place_cmp, place_of};
 ghost use Rattle.pool_view.specs.Usable.{node_devices, usable_slices};
 
@@ -52,3 +53,15 @@ pub fn usable_devices_are_few(inventory: &Inventory)
 {
     inventory.keeps_limit();
 }
+
+/// Which slices of a pool are usable depends on its own slices alone: where a slice is put or removed they are
+/// those that they would be if the inventory had only the pool's slices (`Inventory::pool`), for which there is
+/// room if there is for all. If neither the slice nor the one that it replaces is of the pool, they are as they
+/// were.
+pub fn pools_change_alone()
+    ensures put { (i : Inventory) (index : ℕ) (x : ResourceSlice) (driver pool : List ℕ) → AreInOrder i → filter (is_in driver pool) (usable_slices (with_slice index x i)) ≡ filter (is_in driver pool) (usable_slices (with_slice index x (only_pool driver pool i))) }
+    ensures removed { (i : Inventory) (name driver pool : List ℕ) → AreInOrder i → filter (is_in driver pool) (usable_slices (without_slice name i)) ≡ filter (is_in driver pool) (usable_slices (without_slice name (only_pool driver pool i))) }
+    ensures put_elsewhere { (i : Inventory) (index : ℕ) (x : ResourceSlice) (driver pool : List ℕ) → AreInOrder i → is_in driver pool x ≡ false → IsElsewhere driver pool x.name i → filter (is_in driver pool) (usable_slices (with_slice index x i)) ≡ filter (is_in driver pool) (usable_slices i) }
+    ensures removed_elsewhere { (i : Inventory) (name driver pool : List ℕ) → AreInOrder i → IsElsewhere driver pool name i → filter (is_in driver pool) (usable_slices (without_slice name i)) ≡ filter (is_in driver pool) (usable_slices i) }
+    ensures room { (i : Inventory) (x : ResourceSlice) (driver pool : List ℕ) → has_room_for i.slices x ≡ true → has_room_for (only_pool driver pool i).slices x ≡ true }
+{}

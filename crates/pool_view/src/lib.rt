@@ -12,6 +12,7 @@ mod learning;
 mod names;
 mod node_index;
 mod nodes;
+mod one_pool;
 mod order;
 mod seen;
 mod set_ref;
@@ -25,8 +26,8 @@ pub use device::DeviceRef;
 pub use inventory::{Inventory, MAX_DEVICES_TOTAL, Slices};
 pub use known::{KnownList, KnownSlices, MAX_KNOWN_LISTS};
 pub use laws::{
-    devices_of_a_view_differ, usable_counters_are_there, usable_devices_are_few,
-    usable_slices_differ,
+    devices_of_a_view_differ, pools_change_alone, usable_counters_are_there,
+    usable_devices_are_few, usable_slices_differ,
 };
 pub use names::PoolName;
 pub use nodes::named_node;

@@ -4,6 +4,8 @@ use crate::reader::Reader;
 use crate::scripts::{Scripts, copies};
 use crate::varied::{Varied, run_each, run_varied};
 use std::alloc::{AllocError, Global};
+use std::sync::Wait;
+use std::thread::Threads;
 
 /// A text up to its first space, and what follows it.
 fn cut_word(text: &str) -> (&str, &str) {
@@ -92,7 +94,8 @@ fn varied_by(verb: &str) -> Option<Varied> {
 }
 
 /// Runs the case of a verb that has a script and options.
-fn run_case(
+fn run_case<R: AllocGlobal + Threads + Wait + Sync>(
+    rt: &R,
     alloc: Global,
     verb: &str,
     text: &str,
@@ -107,12 +110,12 @@ fn run_case(
         return Ok(false);
     };
     if verb == "run" {
-        run_once(alloc, script, options)?.print_whole(alloc, out)?;
+        run_once(rt, script, options)?.print_whole(alloc, out)?;
         return Ok(true);
     }
     match varied_by(verb) {
         Some(varied) => {
-            run_varied(alloc, varied, script, options, out)?;
+            run_varied(rt, alloc, varied, script, options, out)?;
             Ok(true)
         }
         None => Ok(false),
@@ -120,7 +123,8 @@ fn run_case(
 }
 
 /// Runs each line of a script after another script.
-fn run_lines(
+fn run_lines<R: AllocGlobal + Threads + Wait + Sync>(
+    rt: &R,
     alloc: Global,
     text: &str,
     scripts: &Scripts,
@@ -134,12 +138,13 @@ fn run_lines(
     let (Some(prefix), Some(lines)) = (scripts.get(prefix), scripts.get(name)) else {
         return Ok(false);
     };
-    run_each(alloc, prefix, lines, options, out)?;
+    run_each(rt, alloc, prefix, lines, options, out)?;
     Ok(true)
 }
 
 /// Prints the line of a case, and runs it.
-fn do_case(
+fn do_case<R: AllocGlobal + Threads + Wait + Sync>(
+    rt: &R,
     alloc: Global,
     line: &str,
     scripts: &Scripts,
@@ -150,14 +155,15 @@ fn do_case(
     out.push(b'\n')?;
     let (verb, text) = cut_word(line);
     if verb == "each" {
-        run_lines(alloc, text, scripts, out)
+        run_lines(rt, alloc, text, scripts, out)
     } else {
-        run_case(alloc, verb, text, scripts, out)
+        run_case(rt, alloc, verb, text, scripts, out)
     }
 }
 
 /// Does what a line asks. Returns false if that isn't understood.
-fn do_line(
+fn do_line<R: AllocGlobal + Threads + Wait + Sync>(
+    rt: &R,
     alloc: Global,
     line: &[u8],
     reader: &mut Reader<'_>,
@@ -180,19 +186,24 @@ fn do_line(
         "octets" => append_octets(text, scripts),
         "bytes" => append_bytes(text, reader, scripts),
         "copies" => append_copies(alloc, text, scripts),
-        _ => do_case(alloc, line, scripts, out),
+        _ => do_case(rt, alloc, line, scripts, out),
     }
 }
 
 /// Runs the cases of a container up to its end, or to a line that isn't understood.
-pub fn run_container(alloc: Global, container: &[u8], out: &mut Vec<u8>) -> Result<(), AllocError> {
+pub fn run_container<R: AllocGlobal + Threads + Wait + Sync>(
+    rt: &R,
+    alloc: Global,
+    container: &[u8],
+    out: &mut Vec<u8>,
+) -> Result<(), AllocError> {
     let mut reader = Reader::new(container);
     let mut scripts = Scripts::new(alloc);
     for _ in 0..=container.len() {
         let Some(line) = reader.next_line() else {
             return Ok(());
         };
-        if !do_line(alloc, line, &mut reader, &mut scripts, out)? {
+        if !do_line(rt, alloc, line, &mut reader, &mut scripts, out)? {
             out.extend_from_slice(b"not understood: ")?;
             out.extend_from_slice(line)?;
             out.push(b'\n')?;

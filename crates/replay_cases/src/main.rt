@@ -19,6 +19,6 @@ fn main(rt: HostRuntime) -> io::Result<()> {
     let mut bytes = Vec::new(alloc);
     rt.stdin().read_to_end(&mut bytes)?;
     let mut out = Vec::new(alloc);
-    run_container(alloc, &bytes, &mut out)?;
+    run_container(&rt, alloc, &bytes, &mut out)?;
     rt.stdout().write_all(&out)
 }

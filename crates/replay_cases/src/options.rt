@@ -1,6 +1,8 @@
 /// How a script is run.
 #[derive(Clone, Copy, Drop)]
 pub struct Options {
+    /// How many workers do the commands of a Together.
+    pub workers: u64,
     /// The most entries of the history.
     pub entries: u64,
     /// The most items of a node's walk that a search looks at.
@@ -15,12 +17,21 @@ pub struct Options {
     pub fail_read: u64,
     /// The number of the write that fails, from 1, or 0.
     pub fail_write: u64,
+    /// The job that waits where it is held, until the job `until` has ended; 0 for none.
+    pub held: u64,
+    /// Where it is held: once it has searched, or, if this isn't 0, once it has reserved.
+    pub reserved: u64,
+    /// The job that waits once it has searched, until the job `held` has come there; 0 for none.
+    pub until: u64,
+    /// How many turns of its loop each of these waits takes at most.
+    pub turns: u64,
 }
 
 impl Options {
     /// The options of the program `dra`, whose input and output don't fail.
     fn plain() -> Self {
         Options {
+            workers: 1,
             entries: 1_000_000,
             budget: 100_000,
             attempts: 32,
@@ -28,6 +39,10 @@ impl Options {
             takes: u64::MAX,
             fail_read: 0,
             fail_write: 0,
+            held: 0,
+            reserved: 0,
+            until: 0,
+            turns: 100_000_000,
         }
     }
 
@@ -36,6 +51,10 @@ impl Options {
         let (key, number) = word.split_once('=')?;
         let number = number.parse::<u64>().ok()?;
         match key {
+            "workers" => Some(Options {
+                workers: number,
+                ..self
+            }),
             "entries" => Some(Options {
                 entries: number,
                 ..self
@@ -62,6 +81,22 @@ impl Options {
             }),
             "fail-write" => Some(Options {
                 fail_write: number,
+                ..self
+            }),
+            "held" => Some(Options {
+                held: number,
+                ..self
+            }),
+            "reserved" => Some(Options {
+                reserved: number,
+                ..self
+            }),
+            "until" => Some(Options {
+                until: number,
+                ..self
+            }),
+            "turns" => Some(Options {
+                turns: number,
                 ..self
             }),
             _ => None,

@@ -1,8 +1,10 @@
 use crate::options::Options;
 use crate::ports::{Input, Output};
-use dra_ports::{PortError, read_all};
+use dra_ports::{HoldGate, Point, PortError, read_all};
 use replay_core::{ReplayOptions, Status, replay};
 use std::alloc::{AllocError, Global};
+use std::sync::Wait;
+use std::thread::Threads;
 
 /// How a run ended.
 #[derive(Drop)]
@@ -11,6 +13,7 @@ pub struct Outcome {
     left: Left,
     pub reads: u64,
     read_faults: u64,
+    gave_up: bool,
     pub output: Output,
 }
 
@@ -57,11 +60,17 @@ fn left_text(alloc: Global, left: Left) -> Result<String, AllocError> {
 /// No history may have room for this many entries.
 const ENTRIES_BOUND: u64 = 281_474_976_710_656;
 
-/// Runs a script. A read returns at least one byte and a write takes at least one.
-pub fn run_once(alloc: Global, script: &[u8], options: Options) -> Result<Outcome, AllocError> {
+/// Runs a script, by 1 to 64 workers. A read returns at least one byte and a write takes at least one.
+pub fn run_once<R: AllocGlobal + Threads + Wait + Sync>(
+    rt: &R,
+    script: &[u8],
+    options: Options,
+) -> Result<Outcome, AllocError> {
+    let alloc = rt.alloc();
     let takes = (options.takes as usize).max(1);
     let pieces = (options.pieces as usize).max(1);
     let how = ReplayOptions {
+        workers: options.workers.clamp(1, 64),
         budget: options.budget,
         attempts: options.attempts.max(1),
         entries: options.entries.min(ENTRIES_BOUND - 1),
@@ -70,7 +79,13 @@ pub fn run_once(alloc: Global, script: &[u8], options: Options) -> Result<Outcom
         return Err(AllocError);
     };
     let mut input = Input::new(alloc, script, pieces, options.fail_read)?;
-    let status = replay(alloc, how, &mut input, &mut output);
+    let point = if options.reserved == 0 {
+        Point::Searched
+    } else {
+        Point::Reserved
+    };
+    let gate = HoldGate::new(options.held, point, options.until, options.turns);
+    let status = replay(rt, how, &mut input, &mut output, &gate);
     let reads = input.reads;
     let read_faults = input.faults;
     let left = left_in(alloc, &mut input)?;
@@ -79,6 +94,7 @@ pub fn run_once(alloc: Global, script: &[u8], options: Options) -> Result<Outcom
         left,
         reads,
         read_faults,
+        gave_up: gate.gave_up(),
         output,
     })
 }
@@ -98,12 +114,13 @@ fn status_text(alloc: Global, status: Status) -> Result<String, AllocError> {
 }
 
 impl Outcome {
-    /// The status and the error counts of the input and of the output.
+    /// The status and the error counts of the input and of the output, and whether a job waited in vain.
     fn head(&self, alloc: Global) -> Result<String, AllocError> {
         let status = status_text(alloc, self.status)?;
         let read_faults = self.read_faults;
         let write_faults = self.output.faults;
-        format!(in alloc; "{status}, faults {read_faults} {write_faults}")
+        let waited = if self.gave_up { ", waited in vain" } else { "" };
+        format!(in alloc; "{status}, faults {read_faults} {write_faults}{waited}")
     }
 
     /// Prints the outcome with the whole output.

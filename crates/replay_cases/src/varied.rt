@@ -3,6 +3,8 @@ use crate::outcome::run_once;
 use crate::reader::Reader;
 use crate::report::Report;
 use std::alloc::{AllocError, Global};
+use std::sync::Wait;
+use std::thread::Threads;
 
 /// What is varied from run to run.
 #[derive(Clone, Copy, Drop)]
@@ -20,8 +22,8 @@ pub enum Varied {
 }
 
 /// The first and the last number of the runs.
-fn numbers(
-    alloc: Global,
+fn numbers<R: AllocGlobal + Threads + Wait + Sync>(
+    rt: &R,
     varied: Varied,
     script: &[u8],
     options: Options,
@@ -30,11 +32,11 @@ fn numbers(
         Varied::Cut => Ok((0, script.len() as u64)),
         Varied::Pieces => Ok((1, options.pieces)),
         Varied::FailRead => {
-            let reads = run_once(alloc, script, options)?.reads;
+            let reads = run_once(rt, script, options)?.reads;
             Ok((1, reads.saturating_add(1)))
         }
         Varied::FailWrite => {
-            let writes = run_once(alloc, script, options)?.output.writes;
+            let writes = run_once(rt, script, options)?.output.writes;
             Ok((1, writes.saturating_add(1)))
         }
         Varied::Entries => Ok((0, options.entries)),
@@ -73,25 +75,31 @@ fn script_of(varied: Varied, script: &[u8], number: u64) -> &[u8] {
 }
 
 /// What a run prints.
-fn text_of(alloc: Global, script: &[u8], options: Options) -> Result<Vec<u8>, AllocError> {
-    let outcome = run_once(alloc, script, options)?;
+fn text_of<R: AllocGlobal + Threads + Wait + Sync>(
+    rt: &R,
+    alloc: Global,
+    script: &[u8],
+    options: Options,
+) -> Result<Vec<u8>, AllocError> {
+    let outcome = run_once(rt, script, options)?;
     Vec::from_slice(alloc, outcome.output.bytes())
 }
 
 /// Runs a script once for each number, and prints the outcomes beside that of the unvaried run.
-pub fn run_varied(
+pub fn run_varied<R: AllocGlobal + Threads + Wait + Sync>(
+    rt: &R,
     alloc: Global,
     varied: Varied,
     script: &[u8],
     options: Options,
     out: &mut Vec<u8>,
 ) -> Result<(), AllocError> {
-    let whole = text_of(alloc, script, options)?;
-    let (first, last) = numbers(alloc, varied, script, options)?;
+    let whole = text_of(rt, alloc, script, options)?;
+    let (first, last) = numbers(rt, varied, script, options)?;
     let mut report = Report::new(alloc);
     for number in first..=last {
         let options = options_of(varied, options, number);
-        let outcome = run_once(alloc, script_of(varied, script, number), options)?;
+        let outcome = run_once(rt, script_of(varied, script, number), options)?;
         let said = outcome.in_short(alloc, &whole)?;
         report.add(alloc, number, said, out)?;
     }
@@ -99,28 +107,30 @@ pub fn run_varied(
 }
 
 /// Runs each line of a script after a prefix, and prints the outcomes beside that of the prefix.
-pub fn run_each(
+pub fn run_each<R: AllocGlobal + Threads + Wait + Sync>(
+    rt: &R,
     alloc: Global,
     prefix: &[u8],
     lines: &[u8],
     options: Options,
     out: &mut Vec<u8>,
 ) -> Result<(), AllocError> {
-    let whole = text_of(alloc, prefix, options)?;
+    let whole = text_of(rt, alloc, prefix, options)?;
     let mut report = Report::new(alloc);
     let mut reader = Reader::new(lines);
     for number in 1..=lines.len() {
         let Some(line) = reader.next_line() else {
             break;
         };
-        let said = said_behind(alloc, prefix, line, options, &whole)?;
+        let said = said_behind(rt, alloc, prefix, line, options, &whole)?;
         report.add(alloc, number as u64, said, out)?;
     }
     report.print(alloc, out)
 }
 
 /// The outcome of a line after a prefix.
-fn said_behind(
+fn said_behind<R: AllocGlobal + Threads + Wait + Sync>(
+    rt: &R,
     alloc: Global,
     prefix: &[u8],
     line: &[u8],
@@ -129,6 +139,6 @@ fn said_behind(
 ) -> Result<Vec<u8>, AllocError> {
     let mut script = Vec::from_slice(alloc, prefix)?;
     script.extend_from_slice(line)?;
-    let outcome = run_once(alloc, &script, options)?;
+    let outcome = run_once(rt, &script, options)?;
     outcome.in_short(alloc, whole)
 }

@@ -1,5 +1,5 @@
 -- How a replay goes on, and how it ends.
-use Rattle.std.proofs.Common.{ℕ, ◌+◌, ◌≡◌, ◌∙◌, List, [], ◌∷◌, ◌++◌, true, false, length, refl, sym, ap, subst, arith, append_assoc, inl, inr}
+use Rattle.std.proofs.Common.{ℕ, ◌≡◌, ◌∙◌, List, [], ◌∷◌, ◌++◌, true, false, refl, sym, ap, subst, arith, append_assoc, inl, inr}
 use Rattle.std.specs.Prelude.{Option, Some}
 use Rattle.std.specs.Io.KnownBytes.{Appends}
 use Rattle.dra_ports.specs.Prefixes.{AppendsPrefix}
@@ -18,7 +18,7 @@ use Rattle.replay_core.specs.declared.status.Status.{Status}
 use Rattle.replay_core.specs.declared.status.Status.TheVariants as status
 use Rattle.replay_core.specs.declared.work.Work.{Work}
 use Rattle.replay_core.specs.Script.{Clean, Cut, Bad, Script, add_commands, at_each, ending_of, nothing, prepend, script_by, script_from, script_of}
-use Rattle.replay_core.specs.Jobs.{JobBegun}
+use Rattle.replay_core.specs.Jobs.{SegmentBegun}
 use Rattle.replay_core.specs.Lines.{MetNext, MetPrinted, PrintedShort, Stops, Summarized, new_lines}
 use Rattle.replay_core.specs.Replay.{Ends, EndsAt, EndsFull, EndsRead, EndsShort, IsPart, Tells, TellsFirst}
 use Rattle.replay_core.specs.Progress.{IsSound, Progress, Standing}
@@ -59,14 +59,13 @@ part_of : (options : ReplayOptions) (before now : Option (List ℕ)) (done : Lis
 part_of options before now done c old new n s sound met =
     let grown : new.ledger.entries ≡ old.ledger.entries ++ met.segment = ap (λ (h : History). h.entries) met.is in
     let same : new.ledger.limit ≡ old.ledger.limit = ap (λ (h : History). h.limit) met.is in
-    let job : old.commands + 1 ≡ length done + 1 = omega (arith, s.count_is) in
     record {
       before = old.ledger.entries;
       segment = met.segment;
       is = grown;
       legal = sound.legal;
       run = s.run.run;
-      begun = subst (λ (k : ℕ). JobBegun k c options.budget old.ledger.entries met.segment) job met.begun;
+      begun = subst (λ (k : ℕ). SegmentBegun k c options.budget old.ledger.entries met.segment) s.count_is met.begun;
       full = omega (arith, same, s.limit_is, met.full, met.count_is, sound.within);
     }
 

@@ -1,12 +1,19 @@
 -- How many attempts what a document asks for has.
-use Rattle.std.specs.Prelude.{◌<◌, List, [], ◌∷◌, IfOk}
+use Rattle.std.specs.Prelude.{◌<◌, ◌≤◌, List, [], ◌∷◌, IfOk, length}
+use Rattle.commands.specs.declared.command.Command.{Command}
 use Rattle.commands.specs.declared.given.Given.{Given}
+use Rattle.commands.specs.Commands.{together_most}
 use Rattle.histories.specs.JobRuns.{attempts_of}
-use Rattle.replay_core.specs.Forms.{command_of}
+use Rattle.replay_core.specs.Forms.{members}
 
--- a command has at least one
+-- each command has at least one
+abbrev pub AllTry : List Command → Type 0
+AllTry [] = Unit {0}
+AllTry (c ∷ cs) = (0 < attempts_of c) × AllTry cs
+
+-- each of its commands has at least one, and they are no more than a Together may have
 abbrev pub MayTry : Given → Type 0
-MayTry g = IfOk (command_of g) (λ command. 0 < attempts_of command)
+MayTry g = IfOk (members g) (λ commands. AllTry commands × (length commands ≤ together_most))
 
 abbrev pub AllMayTry : List Given → Type 0
 AllMayTry [] = Unit {0}

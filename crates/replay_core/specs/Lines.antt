@@ -15,7 +15,7 @@ use Rattle.replay_core.specs.declared.status.Status.TheVariants as status
 use Rattle.replay_core.specs.declared.work.Work.{Work}
 use Rattle.replay_core.specs.declared.form.Form.{Form}
 use Rattle.replay_core.specs.declared.status.Rejection.TheVariants as rejection
-use Rattle.replay_core.specs.Forms.{command_of}
+use Rattle.replay_core.specs.Forms.{members, width}
 use Rattle.replay_core.specs.Script.{most_input}
 use Rattle.replay_core.specs.Doing.{Ran, Met}
 
@@ -37,23 +37,23 @@ input_status doc.Input = status.Limit most_input
 abbrev pub new_lines : History → History → List ℕ
 new_lines old new = lines_from (length old.entries) (drop (length old.entries) new.entries)
 
--- the command was done as the next job
+-- what is asked for was done as the next jobs
 abbrev pub RanNext : ReplayOptions → Given → Work → Work → Type 0
-RanNext o c old new = Ran (old.commands + 1) c o.budget old.ledger new.ledger
+RanNext o c old new = Ran old.commands c o.budget old.ledger new.ledger
 
--- the command reached the limit
+-- it reached the limit
 abbrev pub MetNext : ReplayOptions → Given → Work → Work → ℕ → Type 0
-MetNext o c old new n = Met (old.commands + 1) c o.budget old.ledger new.ledger n
+MetNext o c old new n = Met old.commands c o.budget old.ledger new.ledger n
 
--- the command was done, and its lines are printed
+-- it was done, and its lines are printed
 pub record Did (options : ReplayOptions) (c : Given) (old new : Work) (before after : Option (List ℕ)) : Type 0 where
   pub ran : RanNext options c old new
-  pub counted : new.commands ≡ old.commands + 1
+  pub counted : new.commands ≡ old.commands + width c
   pub printed : Appends before after (new_lines old.ledger new.ledger)
 
 -- nothing was done, for the form isn't supported
 pub record Undone (form : Form) (c : Given) (old : Work) (before after : Option (List ℕ)) : Type 0 where
-  pub form_is : command_of c ≡ Err form
+  pub form_is : members c ≡ Err form
   pub printed : Appends before after []
 
 -- the command reached the limit, and its lines are printed

@@ -9,7 +9,8 @@ use Rattle.journal_text.specs.Journal.{lines_from}
 use Rattle.commands.specs.declared.given.Given.{Given}
 use Rattle.replay_core.specs.declared.options.ReplayOptions.{ReplayOptions}
 use Rattle.replay_core.specs.declared.work.Work.{Work}
-use Rattle.replay_core.specs.Script.{prepend, script_from}
+use Rattle.replay_core.specs.Forms.{count_of}
+use Rattle.replay_core.specs.Script.{commands_of, prepend, script_from}
 use Rattle.replay_core.specs.Replay.{IsRun}
 
 -- no job after those of the commands done has an entry yet, and each of those has one
@@ -26,7 +27,7 @@ pub record IsSound (h : History) : Type 0 where
 -- these commands were done, and their lines are printed
 pub record Standing (options : ReplayOptions) (before now : Option (List ℕ)) (done : List (ℕ × Given)) (work : Work) : Type 0 where
   pub run : IsRun options done work.ledger.entries
-  pub count_is : work.commands ≡ length done
+  pub count_is : work.commands ≡ count_of (commands_of done)
   pub ready : IsReady work
   pub printed : Appends before now (lines_from 0 work.ledger.entries)
   pub limit_is : work.ledger.limit ≡ options.entries

@@ -1,5 +1,5 @@
 -- What a replay promises.
-use Rattle.std.specs.Prelude.{ℕ, ◌≡◌, ◌≤◌, ◌+◌, ◌⊎◌, List, [], ◌∷◌, ◌++◌, Option, Some, Err, length}
+use Rattle.std.specs.Prelude.{ℕ, ◌≡◌, ◌≤◌, ◌⊎◌, List, [], ◌∷◌, ◌++◌, Option, Some, Err, length}
 use Rattle.std.specs.Io.KnownBytes.{Appends, Consumes}
 use Rattle.dra_ports.specs.Prefixes.{AppendsPrefix}
 use Rattle.cluster.specs.declared.entry.Entry.{Entry}
@@ -10,9 +10,9 @@ use Rattle.replay_core.specs.declared.options.ReplayOptions.{ReplayOptions}
 use Rattle.replay_core.specs.declared.status.Status.{Status}
 use Rattle.replay_core.specs.declared.status.Status.TheVariants as status
 use Rattle.replay_core.specs.Script.{Ending, Clean, Cut, Bad, Long, Script, commands_of, most_input, prepend, script_of, script_within}
-use Rattle.replay_core.specs.Jobs.{JobBegun, RunOf}
+use Rattle.replay_core.specs.Jobs.{RunOf, SegmentBegun}
 use Rattle.replay_core.specs.declared.form.Form.{Form}
-use Rattle.replay_core.specs.Forms.{command_of}
+use Rattle.replay_core.specs.Forms.{count_of, members}
 
 -- the history is legal, the run of the commands, and has at most so many entries
 pub record IsRun (options : ReplayOptions) (done : List (ℕ × Given)) (h : List Entry) : Type 0 where
@@ -20,14 +20,15 @@ pub record IsRun (options : ReplayOptions) (done : List (ℕ × Given)) (h : Lis
   pub legal : Legal h
   pub run : RunOf options.budget (commands_of done) h
 
--- The history is legal, and the run of the commands and then of a part of one more, which isn't ended. It has exactly as many entries as it may have.
+-- The history is legal, and the run of the commands and then of a part of one more: of each of its jobs the whole run or a
+-- part of it, and one of them isn't ended. It has exactly as many entries as it may have.
 pub record IsPart (options : ReplayOptions) (done : List (ℕ × Given)) (c : Given) (h : List Entry) : Type 0 where
   pub before : List Entry
   pub segment : List Entry
   pub is : h ≡ before ++ segment
   pub legal : Legal h
   pub run : RunOf options.budget (commands_of done) before
-  pub begun : JobBegun (length done + 1) c options.budget before segment
+  pub begun : SegmentBegun (count_of (commands_of done)) c options.budget before segment
   pub full : options.entries ≡ length h
 
 -- what the script is, where the input exposes its contents
@@ -44,7 +45,7 @@ pub record EndsDone (options : ReplayOptions) (left before after : Option (List 
   pub script : Tells options left (record { commands = done; ending = Clean })
   pub history : List Entry
   pub run : IsRun options done history
-  pub written : Appends before after (text_of history (length done))
+  pub written : Appends before after (text_of history (count_of (commands_of done)))
 
 -- all commands of the script were done, which ends otherwise, and their lines were written
 pub record EndsAt (options : ReplayOptions) (ending : Ending) (left before after : Option (List ℕ)) : Type 0 where
@@ -61,7 +62,7 @@ pub record EndsNotYet (options : ReplayOptions) (at : ℕ) (form : Form) (left b
   pub script : TellsFirst options left (done ++ (at, command) ∷ [])
   pub history : List Entry
   pub run : IsRun options done history
-  pub form_is : command_of command ≡ Err form
+  pub form_is : members command ≡ Err form
   pub written : Appends before after (lines_from 0 history)
 
 -- the commands before one that reached the limit were done, and a part of that one
@@ -109,7 +110,7 @@ pub record IsText (options : ReplayOptions) (left : Option (List ℕ)) (text : L
   pub script : Tells options left (record { commands = done; ending = Clean })
   pub history : List Entry
   pub run : IsRun options done history
-  pub is : text ≡ text_of history (length done)
+  pub is : text ≡ text_of history (count_of (commands_of done))
 
 -- what was written is a prefix of such lines, or of the whole text
 pub record EndsShort (options : ReplayOptions) (left before after : Option (List ℕ)) : Type 0 where

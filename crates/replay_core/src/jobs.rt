@@ -1,56 +1,145 @@
-ghost use Rattle.std.specs.Prelude.{◌≡◌, ℕ, Err, OnOk, IsErrOf};
+ghost use Rattle.std.specs.Prelude.{◌≡◌, ◌+◌, ◌≤◌, ◌<◌, ◌^◌, ℕ, Err, IfOk, OnOk, IsErrOf, length};
 ghost use Rattle.cluster.specs.declared.entry.JobState.TheVariants.{Fresh};
 ghost use Rattle.cluster.specs.History.{job_state_of};
-ghost use Rattle.replay_core.specs.Attempts.{MayTry};
-ghost use Rattle.replay_core.specs.Doing.{Met, Ran};
-ghost use Rattle.replay_core.specs.Forms.{command_of};
+ghost use Rattle.commands.specs.Commands.{together_most};
+ghost use Rattle.commands.specs.declared.given.Given.TheVariants.{Together};
+ghost use Rattle.sched_job.specs.Steps.{AllNew, Differ, jobs_of};
+ghost use Rattle.job_crew.specs.Together.{AllEnded, RanTogether, SomeOpen};
+ghost use Rattle.replay_core.specs.Attempts.{AllTry, MayTry};
+ghost use Rattle.replay_core.specs.Doing.{Met, Ran, works_from};
+ghost use Rattle.replay_core.specs.Forms.{members, width};
 ghost use Rattle.replay_core.specs.declared.form.Form.{Form};
 
-use crate::{Form, Stop};
+use crate::{Form, ReplayOptions, Stop};
 use commands::{Command, Given};
-use ledger_core::Ledger;
-use sched_job::run_alone;
-use std::alloc::Global;
+use dra_ports::Gate;
+use job_crew::run_together;
+use ledger_core::{Ledger, LedgerError};
+use sched_job::{Work, run_alone};
+use std::alloc::{AllocError, Global};
+use std::mem;
+use std::sync::Wait;
+use std::thread::Threads;
 
-/// Does a command as a job that has no entry yet, with searches within the budget. An Apply has one
-/// entry, which creates or updates the object, a Delete one, which takes the object away, a Release one,
-/// which takes the uses of its pod away; an Invalid has one, which refuses it with its error. A Schedule
-/// has one for the reservation, one for each claim of the pod in order and one for the binding, or one for
-/// the verdict. Where a refusal of the command holds, its one entry is the denial. `Stop::NotYet` is
-/// returned if and only if the form isn't supported yet, and the ledger is unchanged. `Stop::Full` is
-/// returned if the history has as many entries as it may have and one more is expected, and
+/// Does what is asked for as the next jobs, which are numbered on from `before` and have no entry yet, with
+/// searches within the budget. Returns the number of the last of them.
+///
+/// A command by itself is one job. An Apply has one entry, which creates or updates the object, a Delete
+/// one, which takes the object away, a Release one, which takes the uses of its pod away; an Invalid has
+/// one, which refuses it with its error. A Schedule has one for the reservation, one for each claim of the
+/// pod in order and one for the binding, or one for the verdict. Where a refusal of the command holds, its
+/// one entry is the denial.
+///
+/// The commands of a Together are a job each, and run beside each other: member i, from 0, is done by worker
+/// i modulo the number of workers, each worker in a thread of its own as far as threads can be started, and
+/// in order. All of them are done when this returns. The gate is called as each of these jobs goes on.
+///
+/// `Stop::NotYet` is returned if and only if the form isn't supported yet, and the ledger is unchanged.
+/// `Stop::Full` is returned if the history has as many entries as it may have and one more is expected, and
 /// `Stop::Memory` only if memory runs out: the entries that were made before stay.
-pub fn do_command(
+pub fn do_command<R: Threads + Wait + Sync, G: Gate + Sync>(
+    rt: &R,
     alloc: Global,
+    gate: &G,
     ledger: &mut Ledger,
-    job: u64,
+    before: u64,
     given: Given,
-    budget: u64,
-) -> Result<(), Stop>
-    requires fresh { job_state_of ledger.old.entries job ≡ Fresh }
+    options: ReplayOptions,
+) -> Result<u64, Stop>
+    requires workers { (0 < options.workers) × (options.workers ≤ 64) }
+    requires fresh { (job : ℕ) → before < job → job_state_of ledger.old.entries job ≡ Fresh }
+    requires small { before < 2 ^ 48 }
     requires attempts { MayTry given }
-    ensures ran { OnOk result (Ran job given budget ledger.old ledger.new) }
-    ensures not_yet { (form : Form) → IsErrOf result (Stop.NotYet form) → (command_of given ≡ Err form) × (ledger.new ≡ ledger.old) }
-    ensures full { (n : ℕ) → IsErrOf result (Stop.Full n) → Met job given budget ledger.old ledger.new n }
+    ensures last { IfOk result (λ last. last ≡ before + width given) }
+    ensures ran { OnOk result (Ran before given options.budget ledger.old ledger.new) }
+    ensures not_yet { (form : Form) → IsErrOf result (Stop.NotYet form) → (members given ≡ Err form) × (ledger.new ≡ ledger.old) }
+    ensures full { (n : ℕ) → IsErrOf result (Stop.Full n) → Met before given options.budget ledger.old ledger.new n }
 {
-    match command_of(given) {
-        Err(form) => Err(Stop::NotYet(form)),
-        Ok(command) => {
-            run_alone(alloc, ledger, job, command, budget)?;
-            Ok(())
+    match given {
+        Given::One(command) => {
+            let job = before + 1;
+            run_alone(alloc, ledger, job, command, options.budget)?;
+            Ok(job)
         }
+        Given::Together(commands) => do_together(
+            rt,
+            alloc,
+            gate,
+            ledger,
+            before,
+            commands.into_vec(),
+            options,
+        ),
+        Given::Prepare(_) => Err(Stop::NotYet(Form::Prepare)),
+        Given::Unprepare(_) => Err(Stop::NotYet(Form::Unprepare)),
+        Given::Reopen => Err(Stop::NotYet(Form::Reopen)),
     }
 }
 
-/// The command that a job does, or the form that isn't supported yet.
-fn command_of(given: Given) -> Result<Command, Form>
-    ensures { result ≡ command_of given }
+/// Does commands beside each other, each as a job numbered on from `before`, and returns the number of the
+/// last.
+fn do_together<R: Threads + Wait + Sync, G: Gate + Sync>(
+    rt: &R,
+    alloc: Global,
+    gate: &G,
+    ledger: &mut Ledger,
+    before: u64,
+    commands: Vec<Command>,
+    options: ReplayOptions,
+) -> Result<u64, Stop>
+    requires workers { (0 < options.workers) × (options.workers ≤ 64) }
+    requires fresh { (job : ℕ) → before < job → job_state_of ledger.old.entries job ≡ Fresh }
+    requires small { before < 2 ^ 48 }
+    requires attempts { AllTry commands.items }
+    requires most { length commands.items ≤ together_most }
+    ensures last { IfOk result (λ last. last ≡ before + length commands.items) }
+    ensures ran { OnOk result (Ran before (Together commands.items) options.budget ledger.old ledger.new) }
+    ensures not_yet { (form : Form) → IsErrOf result (Stop.NotYet form) → ⊥ }
+    ensures full { (n : ℕ) → IsErrOf result (Stop.Full n) → Met before (Together commands.items) options.budget ledger.old ledger.new n }
 {
-    match given {
-        Given::One(command) => Ok(command),
-        Given::Together(_) => Err(Form::Together),
-        Given::Prepare(_) => Err(Form::Prepare),
-        Given::Unprepare(_) => Err(Form::Unprepare),
-        Given::Reopen => Err(Form::Reopen),
+    let last = before + commands.len() as u64;
+    let works = works_of(alloc, before, commands)?;
+    run_works(rt, alloc, gate, ledger, works, options)?;
+    Ok(last)
+}
+
+/// The works of commands, each a job numbered on from `before`.
+fn works_of(alloc: Global, before: u64, commands: Vec<Command>) -> Result<Vec<Work>, AllocError>
+    requires small { before < 2 ^ 48 }
+    requires most { length commands.items ≤ together_most }
+    ensures { IfOk result (λ works. works.items ≡ works_from before commands.items) }
+{
+    let mut works = Vec::new(alloc);
+    let mut job = before;
+    for command in commands {
+        job += 1;
+        works.push(Work::new(job, command))?;
     }
+    Ok(works)
+}
+
+/// Runs the works beside each other over the ledger, in whose place is an empty one meanwhile.
+fn run_works<R: Threads + Wait + Sync, G: Gate + Sync>(
+    rt: &R,
+    alloc: Global,
+    gate: &G,
+    ledger: &mut Ledger,
+    works: Vec<Work>,
+    options: ReplayOptions,
+) -> Result<(), LedgerError>
+    requires workers { (0 < options.workers) × (options.workers ≤ 64) }
+    requires fresh { AllNew ledger.old.entries works.items }
+    requires differ { Differ (jobs_of works.items) }
+    ensures ran { OnOk result (RanTogether options.budget works.items ledger.old ledger.new) }
+    ensures done { OnOk result (AllEnded ledger.new.entries works.items) }
+    ensures met { (n : ℕ) → IsErrOf result (LedgerError.Full n) → RanTogether options.budget works.items ledger.old ledger.new }
+    ensures full { (n : ℕ) → IsErrOf result (LedgerError.Full n) → (length ledger.new.entries ≡ n) × (ledger.new.limit ≤ n) × SomeOpen ledger.new.entries works.items }
+{
+    // A worker without a work isn't started; who does which work is the same.
+    let workers = options.workers.min(works.len() as u64).max(1);
+    let empty = Ledger::new(alloc, 0)?;
+    let taken = mem::replace(ledger, empty);
+    let (back, ended) = run_together(rt, alloc, gate, taken, works, workers, options.budget);
+    *ledger = back;
+    ended
 }

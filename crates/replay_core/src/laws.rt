@@ -1,4 +1,4 @@
-ghost use Rattle.std.specs.Prelude.{◌≡◌, ◌++◌, ◌∷◌, ℕ, List};
+ghost use Rattle.std.specs.Prelude.{◌≡◌, ◌+◌, ◌++◌, ◌∷◌, ℕ, List};
 ghost use Rattle.object_fields.specs.declared.key.Key.{Key};
 ghost use Rattle.cluster.specs.declared.plan.Plan.{Plan};
 ghost use Rattle.cluster.specs.declared.plan.Verdict.{Verdict};
@@ -8,24 +8,30 @@ ghost use Rattle.cluster.specs.History.{state_at};
 ghost use Rattle.plan_rules.specs.Plans.{PlanBy, VerdictBy};
 ghost use Rattle.commands.specs.declared.command.Command.{Command};
 ghost use Rattle.commands.specs.declared.given.Given.{Given};
+ghost use Rattle.histories.specs.Alone.{NeverSetBack};
 ghost use Rattle.histories.specs.Legal.{Legal};
 ghost use Rattle.replay_core.specs.Complete.{Scheduled};
-ghost use Rattle.replay_core.specs.Jobs.{RunOf};
+ghost use Rattle.replay_core.specs.Jobs.{RunOf, SegmentBegun, SegmentRun};
 
 use histories::legal_steps;
 use sched_job::{alone_is_undisturbed, schedules_are_complete};
 
 /// In the run of commands with a budget, each plan and each verdict is what searches of the nodes
-/// within that budget return at its index.
+/// within that budget return at its index. So it is in the run of commands and then of a part of one more, or of
+/// a Together, that reached the limit of the history.
 pub fn runs_search_within()
     ensures plans { (budget : ℕ) (commands : List Given) (prefix back : List Entry) (job : ℕ) (pod : Key) (plan : Plan) →
         RunOf budget commands (prefix ++ record { job = job; event = Event.Reserved pod plan } ∷ back) → PlanBy (state_at prefix plan.at) pod budget plan }
     ensures verdicts { (budget : ℕ) (commands : List Given) (prefix back : List Entry) (job : ℕ) (pod : Key) (verdict : Verdict) →
         RunOf budget commands (prefix ++ record { job = job; event = Event.VerdictGiven pod verdict } ∷ back) → VerdictBy (state_at prefix verdict.at) pod budget verdict }
+    ensures part_plans { (budget n : ℕ) (commands : List Given) (more : Given) (before segment prefix back : List Entry) (job : ℕ) (pod : Key) (plan : Plan) →
+        RunOf budget commands before → SegmentBegun n more budget before segment → before ++ segment ≡ prefix ++ record { job = job; event = Event.Reserved pod plan } ∷ back → PlanBy (state_at prefix plan.at) pod budget plan }
+    ensures part_verdicts { (budget n : ℕ) (commands : List Given) (more : Given) (before segment prefix back : List Entry) (job : ℕ) (pod : Key) (verdict : Verdict) →
+        RunOf budget commands before → SegmentBegun n more budget before segment → before ++ segment ≡ prefix ++ record { job = job; event = Event.VerdictGiven pod verdict } ∷ back → VerdictBy (state_at prefix verdict.at) pod budget verdict }
 {}
 
 /// In a legal history that is the run of commands with a budget, each Schedule that is a single command
-/// is complete: if its pod is there and Idle after the entries of the commands before it, the pod is bound
+/// is complete: none of its entries is a refusal of its plan, a conflict or contended, and if its pod is there and Idle after the entries of the commands before it, the pod is bound
 /// to the first node by name that fits in that state within the budget, or the one entry is the verdict
 /// that says why not.
 pub fn runs_are_complete()
@@ -35,4 +41,13 @@ pub fn runs_are_complete()
     alone_is_undisturbed();
     legal_steps();
     schedules_are_complete();
+}
+
+/// A command by itself whose entries are the last of a legal history is never refused by the check of its plan, in
+/// conflict or contended, whether it was run whole or reached the limit of the history.
+pub fn single_commands_are_undisturbed()
+    ensures run { (n : ℕ) (command : Command) (budget : ℕ) (before segment : List Entry) → Legal (before ++ segment) → SegmentRun n (Given.One command) budget before segment → NeverSetBack (n + 1) (before ++ segment) }
+    ensures part { (n : ℕ) (command : Command) (budget : ℕ) (before segment : List Entry) → Legal (before ++ segment) → SegmentBegun n (Given.One command) budget before segment → NeverSetBack (n + 1) (before ++ segment) }
+{
+    alone_is_undisturbed();
 }

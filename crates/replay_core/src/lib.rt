@@ -11,7 +11,7 @@ mod stop;
 mod work;
 
 pub use form::Form;
-pub use laws::{runs_are_complete, runs_search_within};
+pub use laws::{runs_are_complete, runs_search_within, single_commands_are_undisturbed};
 pub use options::ReplayOptions;
 pub use script::replay;
 pub use status::{Rejection, Status};

@@ -10,25 +10,30 @@ ghost use Rattle.replay_core.specs.Script.{most_input};
 use crate::work::{Work, do_document, print_summary};
 use crate::{Rejection, ReplayOptions, Status};
 use doc_split::{DocError, Splitter};
-use dra_ports::{Sink, Source};
+use dra_ports::{Gate, Sink, Source};
 use histories::histories_grow;
 use journal_text::lines_of_more;
 use ledger_core::Ledger;
 use std::alloc::Global;
+use std::sync::Wait;
+use std::thread::Threads;
 
 /// The most bytes of an input: 1 GiB.
 const MOST_INPUT: u64 = 1_073_741_824;
 
 /// Does the next document of the input, or ends.
-fn step<S: Source, K: Sink>(
+fn step<R: Threads + Wait + Sync, S: Source, K: Sink, G: Gate + Sync>(
+    rt: &R,
     alloc: Global,
     splitter: &mut Splitter,
     work: &mut Work,
     options: ReplayOptions,
     input: &mut S,
     output: &mut K,
+    gate: &G,
 ) -> Result<(), Status>
     requires ready { IsReady work.old }
+    requires workers { (0 < options.workers) × (options.workers ≤ 64) }
     requires attempts { 0 < options.attempts }
     ensures ok { OnOk result ((left before : Option (List ℕ)) → Progress options left (remaining splitter.old (S.left input.old)) before (K.written output.old) splitter.old.at work.old → Progress options left (remaining splitter.new (S.left input.new)) before (K.written output.new) splitter.new.at work.new) }
     ensures moves { OnOk result (splitter.old.at < splitter.new.at) }
@@ -44,7 +49,7 @@ fn step<S: Source, K: Sink>(
 {
     lines_of_more();
     match splitter.next_document(alloc, input) {
-        Ok(Some(doc)) => match do_document(alloc, work, &doc, options, output) {
+        Ok(Some(doc)) => match do_document(rt, alloc, gate, work, &doc, options, output) {
             Ok(()) => Ok(()),
             Err(status) => Err(status),
         },
@@ -69,6 +74,10 @@ fn input_status(error: DocError) -> Status
 
 /// Does the commands of an input in order, each as a job of a ledger of at most `entries` entries, with
 /// searches within the budget, and prints the lines of each once it is done, and the summary at the end.
+/// The commands of a Together are done beside each other by as many workers as the options say, and their
+/// lines are printed, in order of their indices, once all of them are done. The gate is called as the jobs
+/// of a Together go on. Each document is
+/// done as soon as it is whole, before more of the input is read.
 ///
 /// The status says what the script is, if the input exposes its contents, which of its commands were
 /// done, and what was written, if the output exposes it (`Ends`). With `Done` that is the whole text of
@@ -81,12 +90,14 @@ fn input_status(error: DocError) -> Status
 /// each verdict is what searches of the nodes within the budget of the options return, at its index. With
 /// each status the history has at most `entries` entries, and where one more was expected it has
 /// exactly so many.
-pub fn replay<S: Source, K: Sink>(
-    alloc: Global,
+pub fn replay<R: AllocGlobal + Threads + Wait + Sync, S: Source, K: Sink, G: Gate + Sync>(
+    rt: &R,
     options: ReplayOptions,
     input: &mut S,
     output: &mut K,
+    gate: &G,
 ) -> Status
+    requires workers { (0 < options.workers) × (options.workers ≤ 64) }
     requires entries { options.entries < 2 ^ 48 }
     requires attempts { 0 < options.attempts }
     ensures ends { Ends options (S.left input.old) (S.left input.new) (K.written output.old) (K.written output.new) result }
@@ -97,6 +108,7 @@ pub fn replay<S: Source, K: Sink>(
     ensures faultless_output { (result ≡ Status.Write → ⊥) → K.faults output.new ≡ K.faults output.old }
 {
     histories_grow();
+    let alloc = rt.alloc();
     let Ok(ledger) = Ledger::new(alloc, options.entries) else {
         return Status::Memory;
     };
@@ -106,7 +118,16 @@ pub fn replay<S: Source, K: Sink>(
         commands: 0,
     };
     'documents: loop {
-        match step(alloc, &mut splitter, &mut work, options, input, output) {
+        match step(
+            rt,
+            alloc,
+            &mut splitter,
+            &mut work,
+            options,
+            input,
+            output,
+            gate,
+        ) {
             Ok(()) => {}
             Err(status) => return status,
         }

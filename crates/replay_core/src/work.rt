@@ -13,11 +13,13 @@ use crate::jobs::do_command;
 use crate::{Rejection, ReplayOptions, Status, Stop};
 use commands::{Given, GivenError, commands};
 use doc_split::Doc;
-use dra_ports::{PortError, Sink, write_all};
+use dra_ports::{Gate, PortError, Sink, write_all};
 use histories::histories_grow;
 use journal_text::{lines, lines_of_more, summary};
 use ledger_core::Ledger;
 use std::alloc::Global;
+use std::sync::Wait;
+use std::thread::Threads;
 
 /// The ledger, and how many commands were done.
 #[derive(Drop)]
@@ -51,9 +53,11 @@ pub fn print_from<K: Sink>(
     write_all(output, &text)
 }
 
-/// Does a command as the next job, and prints its lines.
-pub fn do_next<K: Sink>(
+/// Does what is asked for as the next jobs, and prints their lines once all are done.
+pub fn do_next<R: Threads + Wait + Sync, K: Sink, G: Gate + Sync>(
+    rt: &R,
     alloc: Global,
+    gate: &G,
     work: &mut Work,
     at: u64,
     command: Given,
@@ -61,6 +65,7 @@ pub fn do_next<K: Sink>(
     output: &mut K,
 ) -> Result<(), Status>
     requires ready { IsReady work.old }
+    requires workers { (0 < options.workers) × (options.workers ≤ 64) }
     requires attempts { MayTry command }
     ensures did { OnOk result (Did options command work.old work.new (K.written output.old) (K.written output.new)) }
     ensures stops { IfErr result (Stops options at command work.old work.new (K.written output.old) (K.written output.new)) }
@@ -71,12 +76,19 @@ pub fn do_next<K: Sink>(
     ensures sound { IsSound work.new.ledger }
 {
     let from = work.ledger.len();
-    let job = work.commands + 1;
-    let done = do_command(alloc, &mut work.ledger, job, command, options.budget);
+    let done = do_command(
+        rt,
+        alloc,
+        gate,
+        &mut work.ledger,
+        work.commands,
+        command,
+        options,
+    );
     let _entries = work.ledger.len();
     match done {
-        Ok(()) => {
-            work.commands = job;
+        Ok(last) => {
+            work.commands = last;
             match print_from(alloc, &work.ledger, from, output) {
                 Ok(()) => Ok(()),
                 Err(error) => Err(write_status(error)),
@@ -91,9 +103,11 @@ pub fn do_next<K: Sink>(
     }
 }
 
-/// Does commands one after another, each as the next job, and prints the lines of each.
-fn do_all<K: Sink>(
+/// Does what is asked for one after another, each as the next jobs, and prints the lines of each.
+fn do_all<R: Threads + Wait + Sync, K: Sink, G: Gate + Sync>(
+    rt: &R,
     alloc: Global,
+    gate: &G,
     work: &mut Work,
     at: u64,
     commands: Vec<Given>,
@@ -101,6 +115,7 @@ fn do_all<K: Sink>(
     output: &mut K,
 ) -> Result<(), Status>
     requires ready { IsReady work.old }
+    requires workers { (0 < options.workers) × (options.workers ≤ 64) }
     requires attempts { AllMayTry commands.items }
     ensures did { OnOk result (StandsOn options (at_each at commands.items) work.old work.new (K.written output.old) (K.written output.new)) }
     ensures stops { IfErr result (StoppedAmong options at commands.items work.old work.new (K.written output.old) (K.written output.new)) }
@@ -114,20 +129,23 @@ fn do_all<K: Sink>(
     lines_of_more();
     let _entries = work.ledger.len();
     for command in commands {
-        do_next(alloc, work, at, command, options, output)?;
+        do_next(rt, alloc, gate, work, at, command, options, output)?;
     }
     Ok(())
 }
 
-/// Does a document's commands, each as the next job, and prints the lines of each.
-pub fn do_document<K: Sink>(
+/// Does what a document asks for, each as the next jobs, and prints the lines of each.
+pub fn do_document<R: Threads + Wait + Sync, K: Sink, G: Gate + Sync>(
+    rt: &R,
     alloc: Global,
+    gate: &G,
     work: &mut Work,
     doc: &Doc,
     options: ReplayOptions,
     output: &mut K,
 ) -> Result<(), Status>
     requires ready { IsReady work.old }
+    requires workers { (0 < options.workers) × (options.workers ≤ 64) }
     requires attempts { 0 < options.attempts }
     ensures did { OnOk result (DocumentDid options doc.now.at doc.now.bytes.items work.old work.new (K.written output.old) (K.written output.new)) }
     ensures stops { IfErr result (DocumentStops options doc.now.at doc.now.bytes.items work.old work.new (K.written output.old) (K.written output.new)) }
@@ -139,7 +157,7 @@ pub fn do_document<K: Sink>(
 {
     let _entries = work.ledger.len();
     match commands(alloc, doc, options.attempts) {
-        Ok(given) => do_all(alloc, work, doc.at, given, options, output),
+        Ok(given) => do_all(rt, alloc, gate, work, doc.at, given, options, output),
         Err(GivenError::NotJson) => Err(Status::Document(doc.at, Rejection::NotJson)),
         Err(GivenError::NotACommand) => Err(Status::Document(doc.at, Rejection::NotACommand)),
         Err(GivenError::Memory) => Err(Status::Memory),

@@ -17,7 +17,7 @@ use Rattle.request_rules.specs.Rules.{same_values}
 text_eq-same : (a : List ℕ) → text_eq a a ≡ true
 text_eq-same a = nat_list_eq_equiv.refl a
 
-same_from_text_eq : (a b : List ℕ) → text_eq a b ≡ true → a ≡ b
+pub same_from_text_eq : (a b : List ℕ) → text_eq a b ≡ true → a ≡ b
 same_from_text_eq a b e = same_text a b (sym e)
 
 pub device_eq-same : (a : DeviceId) → device_eq a a ≡ true

@@ -11,3 +11,6 @@ mod Found
 mod Once
 mod Joined
 mod Granted
+mod GrowthAsked
+mod GrowthGood
+mod GrowthDrawn

@@ -28,7 +28,7 @@ pub record Standing (w : SearchInput) (ps : List Pick) : Type 0 where
 
 -- ---- the parts of the test
 
-apart_of : (w : SearchInput) (before : List Pick) (p : Pick) → may_join w before p ≡ true → list_all (λ q. apart w q p) before ≡ true
+pub apart_of : (w : SearchInput) (before : List Pick) (p : Pick) → may_join w before p ≡ true → list_all (λ q. apart w q p) before ≡ true
 unfolding may_join
 apart_of w before p e = left_of (list_all (λ q. apart w q p) before) ((p.label.admin || not (is_held w p)) && (covers w before p && list_all (λ r. agrees w r before p) (rules_of w))) e
 
@@ -36,19 +36,19 @@ rest_of : (w : SearchInput) (before : List Pick) (p : Pick) → may_join w befor
 unfolding may_join
 rest_of w before p e = right_of (list_all (λ q. apart w q p) before) ((p.label.admin || not (is_held w p)) && (covers w before p && list_all (λ r. agrees w r before p) (rules_of w))) e
 
-free_of : (w : SearchInput) (before : List Pick) (p : Pick) → may_join w before p ≡ true → (p.label.admin || not (is_held w p)) ≡ true
+pub free_of : (w : SearchInput) (before : List Pick) (p : Pick) → may_join w before p ≡ true → (p.label.admin || not (is_held w p)) ≡ true
 free_of w before p e = left_of (p.label.admin || not (is_held w p)) (covers w before p && list_all (λ r. agrees w r before p) (rules_of w)) (rest_of w before p e)
 
 last_of : (w : SearchInput) (before : List Pick) (p : Pick) → may_join w before p ≡ true → (covers w before p && list_all (λ r. agrees w r before p) (rules_of w)) ≡ true
 last_of w before p e = right_of (p.label.admin || not (is_held w p)) (covers w before p && list_all (λ r. agrees w r before p) (rules_of w)) (rest_of w before p e)
 
-covers_of : (w : SearchInput) (before : List Pick) (p : Pick) → may_join w before p ≡ true → covers w before p ≡ true
+pub covers_of : (w : SearchInput) (before : List Pick) (p : Pick) → may_join w before p ≡ true → covers w before p ≡ true
 covers_of w before p e = left_of (covers w before p) (list_all (λ r. agrees w r before p) (rules_of w)) (last_of w before p e)
 
-agrees_of : (w : SearchInput) (before : List Pick) (p : Pick) → may_join w before p ≡ true → list_all (λ r. agrees w r before p) (rules_of w) ≡ true
+pub agrees_of : (w : SearchInput) (before : List Pick) (p : Pick) → may_join w before p ≡ true → list_all (λ r. agrees w r before p) (rules_of w) ≡ true
 agrees_of w before p e = right_of (covers w before p) (list_all (λ r. agrees w r before p) (rules_of w)) (last_of w before p e)
 
-joins_from : (w : SearchInput) (before : List Pick) (p : Pick) → list_all (λ q. apart w q p) before ≡ true → (p.label.admin || not (is_held w p)) ≡ true → covers w before p ≡ true → list_all (λ r. agrees w r before p) (rules_of w) ≡ true
+pub joins_from : (w : SearchInput) (before : List Pick) (p : Pick) → list_all (λ q. apart w q p) before ≡ true → (p.label.admin || not (is_held w p)) ≡ true → covers w before p ≡ true → list_all (λ r. agrees w r before p) (rules_of w) ≡ true
     → may_join w before p ≡ true
 unfolding may_join
 joins_from w before p a f c r =

@@ -14,3 +14,4 @@ pub mod Ways
 pub mod Agreeing
 pub mod Draws
 pub mod Apart
+pub mod Growth

@@ -18,3 +18,4 @@ pub mod Owned
 pub mod Sharing
 pub mod Earlier
 pub mod Taking
+mod Setting

@@ -1,5 +1,5 @@
 -- Many works over one history, one step at a time.
-use Rattle.std.specs.Prelude.{Some, slice_get, slice_set, ◌+◌, ℕ, ◌≡◌, ◌<◌, true, false, List, [], ◌∷◌, ◌++◌, nat_eq}
+use Rattle.std.specs.Prelude.{Some, IsSome, slice_get, slice_set, ◌+◌, ℕ, ◌≡◌, ◌<◌, true, false, List, [], ◌∷◌, ◌++◌, nat_eq}
 use Rattle.std.specs.List.{list_any}
 use Rattle.object_fields.specs.declared.key.Key.{Key}
 use Rattle.cluster.specs.declared.entry.Entry.{Entry}
@@ -72,6 +72,13 @@ pub record WentAt (budget : ℕ) (H H' : History) (ws ws' : List Work) (at turns
 abbrev pub Walk : ℕ → List ℕ → History → List Work → History → List Work → ℕ → Type 0
 Walk budget [] H ws H' ws' turns = (H' ≡ H) × (ws' ≡ ws) × (turns ≡ 0)
 Walk budget (i ∷ is) H ws H' ws' turns = (H1 : History) × (ws1 : List Work) × (a : ℕ) × (b : ℕ) × WentAt budget H H1 ws ws1 i a × Walk budget is H1 ws1 H' ws' b × (turns ≡ a + b)
+
+-- a turn of one of the works appends an entry
+pub record IsOneDue (h : List Entry) (ws : List Work) : Type 0 where
+  pub at : ℕ
+  pub work : Work
+  pub there : slice_get ws at ≡ Some work
+  pub due : IsSome (move_of h work)
 
 -- ---- what all works have made
 

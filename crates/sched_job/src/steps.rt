@@ -1,11 +1,11 @@
-ghost use Rattle.std.specs.Prelude.{◌≡◌, ◌≤◌, ◌<◌, ◌∷◌, [], ℕ, List, length, slice_index, false, IfOk, OnErr, IsErrOf};
+ghost use Rattle.std.specs.Prelude.{◌≡◌, ◌≤◌, ◌<◌, ◌∷◌, [], ℕ, List, length, slice_index, false, IfOk, OnErr, IsErrOf, IsSome};
 ghost use Rattle.cluster.specs.declared.entry.Entry.{Entry};
 ghost use Rattle.cluster.specs.History.{job_state_of};
 ghost use Rattle.histories.specs.Legal.{Legal};
-ghost use Rattle.sched_job.specs.Moves.{Fits};
+ghost use Rattle.sched_job.specs.Moves.{Fits, move_of};
 ghost use Rattle.sched_job.specs.Runs.{Running};
 ghost use Rattle.histories.specs.JobRuns.{Run, is_ended};
-ghost use Rattle.sched_job.specs.Steps.{jobs_of, Differ, Extends, AllNew, AllFit, AllEnds, Ran, Went, WentAt, Walk};
+ghost use Rattle.sched_job.specs.Steps.{jobs_of, Differ, Extends, AllNew, AllFit, AllEnds, IsOneDue, Ran, Went, WentAt, Walk};
 
 use crate::{Next, Work, runs_go_on};
 use cluster::JobState;
@@ -34,6 +34,7 @@ pub fn go(
     requires { Fits ledger.old.entries work.old }
     ensures went { IfOk result (λ turns. Went budget ledger.old ledger.new work.old work.new turns) }
     ensures full { (n : ℕ) → IsErrOf result (LedgerError.Full n) → (length ledger.new.entries ≡ n) × (ledger.new.limit ≤ n) }
+    ensures due { (n : ℕ) → IsErrOf result (LedgerError.Full n) → IsSome (move_of ledger.new.entries work.new) }
     ensures few { IfOk result (λ turns. turns ≤ 1) }
     ensures extends { Extends (work.old.job ∷ []) ledger.old.entries ledger.new.entries }
     ensures limit { ledger.new.limit ≡ ledger.old.limit }
@@ -66,6 +67,7 @@ fn go_at(
     requires fit { AllFit ledger.old.entries works.old }
     ensures went { IfOk result (λ turns. WentAt budget ledger.old ledger.new works.old works.new at turns) }
     ensures full { (n : ℕ) → IsErrOf result (LedgerError.Full n) → (length ledger.new.entries ≡ n) × (ledger.new.limit ≤ n) }
+    ensures due { (n : ℕ) → IsErrOf result (LedgerError.Full n) → IsOneDue ledger.new.entries works.new }
     ensures few { IfOk result (λ turns. turns ≤ 1) }
     ensures ran { (from : ℕ) (jobs : List ℕ) (h : List Entry) → Differ jobs → Ran from budget jobs h ledger.old.entries works.old → Ran from budget jobs h ledger.new.entries works.new }
     ensures limit { ledger.new.limit ≡ ledger.old.limit }
@@ -78,8 +80,8 @@ fn go_at(
 /// Makes one turn for each step, of the work at that index, with the search after it if one is next; a
 /// work whose job has ended is passed over. Returns how many turns there were. Whatever it returns, the
 /// history extends the old one by entries of these jobs, each job that has ended was run to its end, and
-/// each other one was begun. `Full` is returned only if the history has its limit of entries, and `Memory`
-/// only if memory runs out.
+/// each other one was begun. `Full` is returned only if the history has its limit of entries and one of
+/// the works is to append one more, and `Memory` only if memory runs out.
 pub fn run_steps(
     alloc: Global,
     ledger: &mut Ledger,
@@ -95,6 +97,7 @@ pub fn run_steps(
     ensures ends { AllEnds (length ledger.old.entries) budget ledger.new.entries works.new }
     ensures walk { IfOk result (λ turns. Walk budget steps.now ledger.old works.old ledger.new works.new turns) }
     ensures full { (n : ℕ) → IsErrOf result (LedgerError.Full n) → (length ledger.new.entries ≡ n) × (ledger.new.limit ≤ n) }
+    ensures due { (n : ℕ) → IsErrOf result (LedgerError.Full n) → IsOneDue ledger.new.entries works.new }
     ensures limit { ledger.new.limit ≡ ledger.old.limit }
 {
     runs_go_on();

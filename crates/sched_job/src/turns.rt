@@ -1,4 +1,4 @@
-ghost use Rattle.std.specs.Prelude.{◌≡◌, ◌≤◌, ℕ, length, true, IfOk, OnOk, OnErr, IsErrOf};
+ghost use Rattle.std.specs.Prelude.{◌≡◌, ◌≤◌, ℕ, length, true, IfOk, OnOk, OnErr, IsErrOf, IsSome};
 ghost use Rattle.cluster.specs.declared.entry.Command.TheVariants.{Invalid};
 ghost use Rattle.cluster.specs.declared.entry.Event.TheVariants.{Denied};
 ghost use Rattle.cluster.specs.declared.entry.Refusal.TheVariants as refusal;
@@ -34,6 +34,7 @@ pub fn step(
     ensures ok { OnOk result (ledger.new ≡ moved ledger.old job (move_of ledger.old.entries (record { job = job; command = command.now; stage = stage.now }))) }
     ensures stage { IfOk result (λ made. made ≡ stage_after ledger.old.entries (record { job = job; command = command.now; stage = stage.now })) }
     ensures full { (n : ℕ) → IsErrOf result (LedgerError.Full n) → (length ledger.old.entries ≡ n) × (ledger.old.limit ≤ n) }
+    ensures due { (n : ℕ) → IsErrOf result (LedgerError.Full n) → IsSome (move_of ledger.old.entries (record { job = job; command = command.now; stage = stage.now })) }
     ensures err { OnErr result (ledger.new ≡ ledger.old) }
 {
     match command {
@@ -82,6 +83,7 @@ fn apply(
 ) -> Result<(), LedgerError>
     ensures ok { OnOk result (ledger.new ≡ moved ledger.old job (once (job_state_of ledger.old.entries job) (application (state_of ledger.old.entries) ready.now mode))) }
     ensures full { (n : ℕ) → IsErrOf result (LedgerError.Full n) → (length ledger.old.entries ≡ n) × (ledger.old.limit ≤ n) }
+    ensures due { (n : ℕ) → IsErrOf result (LedgerError.Full n) → IsSome (once (job_state_of ledger.old.entries job) (application (state_of ledger.old.entries) ready.now mode)) }
     ensures err { OnErr result (ledger.new ≡ ledger.old) }
 {
     if is_fresh(ledger.job_state(job)) {
@@ -94,6 +96,7 @@ fn apply(
 fn deny(alloc: Global, ledger: &mut Ledger, job: u64, error: &FieldError) -> Result<(), LedgerError>
     ensures ok { OnOk result (ledger.new ≡ moved ledger.old job (once (job_state_of ledger.old.entries job) (Denied (Invalid error.now) refusal.Invalid))) }
     ensures full { (n : ℕ) → IsErrOf result (LedgerError.Full n) → (length ledger.old.entries ≡ n) × (ledger.old.limit ≤ n) }
+    ensures due { (n : ℕ) → IsErrOf result (LedgerError.Full n) → IsSome (once (job_state_of ledger.old.entries job) (Denied (Invalid error.now) refusal.Invalid)) }
     ensures err { OnErr result (ledger.new ≡ ledger.old) }
 {
     match ledger.job_state(job) {
@@ -112,6 +115,7 @@ fn deny(alloc: Global, ledger: &mut Ledger, job: u64, error: &FieldError) -> Res
 fn delete(alloc: Global, ledger: &mut Ledger, job: u64, target: &Target) -> Result<(), LedgerError>
     ensures ok { OnOk result (ledger.new ≡ moved ledger.old job (once (job_state_of ledger.old.entries job) (deletion (state_of ledger.old.entries) target.now))) }
     ensures full { (n : ℕ) → IsErrOf result (LedgerError.Full n) → (length ledger.old.entries ≡ n) × (ledger.old.limit ≤ n) }
+    ensures due { (n : ℕ) → IsErrOf result (LedgerError.Full n) → IsSome (once (job_state_of ledger.old.entries job) (deletion (state_of ledger.old.entries) target.now)) }
     ensures err { OnErr result (ledger.new ≡ ledger.old) }
 {
     if is_fresh(ledger.job_state(job)) {
@@ -123,6 +127,7 @@ fn delete(alloc: Global, ledger: &mut Ledger, job: u64, target: &Target) -> Resu
 fn release(alloc: Global, ledger: &mut Ledger, job: u64, pod: &Key) -> Result<(), LedgerError>
     ensures ok { OnOk result (ledger.new ≡ moved ledger.old job (once (job_state_of ledger.old.entries job) (release_of (state_of ledger.old.entries) pod.now))) }
     ensures full { (n : ℕ) → IsErrOf result (LedgerError.Full n) → (length ledger.old.entries ≡ n) × (ledger.old.limit ≤ n) }
+    ensures due { (n : ℕ) → IsErrOf result (LedgerError.Full n) → IsSome (once (job_state_of ledger.old.entries job) (release_of (state_of ledger.old.entries) pod.now)) }
     ensures err { OnErr result (ledger.new ≡ ledger.old) }
 {
     if is_fresh(ledger.job_state(job)) {
@@ -140,6 +145,7 @@ fn adopt(
 ) -> Result<(), LedgerError>
     ensures ok { OnOk result (ledger.new ≡ moved ledger.old job (once (job_state_of ledger.old.entries job) (adoption (state_of ledger.old.entries) claim.now status.now))) }
     ensures full { (n : ℕ) → IsErrOf result (LedgerError.Full n) → (length ledger.old.entries ≡ n) × (ledger.old.limit ≤ n) }
+    ensures due { (n : ℕ) → IsErrOf result (LedgerError.Full n) → IsSome (once (job_state_of ledger.old.entries job) (adoption (state_of ledger.old.entries) claim.now status.now)) }
     ensures err { OnErr result (ledger.new ≡ ledger.old) }
 {
     if is_fresh(ledger.job_state(job)) {
@@ -161,6 +167,7 @@ fn schedule(
     ensures ok { OnOk result (ledger.new ≡ moved ledger.old job (move_of ledger.old.entries (record { job = job; command = Command.Schedule pod.now attempts; stage = stage.now }))) }
     ensures stage { IfOk result (λ made. made ≡ stage_after ledger.old.entries (record { job = job; command = Command.Schedule pod.now attempts; stage = stage.now })) }
     ensures full { (n : ℕ) → IsErrOf result (LedgerError.Full n) → (length ledger.old.entries ≡ n) × (ledger.old.limit ≤ n) }
+    ensures due { (n : ℕ) → IsErrOf result (LedgerError.Full n) → IsSome (move_of ledger.old.entries (record { job = job; command = Command.Schedule pod.now attempts; stage = stage.now })) }
     ensures err { OnErr result (ledger.new ≡ ledger.old) }
 {
     match ledger.job_state(job) {
@@ -190,6 +197,7 @@ fn finish(alloc: Global, ledger: &mut Ledger, job: u64, pod: &Key) -> Result<(),
     requires { has_reserved (job_state_of ledger.old.entries job) ≡ true }
     ensures ok { OnOk result (ledger.new ≡ moved ledger.old job (finish_move (state_of ledger.old.entries) job pod.now)) }
     ensures full { (n : ℕ) → IsErrOf result (LedgerError.Full n) → (length ledger.old.entries ≡ n) × (ledger.old.limit ≤ n) }
+    ensures due { (n : ℕ) → IsErrOf result (LedgerError.Full n) → IsSome (finish_move (state_of ledger.old.entries) job pod.now) }
     ensures err { OnErr result (ledger.new ≡ ledger.old) }
 {
     pods_use_claims();
@@ -212,6 +220,7 @@ fn give_up(alloc: Global, ledger: &mut Ledger, job: u64, pod: &Key) -> Result<()
     requires { is_conflicted (job_state_of ledger.old.entries job) ≡ true }
     ensures ok { OnOk result (ledger.new ≡ moved ledger.old job (give_up_move (state_of ledger.old.entries) job pod.now)) }
     ensures full { (n : ℕ) → IsErrOf result (LedgerError.Full n) → (length ledger.old.entries ≡ n) × (ledger.old.limit ≤ n) }
+    ensures due { (n : ℕ) → IsErrOf result (LedgerError.Full n) → IsSome (give_up_move (state_of ledger.old.entries) job pod.now) }
     ensures err { OnErr result (ledger.new ≡ ledger.old) }
 {
     if is_taken(ledger.state(), job, pod) {
@@ -233,6 +242,7 @@ fn attempt(
     ensures ok { OnOk result (ledger.new ≡ moved ledger.old job (try_move (state_of ledger.old.entries) pod.now stage.now)) }
     ensures stage { IfOk result (λ made. made ≡ tried ledger.old.entries (try_move (state_of ledger.old.entries) pod.now stage.now)) }
     ensures full { (n : ℕ) → IsErrOf result (LedgerError.Full n) → (length ledger.old.entries ≡ n) × (ledger.old.limit ≤ n) }
+    ensures due { (n : ℕ) → IsErrOf result (LedgerError.Full n) → IsSome (try_move (state_of ledger.old.entries) pod.now stage.now) }
     ensures err { OnErr result (ledger.new ≡ ledger.old) }
 {
     match stage {
@@ -272,6 +282,7 @@ fn begin(alloc: Global, ledger: &mut Ledger, job: u64, pod: &Key) -> Result<Stag
     ensures ok { OnOk result (ledger.new ≡ moved ledger.old job (begin_move (state_of ledger.old.entries) pod.now)) }
     ensures stage { IfOk result (λ made. made ≡ tried ledger.old.entries (begin_move (state_of ledger.old.entries) pod.now)) }
     ensures full { (n : ℕ) → IsErrOf result (LedgerError.Full n) → (length ledger.old.entries ≡ n) × (ledger.old.limit ≤ n) }
+    ensures due { (n : ℕ) → IsErrOf result (LedgerError.Full n) → IsSome (begin_move (state_of ledger.old.entries) pod.now) }
     ensures err { OnErr result (ledger.new ≡ ledger.old) }
 {
     match ledger.begin(alloc, job, pod)? {

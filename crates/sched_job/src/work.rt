@@ -1,4 +1,4 @@
-ghost use Rattle.std.specs.Prelude.{◌≡◌, ◌≤◌, ℕ, List, length, IfOk, OnOk, OnErr, IsErrOf};
+ghost use Rattle.std.specs.Prelude.{◌≡◌, ◌≤◌, ℕ, List, length, IfOk, OnOk, OnErr, IsErrOf, IsSome};
 ghost use Rattle.cluster.specs.declared.entry.Entry.{Entry};
 ghost use Rattle.cluster.specs.History.{job_state_of};
 ghost use Rattle.histories.specs.Legal.{Legal};
@@ -63,7 +63,8 @@ impl Work {
     /// Makes the job's next step, which appends at most one entry: the one that the history so far, the
     /// command and the last search require (`move_of`). It returns `Ended` if and only if the job has
     /// ended, `Think` if a snapshot of the present state was taken, and else `Again`. `Full` is returned only if
-    /// the history has its limit of entries, and `Memory` only if memory runs out; then nothing changed.
+    /// the history has its limit of entries and the step is to append one more, and `Memory` only if memory runs
+    /// out; then nothing changed.
     pub fn turn(&mut self, alloc: Global, ledger: &mut Ledger) -> Result<Next, LedgerError>
         requires { Fits ledger.old.entries self.old }
         ensures ok { OnOk result (ledger.new ≡ moved ledger.old self.old.job (move_of ledger.old.entries self.old)) }
@@ -72,6 +73,7 @@ impl Work {
         ensures stage { OnOk result (self.new.stage ≡ stage_after ledger.old.entries self.old) }
         ensures answer { IfOk result (λ next. next ≡ answer (job_state_of ledger.new.entries self.old.job) self.new.stage) }
         ensures full { (n : ℕ) → IsErrOf result (LedgerError.Full n) → (length ledger.old.entries ≡ n) × (ledger.old.limit ≤ n) }
+        ensures due { (n : ℕ) → IsErrOf result (LedgerError.Full n) → IsSome (move_of ledger.old.entries self.old) }
         ensures err { OnErr result (ledger.new ≡ ledger.old) }
         ensures err_work { OnErr result (self.new ≡ self.old) }
         ensures running { (c : Run) → Running c ledger.old.entries self.old → Running c ledger.new.entries self.new }
@@ -146,6 +148,7 @@ fn choose(alloc: Global, pod: &Key, snapshot: &Snapshot, budget: u64) -> Result<
             alloc,
             snapshot.state(),
             snapshot.holders(),
+            snapshot.totals(),
             pod,
             snapshot.at(),
             budget,

@@ -1,45 +1,37 @@
-use crate::fields::error_text;
+use crate::input::CaseError;
+use crate::shown::{Copied, error_text};
 use api_claim::{
-    AllocationMode, ClaimStatus, DeviceAsk, DeviceConstraint, DeviceRequest, RequestKind,
-    ResourceClaim, StatusResult,
+    AllocationMode, ClaimStatus, DeviceAsk, DeviceConstraint, DeviceRequest, DeviceSubRequest,
+    RequestKind, ResourceClaim, StatusResult,
 };
+use dra_values::Text;
 use ready_objects::ReadyClaim;
 use serde_json::Value;
 use std::alloc::{AllocError, Global};
 
-/// The fields of a claim, or the name and the path of the error.
-pub fn claim_answer(alloc: Global, value: &Value) -> Result<String, AllocError> {
-    match ResourceClaim::read(alloc, value) {
-        Ok(claim) => claim_text(alloc, &claim.copy(alloc)?),
-        Err(error) => error_text(alloc, &error),
-    }
-}
-
-/// The same of a claim's status.
-pub fn status_answer(alloc: Global, value: &Value) -> Result<String, AllocError> {
-    match ClaimStatus::read(alloc, value) {
-        Ok(status) => status_text(alloc, &status.copy(alloc)?),
-        Err(error) => error_text(alloc, &error),
-    }
-}
-
 /// A claim that is made ready, with the numbers of the selectors of each way to satisfy each request.
-pub fn ready_answer(alloc: Global, value: &Value) -> Result<String, AllocError> {
+pub fn ready_answer(alloc: Global, value: &Value) -> Result<String, CaseError> {
     match ResourceClaim::read(alloc, value) {
         Ok(claim) => made_ready(alloc, claim),
         Err(error) => error_text(alloc, &error),
     }
 }
 
-fn made_ready(alloc: Global, claim: ResourceClaim) -> Result<String, AllocError> {
+fn made_ready(alloc: Global, claim: ResourceClaim) -> Result<String, CaseError> {
     match ReadyClaim::of(alloc, claim) {
         Ok(ready) => ready_text(alloc, &ready),
         Err(error) => error_text(alloc, &error),
     }
 }
 
-fn ready_text(alloc: Global, ready: &ReadyClaim) -> Result<String, AllocError> {
-    let mut text = format!(in alloc; "{}", ready.claim().key)?;
+fn ready_text(alloc: Global, ready: &ReadyClaim) -> Result<String, CaseError> {
+    let mut text = String::new(alloc);
+    push_ready(&mut text, ready)?;
+    Ok(text)
+}
+
+fn push_ready(text: &mut String, ready: &ReadyClaim) -> Result<(), AllocError> {
+    write!(text, "{}", ready.claim().key)?;
     for ways in ready.selectors() {
         text.push_str(" of")?;
         for selectors in ways.as_slice() {
@@ -47,19 +39,23 @@ fn ready_text(alloc: Global, ready: &ReadyClaim) -> Result<String, AllocError> {
             write!(text, " {count}")?;
         }
     }
-    Ok(text)
+    Ok(())
 }
 
 fn push_ask(text: &mut String, ask: &DeviceAsk) -> Result<(), AllocError> {
     text.push_str(ask.class.as_str())?;
-    for selector in ask.selectors.as_slice() {
-        text.push('?')?;
-        text.push_str(selector.as_str())?;
-    }
+    push_selectors(text, ask.selectors.as_slice())?;
     match ask.mode {
         AllocationMode::ExactCount(count) => write!(text, "*{count}"),
         AllocationMode::All => text.push('*'),
     }
+}
+
+fn push_selectors(text: &mut String, selectors: &[Text]) -> Result<(), AllocError> {
+    for selector in selectors {
+        write!(text, "?{selector}")?;
+    }
+    Ok(())
 }
 
 /// ` name:` and what is asked for, `!` with admin access; subrequests in parentheses.
@@ -71,14 +67,18 @@ fn push_request(text: &mut String, request: &DeviceRequest) -> Result<(), AllocE
             push_admin(text, exactly.admin)
         }
         RequestKind::FirstAvailable(subrequests) => {
-            for subrequest in subrequests.as_slice() {
-                write!(text, "({}:", subrequest.name)?;
-                push_ask(text, &subrequest.ask)?;
-                text.push(')')?;
-            }
-            Ok(())
+            push_subrequests(text, subrequests.as_slice())
         }
     }
+}
+
+fn push_subrequests(text: &mut String, subrequests: &[DeviceSubRequest]) -> Result<(), AllocError> {
+    for subrequest in subrequests {
+        write!(text, "({}:", subrequest.name)?;
+        push_ask(text, &subrequest.ask)?;
+        text.push(')')?;
+    }
+    Ok(())
 }
 
 fn push_admin(text: &mut String, admin: bool) -> Result<(), AllocError> {
@@ -102,16 +102,27 @@ fn push_version(text: &mut String, version: Option<u64>) -> Result<(), AllocErro
     }
 }
 
-fn claim_text(alloc: Global, claim: &ResourceClaim) -> Result<String, AllocError> {
-    let mut text = format!(in alloc; "{}", claim.key)?;
-    push_version(&mut text, claim.version)?;
-    for request in claim.requests.as_slice() {
-        push_request(&mut text, request)?;
+fn push_requests(text: &mut String, requests: &[DeviceRequest]) -> Result<(), AllocError> {
+    for request in requests {
+        push_request(text, request)?;
     }
-    for constraint in claim.constraints.as_slice() {
-        push_constraint(&mut text, constraint)?;
+    Ok(())
+}
+
+impl Copied for ResourceClaim {
+    fn again(&self, alloc: Global) -> Result<ResourceClaim, AllocError> {
+        self.copy(alloc)
     }
-    Ok(text)
+
+    fn show(&self, text: &mut String) -> Result<(), AllocError> {
+        write!(text, "{}", self.key)?;
+        push_version(text, self.version)?;
+        push_requests(text, self.requests.as_slice())?;
+        for constraint in self.constraints.as_slice() {
+            push_constraint(text, constraint)?;
+        }
+        Ok(())
+    }
 }
 
 fn push_result(text: &mut String, found: &StatusResult) -> Result<(), AllocError> {
@@ -119,11 +130,17 @@ fn push_result(text: &mut String, found: &StatusResult) -> Result<(), AllocError
     push_admin(text, found.admin)
 }
 
-fn status_text(alloc: Global, status: &ClaimStatus) -> Result<String, AllocError> {
-    let mut text = format!(in alloc; "{}", status.node)?;
-    push_version(&mut text, status.version)?;
-    for found in status.results.as_slice() {
-        push_result(&mut text, found)?;
+impl Copied for ClaimStatus {
+    fn again(&self, alloc: Global) -> Result<ClaimStatus, AllocError> {
+        self.copy(alloc)
     }
-    Ok(text)
+
+    fn show(&self, text: &mut String) -> Result<(), AllocError> {
+        write!(text, "{}", self.node)?;
+        push_version(text, self.version)?;
+        for found in self.results.as_slice() {
+            push_result(text, found)?;
+        }
+        Ok(())
+    }
 }

@@ -1,24 +1,22 @@
-use crate::fields::error_text;
-use crate::input::{CaseError, json, text};
+use crate::input::{CaseError, text};
+use crate::shown::word as said;
 use cluster::{Mode, Object, Target};
 use commands::{Command, Given, GivenError, commands};
 use doc_split::Doc;
+use serde_json::Value;
 use std::alloc::{AllocError, Global};
 
-/// What a document asks for. The input is the document itself, or a JSON text that has a character
-/// below U+0100 for each byte.
-pub fn answer(alloc: Global, word: &str, input: &str) -> Result<String, CaseError> {
+/// What a document asks for. The input is a JSON text that has a character below U+0100 for each byte.
+pub fn answer(alloc: Global, word: &str, input: &Value) -> Result<String, CaseError> {
     match word {
-        "document" => Ok(asked(alloc, input.as_bytes())?),
-        "bytes" => asked_of_bytes(alloc, input),
+        "bytes" => asked_of_value(alloc, input),
         _ => Err(CaseError::BadCase),
     }
 }
 
-fn asked_of_bytes(alloc: Global, input: &str) -> Result<String, CaseError> {
-    let value = json(alloc, input)?;
-    let document = bytes(alloc, text(&value)?)?;
-    Ok(asked(alloc, document.as_slice())?)
+fn asked_of_value(alloc: Global, value: &Value) -> Result<String, CaseError> {
+    let document = bytes(alloc, text(value)?)?;
+    asked(alloc, document.as_slice())
 }
 
 fn bytes(alloc: Global, text: &str) -> Result<Vec<u8>, CaseError> {
@@ -36,39 +34,51 @@ fn bytes(alloc: Global, text: &str) -> Result<Vec<u8>, CaseError> {
 const ATTEMPTS: u64 = 32;
 
 /// What the document asks for, as text.
-fn asked(alloc: Global, document: &[u8]) -> Result<String, AllocError> {
-    let doc = Doc {
-        at: 0,
-        bytes: document.to_vec(alloc)?,
-    };
-    match commands(alloc, &doc, ATTEMPTS) {
-        Ok(given) => given_text(alloc, &given),
-        Err(GivenError::NotJson) => String::from_str(alloc, "not JSON"),
-        Err(GivenError::NotACommand) => String::from_str(alloc, "no command"),
-        Err(GivenError::Memory) => Err(AllocError),
+pub fn asked(alloc: Global, document: &[u8]) -> Result<String, CaseError> {
+    let bytes = document.to_vec(alloc)?;
+    asked_by(alloc, &Doc { at: 0, bytes })
+}
+
+fn asked_by(alloc: Global, doc: &Doc) -> Result<String, CaseError> {
+    match commands(alloc, doc, ATTEMPTS) {
+        Ok(given) => given_text(alloc, given.as_slice()),
+        Err(error) => no_command(alloc, error),
+    }
+}
+
+fn no_command(alloc: Global, error: GivenError) -> Result<String, CaseError> {
+    match error {
+        GivenError::NotJson => said(alloc, "not JSON"),
+        GivenError::NotACommand => said(alloc, "no command"),
+        GivenError::Memory => Err(CaseError::Memory),
     }
 }
 
 /// What the document asks for, one after another.
-fn given_text(alloc: Global, all: &[Given]) -> Result<String, AllocError> {
+fn given_text(alloc: Global, all: &[Given]) -> Result<String, CaseError> {
+    if all.is_empty() {
+        return said(alloc, "nothing");
+    }
     let mut text = String::new(alloc);
+    push_all(all, &mut text)?;
+    Ok(text)
+}
+
+fn push_all(all: &[Given], text: &mut String) -> Result<(), AllocError> {
     for given in all {
         if !text.is_empty() {
             text.push_str(", ")?;
         }
-        push_given(alloc, given, &mut text)?;
+        push_given(given, text)?;
     }
-    if text.is_empty() {
-        text.push_str("nothing")?;
-    }
-    Ok(text)
+    Ok(())
 }
 
 /// What is asked for, as text.
-fn push_given(alloc: Global, given: &Given, text: &mut String) -> Result<(), AllocError> {
+fn push_given(given: &Given, text: &mut String) -> Result<(), AllocError> {
     match given {
-        Given::One(command) => push_command(alloc, command, text),
-        Given::Together(commands) => push_together(alloc, commands.as_slice(), text),
+        Given::One(command) => push_command(command, text),
+        Given::Together(commands) => push_together(commands.as_slice(), text),
         Given::Prepare(key) => write!(text, "prepare {key}"),
         Given::Unprepare(key) => write!(text, "unprepare {key}"),
         Given::Reopen => text.push_str("reopen"),
@@ -76,22 +86,22 @@ fn push_given(alloc: Global, given: &Given, text: &mut String) -> Result<(), All
 }
 
 /// The commands that run at the same time, each between brackets.
-fn push_together(alloc: Global, commands: &[Command], text: &mut String) -> Result<(), AllocError> {
+fn push_together(commands: &[Command], text: &mut String) -> Result<(), AllocError> {
     text.push_str("together")?;
     for command in commands {
         text.push_str(" [")?;
-        push_command(alloc, command, text)?;
+        push_command(command, text)?;
         text.push_str("]")?;
     }
     Ok(())
 }
 
 /// What the command asks for, as text.
-fn push_command(alloc: Global, command: &Command, text: &mut String) -> Result<(), AllocError> {
+fn push_command(command: &Command, text: &mut String) -> Result<(), AllocError> {
     match command {
         Command::Apply(ready, Mode::Apply) => push_object(ready.object(), text),
         Command::Apply(_, _) => text.push_str("another mode"),
-        Command::Invalid(error) => write!(text, "invalid {}", error_text(alloc, error)?),
+        Command::Invalid(error) => write!(text, "invalid {error}"),
         Command::Delete(target) => push_target(target, text),
         Command::Schedule(key, attempts) if *attempts == ATTEMPTS => write!(text, "schedule {key}"),
         Command::Schedule(key, attempts) => write!(text, "schedule {key} in {attempts}"),

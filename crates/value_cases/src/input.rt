@@ -55,6 +55,17 @@ pub fn item(value: &Value, place: usize) -> Result<&Value, CaseError> {
     }
 }
 
+/// Appends the text as JSON writes it, in quotes.
+pub fn push_quoted(alloc: Global, out: &mut String, text: &str) -> Result<(), AllocError> {
+    let value = Value::String(String::from_str(alloc, text)?);
+    push_json(alloc, out, &value)
+}
+
+fn push_json(alloc: Global, out: &mut String, value: &Value) -> Result<(), AllocError> {
+    let text = value.to_string(alloc)?;
+    out.push_str(text.as_str())
+}
+
 /// The text at that index of a list.
 pub fn text_at(value: &Value, place: usize) -> Result<&str, CaseError> {
     text(item(value, place)?)

@@ -1,5 +1,11 @@
+use crate::claims::ready_answer;
 use crate::input::CaseError;
-use crate::{claims, fields, limited, names, nodes, objects, optional, quantities, slices, values};
+use crate::shown::shown;
+use crate::{
+    documents, fields, limited, names, nodes, objects, optional, printing, quantities, values,
+};
+use api_claim::{ClaimStatus, ResourceClaim};
+use api_slice::ResourceSlice;
 use serde_json::Value;
 use std::alloc::Global;
 
@@ -12,33 +18,29 @@ pub fn of_group(
 ) -> Result<String, CaseError> {
     match group {
         "object" => of_object(alloc, word, input),
-        "required" | "limited" | "optional" | "metadata" => of_field(alloc, group, word, input),
+        "required" => fields::required(alloc, word, input),
+        "limited" => limited::limited(alloc, word, input),
+        "optional" => optional::optional(alloc, word, input),
+        "metadata" => fields::metadata(alloc, word, input),
         "quantity" => quantities::answer(alloc, word, input),
         "value" => values::answer(alloc, word, input),
         "name" => names::answer(alloc, word, input),
         "node" => nodes::answer(alloc, word, input),
+        "commands" => documents::answer(alloc, word, input),
+        "print" => printing::answer(alloc, word, input),
         _ => Err(CaseError::BadCase),
     }
 }
 
+/// The fields of an object, or the name and the path of the error.
 fn of_object(alloc: Global, word: &str, input: &Value) -> Result<String, CaseError> {
     match word {
-        "slice" => Ok(slices::answer(alloc, input)?),
-        "claim" => Ok(claims::claim_answer(alloc, input)?),
-        "status" => Ok(claims::status_answer(alloc, input)?),
-        "node" | "class" | "pod" | "ready_class" => Ok(objects::answer(alloc, word, input)?),
-        "ready_claim" => Ok(claims::ready_answer(alloc, input)?),
-        "reads" => Ok(objects::reads(alloc, input)?),
+        "slice" => shown(alloc, ResourceSlice::read(alloc, input)),
+        "claim" => shown(alloc, ResourceClaim::read(alloc, input)),
+        "status" => shown(alloc, ClaimStatus::read(alloc, input)),
+        "node" | "class" | "pod" | "ready_class" => objects::answer(alloc, word, input),
+        "ready_claim" => ready_answer(alloc, input),
+        "reads" => objects::reads(alloc, input),
         _ => Err(CaseError::BadCase),
-    }
-}
-
-/// The field `f` of the input by one of the readers of fields, or the whole input.
-fn of_field(alloc: Global, group: &str, word: &str, input: &Value) -> Result<String, CaseError> {
-    match group {
-        "required" => fields::required(alloc, word, input),
-        "limited" => limited::limited(alloc, word, input),
-        "optional" => optional::optional(alloc, word, input),
-        _ => fields::metadata(alloc, word, input),
     }
 }

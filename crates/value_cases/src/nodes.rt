@@ -1,16 +1,16 @@
-use crate::fields::error_text;
 use crate::input::{CaseError, item, text, text_at};
+use crate::shown::{Copied, displayed, error_text, shown, word};
 use crate::slices::push_selector;
 use api_slice::read_selector;
 use dra_values::{Duplicate, Seq, Table, Text};
 use node_select::{Requirement, Selector, Test, whole};
-use object_fields::{FieldError, Path};
+use object_fields::Path;
 use serde_json::{Map, Value};
 use std::alloc::{AllocError, Global};
 
 pub fn answer(alloc: Global, word: &str, input: &Value) -> Result<String, CaseError> {
     match word {
-        "selector" => Ok(selector(alloc, input)?),
+        "selector" => shown(alloc, read_selector(alloc, input, &Path::top(alloc))),
         "selects" => selects(alloc, item(input, 0)?, text_at(input, 1)?, item(input, 2)?),
         "requirement" => requirement(
             alloc,
@@ -18,24 +18,19 @@ pub fn answer(alloc: Global, word: &str, input: &Value) -> Result<String, CaseEr
             text_at(input, 1)?,
             item(input, 2)?,
         ),
-        "number" => Ok(number(alloc, text(input)?)?),
+        "number" => number(alloc, text(input)?),
         _ => Err(CaseError::BadCase),
     }
 }
 
-/// A selector's requirements, or the name and the path of its error.
-fn selector(alloc: Global, value: &Value) -> Result<String, AllocError> {
-    match read_selector(alloc, value, &Path::top(alloc)) {
-        Ok(selector) => selector_text(alloc, &selector),
-        Err(error) => error_text(alloc, &error),
+impl Copied for Selector {
+    fn again(&self, alloc: Global) -> Result<Selector, AllocError> {
+        self.copy(alloc)
     }
-}
 
-fn selector_text(alloc: Global, selector: &Selector) -> Result<String, AllocError> {
-    let copy = selector.copy(alloc)?;
-    let mut text = String::new(alloc);
-    push_selector(&mut text, &copy)?;
-    Ok(text)
+    fn show(&self, text: &mut String) -> Result<(), AllocError> {
+        push_selector(text, self)
+    }
 }
 
 /// Whether a selector selects the node of that name and those labels, or its error.
@@ -46,28 +41,19 @@ fn selects(
     labels: &Value,
 ) -> Result<String, CaseError> {
     let labels = labels_of(alloc, labels)?;
-    Ok(selects_node(
-        alloc,
-        read_selector(alloc, selector, &Path::top(alloc)),
-        name,
-        &labels,
-    )?)
+    selects_node(alloc, selector, name, &labels)
 }
 
 fn selects_node(
     alloc: Global,
-    selector: Result<Selector, FieldError>,
+    selector: &Value,
     name: &str,
     labels: &Table<Text, Text>,
-) -> Result<String, AllocError> {
-    match selector {
-        Ok(selector) => truth(alloc, selector.matches(name, labels)),
+) -> Result<String, CaseError> {
+    match read_selector(alloc, selector, &Path::top(alloc)) {
+        Ok(selector) => displayed(alloc, &selector.matches(name, labels)),
         Err(error) => error_text(alloc, &error),
     }
-}
-
-fn truth(alloc: Global, truth: bool) -> Result<String, AllocError> {
-    format!(in alloc; "{truth}")
 }
 
 /// The labels of an object with texts as members.
@@ -106,21 +92,21 @@ fn requirement(
     value: &Value,
 ) -> Result<String, CaseError> {
     let selector = selector_on(alloc, on, operator)?;
-    Ok(held(alloc, &selector, value.as_str())?)
+    held(alloc, &selector, value.as_str())
 }
 
-fn held(alloc: Global, selector: &Selector, value: Option<&str>) -> Result<String, AllocError> {
-    let mut labels = Table::new(alloc);
+fn held(alloc: Global, selector: &Selector, value: Option<&str>) -> Result<String, CaseError> {
+    let copy = selector.duplicate(alloc)?;
     match value {
-        Some(value) => insert_label(alloc, &mut labels, "k", value)?,
-        None => {}
+        Some(value) => held_by(alloc, &copy, value),
+        None => displayed(alloc, &copy.matches("absent", &Table::new(alloc))),
     }
-    truth(
-        alloc,
-        selector
-            .duplicate(alloc)?
-            .matches(value.unwrap_or("absent"), &labels),
-    )
+}
+
+fn held_by(alloc: Global, selector: &Selector, value: &str) -> Result<String, CaseError> {
+    let mut labels = Table::new(alloc);
+    insert_label(alloc, &mut labels, "k", value)?;
+    displayed(alloc, &selector.matches(value, &labels))
 }
 
 fn selector_on(alloc: Global, on: &str, operator: &str) -> Result<Selector, CaseError> {
@@ -174,9 +160,9 @@ fn two(alloc: Global) -> Result<Seq<Text>, AllocError> {
 }
 
 /// The whole number of 64 bits that a text writes, or `none`.
-fn number(alloc: Global, text: &str) -> Result<String, AllocError> {
+fn number(alloc: Global, text: &str) -> Result<String, CaseError> {
     match whole(text) {
-        Some(number) => format!(in alloc; "{number}"),
-        None => String::from_str(alloc, "none"),
+        Some(number) => displayed(alloc, &number),
+        None => word(alloc, "none"),
     }
 }

@@ -1,4 +1,5 @@
-use crate::fields::error_text;
+use crate::input::CaseError;
+use crate::shown::{Copied, error_text, shown, word};
 use api_claim::ResourceClaim;
 use api_cluster::{DeviceClass, Node, Pod};
 use api_slice::ResourceSlice;
@@ -9,103 +10,102 @@ use std::alloc::{AllocError, Global};
 
 /// The fields of a Node, a DeviceClass or a Pod, or the name and the path of the error; of a
 /// DeviceClass that is made ready its name and the number of its selectors.
-pub fn answer(alloc: Global, word: &str, value: &Value) -> Result<String, AllocError> {
+pub fn answer(alloc: Global, word: &str, value: &Value) -> Result<String, CaseError> {
     match word {
-        "node" => node(alloc, value),
-        "class" => class(alloc, value),
+        "node" => shown(alloc, Node::read(alloc, value)),
+        "class" => shown(alloc, DeviceClass::read(alloc, value)),
         "ready_class" => ready_class(alloc, value),
-        _ => pod(alloc, value),
+        _ => shown(alloc, Pod::read(alloc, value)),
     }
 }
 
 /// ` @` and the version, if there is one.
-pub fn push_version(text: &mut String, version: Option<u64>) -> Result<(), AllocError> {
+fn push_version(text: &mut String, version: Option<u64>) -> Result<(), AllocError> {
     match version {
         Some(version) => write!(text, " @{version}"),
         None => Ok(()),
     }
 }
 
-fn node(alloc: Global, value: &Value) -> Result<String, AllocError> {
-    match Node::read(alloc, value) {
-        Ok(node) => node_text(alloc, &node.copy(alloc)?),
-        Err(error) => error_text(alloc, &error),
+impl Copied for Node {
+    fn again(&self, alloc: Global) -> Result<Node, AllocError> {
+        self.copy(alloc)
+    }
+
+    fn show(&self, text: &mut String) -> Result<(), AllocError> {
+        write!(text, "{}", self.name)?;
+        push_version(text, self.version)?;
+        for (key, label) in self.labels.as_map() {
+            write!(text, " {key}={label}")?;
+        }
+        Ok(())
     }
 }
 
-fn node_text(alloc: Global, node: &Node) -> Result<String, AllocError> {
-    let mut text = format!(in alloc; "{}", node.name)?;
-    push_version(&mut text, node.version)?;
-    for (key, label) in node.labels.as_map() {
-        write!(text, " {key}={label}")?;
+impl Copied for DeviceClass {
+    fn again(&self, alloc: Global) -> Result<DeviceClass, AllocError> {
+        self.copy(alloc)
     }
-    Ok(text)
-}
 
-fn class(alloc: Global, value: &Value) -> Result<String, AllocError> {
-    match DeviceClass::read(alloc, value) {
-        Ok(class) => class_text(alloc, &class.copy(alloc)?),
-        Err(error) => error_text(alloc, &error),
-    }
-}
-
-fn class_text(alloc: Global, class: &DeviceClass) -> Result<String, AllocError> {
-    let mut text = format!(in alloc; "{}", class.name)?;
-    push_version(&mut text, class.version)?;
-    for selector in class.selectors.as_slice() {
-        write!(text, " [{selector}]")?;
-    }
-    Ok(text)
-}
-
-fn pod(alloc: Global, value: &Value) -> Result<String, AllocError> {
-    match Pod::read(alloc, value) {
-        Ok(pod) => pod_text(alloc, &pod.copy(alloc)?),
-        Err(error) => error_text(alloc, &error),
+    fn show(&self, text: &mut String) -> Result<(), AllocError> {
+        write!(text, "{}", self.name)?;
+        push_version(text, self.version)?;
+        for selector in self.selectors.as_slice() {
+            write!(text, " [{selector}]")?;
+        }
+        Ok(())
     }
 }
 
-fn pod_text(alloc: Global, pod: &Pod) -> Result<String, AllocError> {
-    let mut text = format!(in alloc; "{}", pod.key)?;
-    push_version(&mut text, pod.version)?;
-    for claim in pod.claims.as_slice() {
-        write!(text, " {}={}", claim.name, claim.claim)?;
+impl Copied for Pod {
+    fn again(&self, alloc: Global) -> Result<Pod, AllocError> {
+        self.copy(alloc)
     }
-    Ok(text)
+
+    fn show(&self, text: &mut String) -> Result<(), AllocError> {
+        write!(text, "{}", self.key)?;
+        push_version(text, self.version)?;
+        for claim in self.claims.as_slice() {
+            write!(text, " {}={}", claim.name, claim.claim)?;
+        }
+        Ok(())
+    }
 }
 
-fn ready_class(alloc: Global, value: &Value) -> Result<String, AllocError> {
+fn ready_class(alloc: Global, value: &Value) -> Result<String, CaseError> {
     match DeviceClass::read(alloc, value) {
         Ok(class) => class_made_ready(alloc, class),
         Err(error) => error_text(alloc, &error),
     }
 }
 
-fn class_made_ready(alloc: Global, class: DeviceClass) -> Result<String, AllocError> {
+fn class_made_ready(alloc: Global, class: DeviceClass) -> Result<String, CaseError> {
     match ReadyClass::of(alloc, class) {
-        Ok(ready) => {
-            let count = ready.selectors().len();
-            format!(in alloc; "{} {count}", ready.class().name)
-        }
+        Ok(ready) => ready_text(alloc, &ready),
         Err(error) => error_text(alloc, &error),
     }
 }
 
+fn ready_text(alloc: Global, ready: &ReadyClass) -> Result<String, CaseError> {
+    let count = ready.selectors().len();
+    Ok(format!(in alloc; "{} {count}", ready.class().name)?)
+}
+
 /// `ok` if the object of the kind that it names reads, or the name and the path of the error.
-pub fn reads(alloc: Global, value: &Value) -> Result<String, AllocError> {
+pub fn reads(alloc: Global, value: &Value) -> Result<String, CaseError> {
     match value.get("kind").and_then(Value::as_str) {
         Some("Node") => read(alloc, Node::read(alloc, value)),
         Some("DeviceClass") => read(alloc, DeviceClass::read(alloc, value)),
         Some("Pod") => read(alloc, Pod::read(alloc, value)),
         Some("ResourceSlice") => read(alloc, ResourceSlice::read(alloc, value)),
         Some("ResourceClaim") => read(alloc, ResourceClaim::read(alloc, value)),
-        _ => String::from_str(alloc, "no object"),
+        _ => word(alloc, "no object"),
     }
 }
 
-fn read<T: Drop>(alloc: Global, answer: Result<T, FieldError>) -> Result<String, AllocError> {
+fn read<T: Drop>(alloc: Global, answer: Result<T, FieldError>) -> Result<String, CaseError> {
     match answer {
-        Ok(_) => String::from_str(alloc, "ok"),
+        Ok(_) => word(alloc, "ok"),
         Err(error) => error_text(alloc, &error),
     }
 }

@@ -1,35 +1,45 @@
-use crate::fields::error_text;
+use crate::shown::Copied;
 use api_slice::{
     Attribute, CounterConsumption, CounterSet, Device, Nodes, ResourceSlice, SliceNodes,
 };
 use dra_values::{Table, Text};
 use node_select::{Requirement, Selector, Test};
 use quantity::Quantity;
-use serde_json::Value;
 use std::alloc::{AllocError, Global};
 
-/// The fields of a slice, or the name and the path of the error.
-pub fn answer(alloc: Global, value: &Value) -> Result<String, AllocError> {
-    match ResourceSlice::read(alloc, value) {
-        Ok(slice) => slice_text(alloc, &slice.copy(alloc)?),
-        Err(error) => error_text(alloc, &error),
+impl Copied for ResourceSlice {
+    fn again(&self, alloc: Global) -> Result<ResourceSlice, AllocError> {
+        self.copy(alloc)
+    }
+
+    fn show(&self, text: &mut String) -> Result<(), AllocError> {
+        write!(text, "{} {}", self.name, self.driver.as_text())?;
+        push_pool(text, self)?;
+        push_slice_nodes(text, &self.nodes)?;
+        push_sets(text, self.counters.as_slice())?;
+        push_devices(text, self.devices.as_slice())
     }
 }
 
-fn slice_text(alloc: Global, slice: &ResourceSlice) -> Result<String, AllocError> {
-    let mut text = format!(in alloc; "{} {}", slice.name, slice.driver.as_text())?;
-    push_pool(&mut text, slice)?;
-    match &slice.nodes {
-        SliceNodes::Nodes(nodes) => push_nodes(&mut text, nodes)?,
-        SliceNodes::PerDevice => text.push_str(" each")?,
+fn push_slice_nodes(text: &mut String, nodes: &SliceNodes) -> Result<(), AllocError> {
+    match nodes {
+        SliceNodes::Nodes(nodes) => push_nodes(text, nodes),
+        SliceNodes::PerDevice => text.push_str(" each"),
     }
-    for set in slice.counters.as_slice() {
-        push_set(&mut text, set)?;
+}
+
+fn push_sets(text: &mut String, sets: &[CounterSet]) -> Result<(), AllocError> {
+    for set in sets {
+        push_set(text, set)?;
     }
-    for device in slice.devices.as_slice() {
-        push_device(&mut text, device)?;
+    Ok(())
+}
+
+fn push_devices(text: &mut String, devices: &[Device]) -> Result<(), AllocError> {
+    for device in devices {
+        push_device(text, device)?;
     }
-    Ok(text)
+    Ok(())
 }
 
 /// The pool, its generation and its slices, and the slice's version if there is one.
@@ -52,11 +62,13 @@ fn push_nodes(text: &mut String, nodes: &Nodes) -> Result<(), AllocError> {
 
 /// The requirements on labels, ` /`, and those on fields.
 pub fn push_selector(text: &mut String, selector: &Selector) -> Result<(), AllocError> {
-    for requirement in selector.expressions.as_slice() {
-        push_requirement(text, requirement)?;
-    }
+    push_requirements(text, selector.expressions.as_slice())?;
     text.push_str(" /")?;
-    for requirement in selector.fields.as_slice() {
+    push_requirements(text, selector.fields.as_slice())
+}
+
+fn push_requirements(text: &mut String, requirements: &[Requirement]) -> Result<(), AllocError> {
+    for requirement in requirements {
         push_requirement(text, requirement)?;
     }
     Ok(())
@@ -90,13 +102,18 @@ fn push_device(text: &mut String, device: &Device) -> Result<(), AllocError> {
     write!(text, " [{}]", device.name)?;
     push_attributes(text, device)?;
     push_capacity(text, device)?;
-    for draw in device.consumes.as_slice() {
-        push_draw(text, draw)?;
-    }
+    push_draws(text, device.consumes.as_slice())?;
     match &device.nodes {
         Some(nodes) => push_nodes(text, nodes),
         None => Ok(()),
     }
+}
+
+fn push_draws(text: &mut String, draws: &[CounterConsumption]) -> Result<(), AllocError> {
+    for draw in draws {
+        push_draw(text, draw)?;
+    }
+    Ok(())
 }
 
 fn push_attributes(text: &mut String, device: &Device) -> Result<(), AllocError> {

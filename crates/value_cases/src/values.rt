@@ -5,8 +5,8 @@ use std::alloc::{AllocError, Global};
 
 pub fn answer(alloc: Global, word: &str, input: &Value) -> Result<String, CaseError> {
     match word {
-        "text" => Ok(text_forms(alloc, text(input)?)?),
-        "order" => Ok(order(alloc, text_at(input, 0)?, text_at(input, 1)?)?),
+        "text" => text_forms(alloc, text(input)?),
+        "order" => order(alloc, text_at(input, 0)?, text_at(input, 1)?),
         "list" => list(alloc, input),
         "table" => table(alloc, input),
         _ => Err(CaseError::BadCase),
@@ -14,21 +14,35 @@ pub fn answer(alloc: Global, word: &str, input: &Value) -> Result<String, CaseEr
 }
 
 /// A text's copy in quotes, the text right-aligned to eight characters, and the text.
-fn text_forms(alloc: Global, chars: &str) -> Result<String, AllocError> {
-    let text = Text::from_str(alloc, chars)?;
+fn text_forms(alloc: Global, chars: &str) -> Result<String, CaseError> {
+    let text = Text::new(alloc, String::from_str(alloc, chars)?)?;
+    copied_forms(alloc, &text)
+}
+
+fn copied_forms(alloc: Global, text: &Text) -> Result<String, CaseError> {
     let copy = text.duplicate(alloc)?;
-    let mut answer = format!(in alloc; "{copy:?} [{text:>8}] ")?;
-    answer.push_str(Text::new(alloc, String::from_str(alloc, text.as_str())?)?.as_str())?;
-    Ok(answer)
+    forms(alloc, text, &copy)
+}
+
+fn forms(alloc: Global, text: &Text, copy: &Text) -> Result<String, CaseError> {
+    Ok(format!(in alloc; "{copy:?} [{text:>8}] {}", text.as_str())?)
 }
 
 /// Whether two texts are equal, and how they compare.
-fn order(alloc: Global, left: &str, right: &str) -> Result<String, AllocError> {
+fn order(alloc: Global, left: &str, right: &str) -> Result<String, CaseError> {
     let left = Text::from_str(alloc, left)?;
+    order_with(alloc, &left, right)
+}
+
+fn order_with(alloc: Global, left: &Text, right: &str) -> Result<String, CaseError> {
     let right = Text::from_str(alloc, right)?;
-    let order = left.cmp(&right);
+    order_text(alloc, left, &right)
+}
+
+fn order_text(alloc: Global, left: &Text, right: &Text) -> Result<String, CaseError> {
+    let order = left.cmp(right);
     let equal = left == right;
-    format!(in alloc; "{order:?} {equal}")
+    Ok(format!(in alloc; "{order:?} {equal}")?)
 }
 
 /// The pairs of a list, each a number and a truth, pushed one after another, copied, and taken out
@@ -38,7 +52,7 @@ fn list(alloc: Global, input: &Value) -> Result<String, CaseError> {
     for pair in items(input)? {
         pairs.push((number_at(pair, 0)?, truth_at(pair, 1)?))?;
     }
-    Ok(list_text(alloc, pairs)?)
+    list_text(alloc, pairs)
 }
 
 fn truth_at(value: &Value, place: usize) -> Result<bool, CaseError> {
@@ -48,22 +62,35 @@ fn truth_at(value: &Value, place: usize) -> Result<bool, CaseError> {
     }
 }
 
-fn list_text(alloc: Global, pairs: Seq<(u64, bool)>) -> Result<String, AllocError> {
-    let copy = pairs.duplicate(alloc)?;
-    let equal = copy == pairs;
+fn list_text(alloc: Global, pairs: Seq<(u64, bool)>) -> Result<String, CaseError> {
+    let equal = equals_copy(alloc, &pairs)?;
     let pairs = Seq::new(pairs.into_vec());
-    format!(in alloc; "{pairs:?} {equal}")
+    pairs_text(alloc, &pairs, equal)
+}
+
+fn equals_copy(alloc: Global, pairs: &Seq<(u64, bool)>) -> Result<bool, AllocError> {
+    let copy = pairs.duplicate(alloc)?;
+    Ok(copy == *pairs)
+}
+
+fn pairs_text(alloc: Global, pairs: &Seq<(u64, bool)>, equal: bool) -> Result<String, CaseError> {
+    Ok(format!(in alloc; "{pairs:?} {equal}")?)
 }
 
 /// What each step on a table of numbers returns, one after another: `["insert", key, number]`,
 /// `["set", key, number]`, `["get", key]`, `["remove", key]` or `["print"]`.
 fn table(alloc: Global, input: &Value) -> Result<String, CaseError> {
-    let mut numbers = Table::new(alloc);
     let mut answer = String::new(alloc);
-    for step in items(input)? {
-        table_step(alloc, &mut numbers, step, &mut answer)?;
-    }
+    table_steps(alloc, items(input)?, &mut answer)?;
     Ok(answer)
+}
+
+fn table_steps(alloc: Global, steps: &[Value], answer: &mut String) -> Result<(), CaseError> {
+    let mut numbers = Table::new(alloc);
+    for step in steps {
+        table_step(alloc, &mut numbers, step, answer)?;
+    }
+    Ok(())
 }
 
 fn table_step(
@@ -134,7 +161,15 @@ fn remove(
 /// The table by a copy of it, and how many entries it has.
 fn print(alloc: Global, numbers: &Table<Text, u64>, answer: &mut String) -> Result<(), AllocError> {
     let copy = Table::from_map(numbers.copy(alloc)?.into_map());
-    let equal = copy == *numbers;
+    print_copy(numbers, &copy, answer)
+}
+
+fn print_copy(
+    numbers: &Table<Text, u64>,
+    copy: &Table<Text, u64>,
+    answer: &mut String,
+) -> Result<(), AllocError> {
+    let equal = copy == numbers;
     let (count, empty) = (copy.len(), copy.is_empty());
     write!(answer, "{copy:?} {equal} {count} {empty};")
 }

@@ -14,4 +14,5 @@ loop-grant-preserved c = record {
   others = λ id.
       spared_next c.args.grants.now c.loop-grant.grant-index c.grant-item.result c.loop-grant.holders c.give_all.new.holders id _ c.loop-grant-test.true c.grant-item.is
       (rw c.as_slice.ensures at c.in_ok-give_all.ensures.others id) (c.loop-grant.invariant.others id);
+  counted = c.give_all.ensures.counted;
 }

@@ -4,6 +4,7 @@ use Rattle.replay_core.proofs.laws.runs_are_complete.Goals as goal
 pub returns : goal.returns
 returns c =
     let laws : Laws = record {
+      undisturbed = c.alone_is_undisturbed.ensures.undisturbed;
       prefix = c.legal_steps.ensures.prefix;
       alone = c.alone_is_undisturbed.ensures.alone;
       decided = c.schedules_are_complete.ensures.decided;

@@ -15,3 +15,6 @@ documents-init g c = record {
   faultless_input = refl;
   faultless_output = refl;
 }
+
+pub returns-in-Err-clause-ends : goal.returns-in-Err-clause-ends
+returns-in-Err-clause-ends g c = c.in-Err.ensures.ends (g.S.Source.left c.args.input.now) (g.K.Sink.written c.args.output.now) c.documents.invariant.progress

@@ -8,6 +8,7 @@ use Rattle.cluster.specs.Events.{after}
 use Rattle.cluster.specs.Held.{held}
 use Rattle.cluster.specs.History.{state_of}
 use Rattle.cluster.specs.State.{taken_node}
+use Rattle.pool_totals.specs.Counting.{AreCounted}
 use Rattle.ledger_core.specs.Ledger.{History}
 use Rattle.histories.specs.Legal.{Step}
 use Rattle.ledger_core.proofs.Freeing.{bound_held}
@@ -30,10 +31,10 @@ invariant_of-self-2 c =
     bound.ok ∙ ap (λ (x : List ℕ). with_bound pod x c.self.inside.state) node in
     let holders = subst (λ (s : State). AreHeld c.self.inside.holders (held s)) (sym made) (bound_held c.self.inside.state pod n c.self.inside.holders kept.holders_are) in
     rw (c.append.ensures.entries, room.entries, bound.kept.0, bound.kept.1, node)
-    (kept_more _ e _ _ _ _ _ _ _ _ kept step room.within made holders room.job_states (rw room.entries at c.append.ensures.job_states))
+    (kept_more _ e _ _ _ _ _ _ _ _ _ _ kept step room.within made holders (subst (λ (s : State). AreCounted s.inventory c.self.inside.holders c.self.inside.totals) (sym made) kept.counted) room.job_states (rw room.entries at c.append.ensures.job_states))
 
 pub returns-clause-legal : goal.returns-clause-legal
 returns-clause-legal c = (invariant_of-self-2 c).legal
 
 pub append-requires-clause-tries : goal.append-requires-clause-tries
-append-requires-clause-tries c = few_tries _ _ _ _ _ _ c.args.job c.self.invariant c.in_ok-index.ensures.job_states
+append-requires-clause-tries c = few_tries _ _ _ _ _ _ _ c.args.job c.self.invariant c.in_ok-index.ensures.job_states

@@ -19,10 +19,10 @@ invariant_of-self-2 c =
     (record { allowed = may_contend (job_state_of c.args.self.now.entries c.args.job) c.args.pod.now c.requires.job_state; follows = tt }) in
     let attempts : c.failures-attempts.result ≡ failures (job_state_of c.self.inside.entries.items c.args.job) =
     c.failures-attempts.ensures ∙ ap (λ (st : JobState). failures st) c.job_state.ensures ∙ ap (λ (h : History). failures (job_state_of h.entries c.args.job)) (sym c.self.view_is) in
-    rw (c.append.ensures.entries, room.entries, c.in_ok-pod.ensures, attempts) (kept_more _ e _ _ _ _ _ _ _ _ kept step room.within refl kept.holders_are room.job_states (rw room.entries at c.append.ensures.job_states))
+    rw (c.append.ensures.entries, room.entries, c.in_ok-pod.ensures, attempts) (kept_more _ e _ _ _ _ _ _ _ _ _ _ kept step room.within refl kept.holders_are kept.counted room.job_states (rw room.entries at c.append.ensures.job_states))
 
 pub returns-clause-legal : goal.returns-clause-legal
 returns-clause-legal c = (invariant_of-self-2 c).legal
 
 pub append-requires-clause-tries : goal.append-requires-clause-tries
-append-requires-clause-tries c = few_tries _ _ _ _ _ _ c.args.job c.self.invariant c.in_ok-index.ensures.job_states
+append-requires-clause-tries c = few_tries _ _ _ _ _ _ _ c.args.job c.self.invariant c.in_ok-index.ensures.job_states

@@ -6,6 +6,7 @@ use Rattle.cluster.specs.declared.state.State.{State}
 use Rattle.cluster.specs.Events.{after}
 use Rattle.cluster.specs.Freed.{without_uses}
 use Rattle.cluster.specs.Held.{held}
+use Rattle.pool_totals.specs.Counting.{AreCounted}
 use Rattle.ledger_core.specs.Ledger.{History}
 use Rattle.histories.specs.Legal.{Step}
 use Rattle.ledger_core.proofs.Freeing.{freed_held}
@@ -21,12 +22,12 @@ invariant_of-self-2 c =
     let freed = c.in_ok-pod.ensures in
     let made : c.free.new.state ≡ after (length c.self.inside.entries.items + 1) c.args.job (Released c.args.pod.now) c.self.inside.state =
     freed.ok ∙ ap (λ (n : ℕ). without_uses n c.args.pod.now c.self.inside.state) room.index in
-    let holds = freed_held c.self.inside.state (length c.self.inside.entries.items + 1) c.args.pod.now _ _ (once_now c.one_holder.ensures.now _ _ _ _ _ kept) kept.holders_are freed.left in
+    let holds = freed_held c.self.inside.state (length c.self.inside.entries.items + 1) c.args.pod.now _ _ (once_now c.one_holder.ensures.now _ _ _ _ _ _ kept) kept.holders_are freed.left in
     let holders = subst (λ (s : State). AreHeld c.free.new.holders (held s)) (sym made) holds in
-    rw (c.append.ensures.entries, room.entries, freed.kept) (kept_more _ e _ _ _ _ _ _ _ _ kept step room.within made holders room.job_states (rw room.entries at c.append.ensures.job_states))
+    rw (c.append.ensures.entries, room.entries, freed.kept) (kept_more _ e _ _ _ _ _ _ _ _ _ _ kept step room.within made holders (subst (λ (s : State). AreCounted s.inventory c.free.new.holders c.free.new.totals) (sym made) c.free.ensures.counted) room.job_states (rw room.entries at c.append.ensures.job_states))
 
 pub returns-clause-legal : goal.returns-clause-legal
 returns-clause-legal c = (invariant_of-self-2 c).legal
 
 pub append-requires-clause-tries : goal.append-requires-clause-tries
-append-requires-clause-tries c = few_tries _ _ _ _ _ _ c.args.job c.self.invariant c.in_ok-index.ensures.job_states
+append-requires-clause-tries c = few_tries _ _ _ _ _ _ _ c.args.job c.self.invariant c.in_ok-index.ensures.job_states

@@ -17,12 +17,12 @@ invariant_of-self-2 c =
     let e : Entry = record { job = c.args.job; event = Deleted c.args.target.now } in
     let step = subst (λ (h : History). Step h.entries e) (sym c.self.view_is) (record { allowed = c.requires.job_state; follows = c.requires.deleted }) in
     let made = c.in_ok-target.ensures in
-    let holds = removed_held c.self.inside.state c.args.target.now _ _ (once_now c.one_holder.ensures.now _ _ _ _ _ kept) kept.holders_are made.left in
+    let holds = removed_held c.self.inside.state c.args.target.now _ _ (once_now c.one_holder.ensures.now _ _ _ _ _ _ kept) kept.holders_are made.left in
     let holders = subst (λ (s : State). AreHeld c.remove.new.holders (held s)) (sym made.ok) holds in
-    rw (c.append.ensures.entries, room.entries, made.kept) (kept_more _ e _ _ _ _ _ _ _ _ kept step room.within made.ok holders room.job_states (rw room.entries at c.append.ensures.job_states))
+    rw (c.append.ensures.entries, room.entries, made.kept) (kept_more _ e _ _ _ _ _ _ _ _ _ _ kept step room.within made.ok holders c.remove.ensures.counted room.job_states (rw room.entries at c.append.ensures.job_states))
 
 pub returns-clause-legal : goal.returns-clause-legal
 returns-clause-legal c = (invariant_of-self-2 c).legal
 
 pub append-requires-clause-tries : goal.append-requires-clause-tries
-append-requires-clause-tries c = few_tries _ _ _ _ _ _ c.args.job c.self.invariant c.in_ok-index.ensures.job_states
+append-requires-clause-tries c = few_tries _ _ _ _ _ _ _ c.args.job c.self.invariant c.in_ok-index.ensures.job_states

@@ -1,0 +1,9 @@
+pub mod Attributing
+pub mod Laning
+pub mod Dealing
+pub mod Resulting
+pub mod Passing
+pub mod Failing
+pub mod Under
+pub mod Closing
+pub mod Sending

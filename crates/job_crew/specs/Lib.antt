@@ -1,0 +1,5 @@
+pub mod Members
+pub mod Dealt
+pub mod Passes
+pub mod Parts
+pub mod Together

@@ -1,0 +1,9 @@
+use Rattle.pod_decision.proofs.OneDecision.{one_decision}
+use Rattle.pod_decision.proofs.unique.decision_is_unique.Goals as goal
+
+pub returns : goal.returns
+returns c = one_decision (record {
+  plans = c.decisions_are_unique.ensures.plans;
+  verdicts = c.decisions_are_unique.ensures.verdicts;
+  apart = c.decisions_are_unique.ensures.apart;
+})
