@@ -1,0 +1,9 @@
+mod Begins
+mod Found
+mod Prefixes
+mod Added
+mod AnewRuns
+mod Shares
+mod Backs
+mod Holding
+mod Ends

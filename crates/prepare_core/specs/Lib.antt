@@ -1,0 +1,13 @@
+pub mod Calls
+pub mod Causes
+pub mod Handed
+pub mod Held
+pub mod Moments
+pub mod Names
+pub mod Prepare
+pub mod Readable
+pub mod Runs
+pub mod Table
+pub mod Told
+pub mod Unprepare
+pub mod Words
