@@ -1,0 +1,4 @@
+mod Joined
+mod Counted
+mod Scanning
+mod Laying

@@ -1,0 +1,4 @@
+pub mod Generator
+pub mod Documents
+pub mod Script
+pub mod Laid
