@@ -1,0 +1,4 @@
+pub mod Reasons
+pub mod Messages
+pub mod Answers
+pub mod Lists

@@ -1,0 +1,3 @@
+pub mod Targets
+pub mod Paths
+pub mod Methods
