@@ -14,7 +14,7 @@ use Rattle.ckpt_journal.specs.Plan.{append_steps, move_steps, new_file, new_halv
 use Rattle.ckpt_journal.specs.Planned.{IsPlaced, bytes_in, steps_of, steps_with}
 use Rattle.ckpt_journal.specs.Opened.{HasNone, IsOld}
 use Rattle.ckpt_journal.specs.Reading.{records}
-use Rattle.ckpt_journal.specs.Standing.{EndsAt, Has, HasTable, IsBeforeOrAfter, IsSettled, Keeps, recorded}
+use Rattle.ckpt_journal.specs.Standing.{EndsAt, Has, HasHalves, HasTable, IsBeforeOrAfter, IsSettled, Keeps, recorded}
 use Rattle.ckpt_journal.specs.Steps.{Cut, IsExact, Put, Safe, Step, StepFailed, StoppedIn, all_bytes, all_done, done, step_bytes}
 use Rattle.ckpt_journal.specs.Table.{IsTable, compact, row_after, table, tabled}
 use Rattle.ckpt_journal.specs.declared.layout.Halves.{Halves}
@@ -25,7 +25,7 @@ use Rattle.ckpt_journal.specs.declared.record.Row.{Row}
 use Rattle.ckpt_journal.proofs.Appends.{Either, append_bytes, append_long, append_safe}
 use Rattle.ckpt_journal.proofs.Halved.{first, has_pre}
 use Rattle.ckpt_journal.proofs.LaidOut.{Fronted, IsPre, fronted, laid_pre, length-pre, pre_of}
-use Rattle.ckpt_journal.proofs.Moves.{Moved, drops, has_single, moved as moved_over, new_has_none}
+use Rattle.ckpt_journal.proofs.Moves.{Moved, drops, has_single, moved as moved_over, new_has_none, new_is_laid}
 use Rattle.ckpt_journal.proofs.Read.{blocks-more}
 use Rattle.ckpt_journal.proofs.Steps.{exact_all, exactly_this, safe_both, safe_done, safe_stopped, safe_under}
 use Rattle.ckpt_journal.proofs.Switches.{Both, Switched, switched}
@@ -126,6 +126,11 @@ keeps_in rs rows h end c s =
 pub keeps : (rows : List Row) (h : Halves) (end : ℕ) (x : Option Content) → IfSome x (IsSettled (recorded x) rows h end) → IfSome x (Keeps rows)
 keeps rows h end None s = tt
 keeps rows h end (Some c) s = keeps_in (recorded (Some c)) rows h end c s
+
+-- the halves that are told of
+pub has_halves : (rows : List Row) (h : Halves) (end : ℕ) (x : Option Content) → IfSome x (IsSettled (recorded x) rows h end) → IfSome x (HasHalves h.half)
+has_halves rows h end None s = tt
+has_halves rows h end (Some c) s = record { halves = h; laid = s.0; size = refl }
 
 pub rest_in : (P : List ℕ → Type 0) (c : Content) → IsExact c → P c.bytes → AtEachMoment P (Some c) (Some c)
 rest_in P c sure holds = λ honest. safe_done P [] c sure holds honest
@@ -308,6 +313,11 @@ formatted half (Some c) z allowed most some is =
     if_true : {X : Type 0} (b : Bool) (x y : X) → IsTrue b → (if b then x else y) ≡ x
     if_true true x y is = refl
     if_true false x y is = cc
+
+pub formatted_halves : (half : ℕ) (x z : Option Content) → is_half half ≡ true → half ≤ 134217728 → 0 < half → z ≡ option_map (λ c. synced (written 0 (new_file half) c)) x → IfSome z (HasHalves half)
+formatted_halves half None z allowed most some is = subst (λ (o : Option Content). IfSome o (HasHalves half)) (sym is) tt
+formatted_halves half (Some c) z allowed most some is =
+    subst (λ (o : Option Content). IfSome o (HasHalves half)) (sym is) (record { halves = first 16 half; laid = new_is_laid half (drop (0 + length (new_file half)) c.bytes) allowed most some; size = refl })
 
 -- ---- opening
 

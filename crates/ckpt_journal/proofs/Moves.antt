@@ -20,7 +20,7 @@ use Rattle.ckpt_journal.specs.declared.record.Record.{Record}
 use Rattle.ckpt_journal.proofs.Appends.{one_byte}
 use Rattle.ckpt_journal.proofs.Halved.{first, has_pre, pre_first}
 use Rattle.ckpt_journal.proofs.Header.{same_prefix}
-use Rattle.ckpt_journal.proofs.LaidOut.{IsFront, IsPre, length-magic, past_err, past_magic}
+use Rattle.ckpt_journal.proofs.LaidOut.{IsFront, IsPre, laid_pre, length-magic, past_err, past_magic}
 use Rattle.ckpt_journal.proofs.Read.{gates_again}
 use Rattle.ckpt_journal.proofs.Steps.{Torn, cut_short, torn}
 use Rattle.ckpt_journal.proofs.Switches.{Both}
@@ -388,3 +388,21 @@ new_has_none half rest allowed most some =
     subst (Has []) (sym whole)
     (has_pre (first 16 half) (front ++ 0 ∷ []) [] 0 tail (pre_first 16 half front 0 f refl)
     (omega (arith, length-append (front ++ 0 ∷ []) (0 ∷ tail), length-append front (0 ∷ []), f.len, length-append (replicate {A = ℕ} half 0) rest, length-replicate {A = ℕ} half 0)) some tt (omega arith))
+
+-- and its halves
+pub new_is_laid : (half : ℕ) (rest : List ℕ) → is_half half ≡ true → half ≤ 134217728 → 0 < half → layout_of (new_file half ++ rest) ≡ Ok (Double (first 16 half))
+new_is_laid half rest allowed most some =
+    let front = magic ++ 2 ∷ (to_be_bytes w32 16 ++ ([] ++ to_be_bytes w32 half)) in
+    let f = front_made 16 half 2 [] refl refl (omega arith) allowed (omega (arith, most)) in
+    let h4 = to_be_bytes w32 half in
+    let zeros = replicate {A = ℕ} (half + 1) 0 in
+    let tail = replicate {A = ℕ} half 0 ++ rest in
+    let whole : new_file half ++ rest ≡ (front ++ 0 ∷ []) ++ (0 ∷ tail) =
+    append_assoc magic (2 ∷ (to_be_bytes w32 16 ++ (h4 ++ 0 ∷ zeros))) rest
+    ∙ ap (λ (l : List ℕ). magic ++ 2 ∷ l) (append_assoc (to_be_bytes w32 16) (h4 ++ 0 ∷ zeros) rest ∙ ap (λ (l : List ℕ). to_be_bytes w32 16 ++ l) (append_assoc h4 (0 ∷ zeros) rest ∙ ap (λ (l : List ℕ). h4 ++ 0 ∷ (l ++ rest)) (rep_more half))
+    ∙ sym (append_assoc (to_be_bytes w32 16) h4 (0 ∷ 0 ∷ tail)))
+    ∙ sym (append_assoc magic (2 ∷ (to_be_bytes w32 16 ++ h4)) (0 ∷ 0 ∷ tail))
+    ∙ sym (append_assoc front (0 ∷ []) (0 ∷ tail)) in
+    ap layout_of whole
+    ∙ laid_pre (first 16 half) (front ++ 0 ∷ []) (0 ∷ tail) (pre_first 16 half front 0 f refl)
+    (omega (arith, length-append (front ++ 0 ∷ []) (0 ∷ tail), length-append front (0 ∷ []), f.len, length-append (replicate {A = ℕ} half 0) rest, length-replicate {A = ℕ} half 0))

@@ -37,6 +37,12 @@ pub record Keeps (rows : List Row) (c : Content) : Type 0 where
   pub read : HasTable rows c.bytes
   pub images : IsTrue c.honest → Leaves (HasTable rows) c.sure
 
+-- what a read returns is a file of version 2 with halves of this size
+pub record HasHalves (half : ℕ) (c : Content) : Type 0 where
+  pub halves : Halves
+  pub laid : layout_of c.bytes ≡ Ok (Double halves)
+  pub size : halves.half ≡ half
+
 -- the live half begins with these records, of which the last gate is closed and has this offset
 pub record Settled (rs : List Record) (h : Halves) (end : ℕ) (c : Content) : Type 0 where
   pub laid : layout_of c.bytes ≡ Ok (Double h)

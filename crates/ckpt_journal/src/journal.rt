@@ -8,7 +8,7 @@ ghost use Rattle.ckpt_journal.specs.Format.{ReadsBack};
 ghost use Rattle.ckpt_journal.specs.Layout.{IsSized};
 ghost use Rattle.ckpt_journal.specs.Plan.{is_full};
 ghost use Rattle.ckpt_journal.specs.Planned.{IsReached, steps_of};
-ghost use Rattle.ckpt_journal.specs.Standing.{IsBeforeOrAfter, Keeps};
+ghost use Rattle.ckpt_journal.specs.Standing.{HasHalves, IsBeforeOrAfter, Keeps};
 ghost use Rattle.ckpt_journal.specs.Steps.{StoppedIn, all_done};
 ghost use Rattle.ckpt_journal.specs.Table.{compact, row_after};
 ghost use Rattle.ckpt_journal.specs.Words.{IsSame, disk_of, half_of, has_ended, rows_of};
@@ -104,11 +104,12 @@ impl<D: Disk> Journal<D> {
         }
     }
 
-    /// States what a journal keeps: if it has not ended, whatever a crash leaves has its table; and the records of its
-    /// rows may be appended again.
+    /// States what a journal keeps: if it has not ended, whatever a crash leaves has its table, and what a read returns
+    /// has halves of its size; and the records of its rows may be appended again.
     pub fn keeps(&self)
         ensures table { has_ended self.now ≡ false → IfSome (D.content (disk_of self.now)) (Keeps (rows_of self.now)) }
         ensures readable { AllByRecursion ReadsBack (compact (rows_of self.now)) }
+        ensures half { has_ended self.now ≡ false → IfSome (D.content (disk_of self.now)) (HasHalves (half_of self.now)) }
     {
         let _ended = self.ended;
     }

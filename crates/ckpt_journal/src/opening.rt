@@ -9,7 +9,7 @@ ghost use Rattle.ckpt_journal.specs.Layout.{IsSized, is_half, layout_of, live, s
 ghost use Rattle.ckpt_journal.specs.Opened.{AfterSync, HasNone, IsFound, IsKept, IsOld, IsOpened, IsTold, half_opened};
 ghost use Rattle.ckpt_journal.specs.Plan.{new_file};
 ghost use Rattle.ckpt_journal.specs.Reading.{records};
-ghost use Rattle.ckpt_journal.specs.Standing.{EndsAt, HasTable, IsOfBytes, IsSettled, Keeps, Returns, recorded};
+ghost use Rattle.ckpt_journal.specs.Standing.{EndsAt, HasHalves, HasTable, IsOfBytes, IsSettled, Keeps, Returns, recorded};
 ghost use Rattle.ckpt_journal.specs.Table.{IsTable, compact, table};
 ghost use Rattle.ckpt_journal.specs.Words.{disk_of, half_of, has_ended, rows_of};
 ghost use Rattle.ckpt_journal.specs.declared.layout.Layout.TheVariants.{Double, Single};
@@ -33,6 +33,7 @@ pub fn format<D: Disk>(alloc: Global, disk: &mut D, half: u32) -> Result<(), Jou
     requires { is_half half ≡ true }
     ensures content { OnOk result (D.content disk.new ≡ option_map (λ c. synced (written 0 (new_file half) c)) (D.content disk.old)) }
     ensures none { OnOk result (IfSome (D.content disk.new) HasNone) }
+    ensures halves { OnOk result (IfSome (D.content disk.new) (HasHalves half)) }
     ensures no_fault { OnOk result (D.faults disk.new ≡ D.faults disk.old) }
     ensures fault { IsErrOf result JournalError.DiskFault → Rose (D.faults disk.old) (D.faults disk.new) }
     ensures memory { IsErrOf result JournalError.Memory → disk.new ≡ disk.old }

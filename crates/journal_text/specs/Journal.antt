@@ -239,6 +239,11 @@ clean b = if nat_lt b 32 || (b == 127) then 63 else b
 unfoldable pub line_of : ℕ → Entry → List ℕ
 line_of place e = map clean (decimal place ++ codes " " ++ decimal e.job ++ codes " " ++ event_text e.event) ++ codes "\n"
 
+-- A line of the kubelet: `-` in place of an index, the number of the command, and a text without control characters, and
+-- LF. It is of no entry.
+unfoldable pub kubelet_line : ℕ → List ℕ → List ℕ
+kubelet_line job text = map clean (codes "- " ++ decimal job ++ codes " " ++ text) ++ codes "\n"
+
 -- the lines of entries that follow n others
 unfoldable pub lines_from : ℕ → List Entry → List ℕ
 lines_from n [] = []

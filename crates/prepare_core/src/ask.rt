@@ -153,6 +153,8 @@ impl<D: Disk> Asked<D> {
         ensures fault { IfErr result (λ e. e.why ≡ KubeletError.DiskFault → Rose (D.faults (disk_in self.kubelet)) (D.faults (disk_in e.kubelet)) × (has_ended e.kubelet ≡ true)) }
         ensures no_fault { IfErr result (λ e. (e.why ≡ KubeletError.DiskFault → ⊥) → D.faults (disk_in e.kubelet) ≡ D.faults (disk_in self.kubelet)) }
         ensures count { IfOk result (λ x. D.faults (disk_in x.0) ≡ D.faults (disk_in self.kubelet)) }
+        ensures going { IfOk result (λ x. has_ended x.0 ≡ false) }
+        ensures open { IfErr result (λ e. (e.why ≡ KubeletError.DiskFault → ⊥) → has_ended e.kubelet ≡ false) }
     {
         self.stands();
         let Asked {

@@ -128,6 +128,7 @@ impl<D: Disk> Kubelet<D> {
         ensures fault { IfErr result (λ e. e.why ≡ KubeletError.DiskFault → Rose (D.faults (disk_in self)) (D.faults (disk_in e.kubelet)) × (has_ended e.kubelet ≡ true)) }
         ensures no_fault { IfErr result (λ e. (e.why ≡ KubeletError.DiskFault → ⊥) → D.faults (disk_in e.kubelet) ≡ D.faults (disk_in self)) }
         ensures count { IfOk result (λ b. D.faults (disk_in b.kubelet) ≡ D.faults (disk_in self)) }
+        ensures going { has_ended self ≡ false → IfErr result (λ e. (e.why ≡ KubeletError.DiskFault → ⊥) → has_ended e.kubelet ≡ false) }
     {
         self.keeps();
         if let Some(why) = self.refusal(pod, claim) {

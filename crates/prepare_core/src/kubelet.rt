@@ -9,7 +9,7 @@ ghost use Rattle.ckpt_journal.specs.Layout.{is_half, layout_of};
 ghost use Rattle.ckpt_journal.specs.Opened.{AfterSync, half_opened};
 ghost use Rattle.ckpt_journal.specs.Plan.{is_full};
 ghost use Rattle.ckpt_journal.specs.Reading.{records};
-ghost use Rattle.ckpt_journal.specs.Standing.{HasTable, IsBeforeOrAfter, Keeps};
+ghost use Rattle.ckpt_journal.specs.Standing.{HasHalves, HasTable, IsBeforeOrAfter, Keeps};
 ghost use Rattle.ckpt_journal.specs.Table.{compact, row_after, tabled};
 ghost use Rattle.prepare_core.specs.Runs.{IsOfJournal, IsOfOpening};
 ghost use Rattle.prepare_core.specs.Words.{disk_in, half_in, has_ended, node_in, rows_in};
@@ -85,10 +85,12 @@ impl<D: Disk> Kubelet<D> {
         journal.close()
     }
 
-    /// States what a kubelet that has not ended keeps: its table, which whatever a crash leaves has.
+    /// States what a kubelet that has not ended keeps: its table, which whatever a crash leaves has, and the size of the
+    /// halves of its checkpoint, which is of version 2.
     pub fn keeps(&self)
         ensures table { has_ended self.now ≡ false → IfSome (D.content (disk_in self.now)) (Keeps (rows_in self.now)) }
         ensures readable { AllByRecursion ReadsBack (compact (rows_in self.now)) }
+        ensures half { has_ended self.now ≡ false → IfSome (D.content (disk_in self.now)) (HasHalves (half_in self.now)) }
     {
         self.journal.keeps()
     }

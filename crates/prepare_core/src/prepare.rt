@@ -59,6 +59,12 @@ impl<D: Disk> Kubelet<D> {
         ensures fault { IfErr result (λ e. e.why ≡ KubeletError.DiskFault → Rose (D.faults (disk_in self)) (D.faults (disk_in e.kubelet)) × (has_ended e.kubelet ≡ true)) }
         ensures driver_fault { IfErr result (λ e. e.why ≡ KubeletError.DriverFault → Rose (V.faults driver.old) (V.faults driver.new)) }
         ensures held { has_ended self ≡ false → WithCalls (λ before after. KeepsHeld (rows_in self) before after (D.content (disk_in self)) (D.content (disk_in (by_finish result)))) (V.calls driver.old) (V.calls driver.new) }
+        ensures going { has_ended self ≡ false → IfErr result (λ e. (e.why ≡ KubeletError.DiskFault → ⊥) → has_ended e.kubelet ≡ false) }
+        ensures open { IfOk result (λ x. has_ended x.0 ≡ false) }
+        ensures no_fault { IfErr result (λ e. (e.why ≡ KubeletError.DiskFault → ⊥) → D.faults (disk_in e.kubelet) ≡ D.faults (disk_in self)) }
+        ensures count { IfOk result (λ x. D.faults (disk_in x.0) ≡ D.faults (disk_in self)) }
+        ensures no_driver_fault { IfErr result (λ e. (e.why ≡ KubeletError.DriverFault → ⊥) → V.faults driver.new ≡ V.faults driver.old) }
+        ensures driver_count { IfOk result (λ _. V.faults driver.new ≡ V.faults driver.old) }
     {
         prefixes_join();
         held_claims_stay();
@@ -112,6 +118,9 @@ impl<D: Disk> Kubelet<D> {
         ensures driver_fault { IsErrOf result.1 KubeletError.DriverFault → Rose (V.faults driver.old) (V.faults driver.new) }
         // Each claim that the driver holds stands in whatever a crash leaves, if it did at the start.
         ensures held { has_ended self ≡ false → WithCalls (λ before after. KeepsHeld (rows_in self) before after (D.content (disk_in self)) (D.content (disk_in result.0))) (V.calls driver.old) (V.calls driver.new) }
+        ensures going { has_ended self ≡ false → (IsErrOf result.1 KubeletError.DiskFault → ⊥) → has_ended result.0 ≡ false }
+        ensures no_fault { (IsErrOf result.1 KubeletError.DiskFault → ⊥) → D.faults (disk_in result.0) ≡ D.faults (disk_in self) }
+        ensures no_driver_fault { (IsErrOf result.1 KubeletError.DriverFault → ⊥) → V.faults driver.new ≡ V.faults driver.old }
     {
         prefixes_join();
         held_claims_stay();

@@ -106,6 +106,8 @@ impl<D: Disk> Kubelet<D> {
         ensures fault { IsErrOf result KubeletError.DiskFault → Rose (D.faults (disk_in self.old)) (D.faults (disk_in self.new)) × (has_ended self.new ≡ true) }
         ensures driver_fault { IsErrOf result KubeletError.DriverFault → Rose (V.faults driver.old) (V.faults driver.new) }
         ensures held { WithCalls (λ before after. LosesHeld (rows_in self.old) before after (D.content (disk_in self.old)) (D.content (disk_in self.new))) (V.calls driver.old) (V.calls driver.new) }
+        ensures no_fault { (IsErrOf result KubeletError.DiskFault → ⊥) → D.faults (disk_in self.new) ≡ D.faults (disk_in self.old) }
+        ensures no_driver_fault { (IsErrOf result KubeletError.DriverFault → ⊥) → V.faults driver.new ≡ V.faults driver.old }
     {
         prefixes_join();
         held_claims_stay();
@@ -155,6 +157,9 @@ impl<D: Disk> Kubelet<D> {
         ensures driver_fault { IsErrOf result.1 KubeletError.DriverFault → Rose (V.faults driver.old) (V.faults driver.new) }
         // Each claim that the driver holds at the end stands in whatever a crash leaves, if it did at the start.
         ensures held { has_ended self ≡ false → WithCalls (λ before after. LosesHeld (rows_in self) before after (D.content (disk_in self)) (D.content (disk_in result.0))) (V.calls driver.old) (V.calls driver.new) }
+        ensures going { has_ended self ≡ false → (IsErrOf result.1 KubeletError.DiskFault → ⊥) → has_ended result.0 ≡ false }
+        ensures no_fault { (IsErrOf result.1 KubeletError.DiskFault → ⊥) → D.faults (disk_in result.0) ≡ D.faults (disk_in self) }
+        ensures no_driver_fault { (IsErrOf result.1 KubeletError.DriverFault → ⊥) → V.faults driver.new ≡ V.faults driver.old }
     {
         prefixes_join();
         held_claims_stay();

@@ -1,0 +1,13 @@
+use Rattle.std.proofs.Common.{◌≡◌, ◌∙◌, ◌++◌, List, ℕ, ap, subst}
+use Rattle.std.specs.Prelude.{IfOk, codes}
+use Rattle.object_fields.specs.Keys.{key_text}
+use Rattle.journal_text.specs.Journal.{kubelet_line}
+use Rattle.pod_prepare.specs.Texts.{error_word}
+use Rattle.pod_prepare.proofs.Worded.{in_seven}
+use Rattle.pod_prepare.proofs.line.refused_line.Goals as goal
+
+pub returns : goal.returns
+returns c = subst (λ (t : List ℕ). IfOk c.kubelet_line.result (λ v. v.items ≡ kubelet_line c.args.job t))
+    (c.as_str.ensures.value ∙ c.in_ok-text.ensures.ok
+    ∙ ap (λ (l : List ℕ). c.args.what.now ++ (codes " " ++ (key_text c.args.pod.now ++ (codes " " ++ (key_text c.args.claim.now ++ (codes " " ++ l)))))) c.error_word.ensures
+    ∙ in_seven c.args.what.now (codes " ") (key_text c.args.pod.now) (codes " ") (key_text c.args.claim.now) (codes " ") (error_word c.args.why)) c.kubelet_line.ensures
