@@ -1,5 +1,5 @@
-"""Reads the cases of plans and of writes of a claim's status, and prints the first failure of each. The head of
-crates/plan_cases/stdin says what a case may be.
+"""Reads the cases of plans, of writes of a claim's status, of usable pools and of refusals, and prints what the
+definitions say of each. The head of crates/plan_cases/stdin says what a case may be.
 
 usage: python3 .ci/model/plan_cases.py < crates/plan_cases/stdin
 """
@@ -11,10 +11,14 @@ import fields
 from checks import Plan, failure_of_plan, failure_of_status
 from documents import commands_of, read_json
 from fields import Place
-from jobs import History, Job
+from jobs import Delete, History, Job, refusal_of_delete, refusal_of_release, refusal_of_schedule
 from objects import Result
+from pools import is_usable, pools
 from selector_texts import UnknownText
+from state import key_for
 from values import key_of_text
+
+KINDS = {"node": "Node", "slice": "ResourceSlice", "class": "DeviceClass", "claim": "ResourceClaim", "pod": "Pod"}
 
 
 class Setup:
@@ -63,6 +67,23 @@ def read_plan(pod, node, parts):
     return key_of_text(pod), plan
 
 
+def usable_slices(state):
+    """The names of the slices of usable pools, in order, or `-`."""
+    return " ".join(str(one.metadata.key) for pool in pools(state) if is_usable(pool) for one in pool) or "-"
+
+
+def refusal_of(state, verb, name):
+    """The first refusal of a command that names a pod or an object: its word, and with Bound the node."""
+    if verb == "schedule":
+        refusal = refusal_of_schedule(state, key_of_text(name), None)
+    elif verb == "release":
+        refusal = refusal_of_release(state, key_of_text(name), None)
+    else:
+        kind = KINDS[verb.removeprefix("delete-")]
+        refusal = refusal_of_delete(state, Delete(kind, key_for(kind, *name.rpartition("/")[::2])))
+    return refusal if refusal is None or refusal.startswith("Bound ") else refusal.split(" ")[0]
+
+
 def result_of(setup, line):
     """What a line prints, beside a `state`, which begins another one."""
     word, _, rest = line.partition(" ")
@@ -74,12 +95,16 @@ def result_of(setup, line):
         first, last, document = rest.split(" ", 2)
         return "".join(setup.do(document.replace("#", str(i))) for i in range(int(first), int(last) + 1))
     state = setup.history.state
-    name, rest = rest.split(" ", 1)
+    name, _, rest = rest.partition(" ")
     if setup.unknown:
         return f"{name}: left out, since a selector is unknown: {setup.unknown}\n"
     if word == "plan":
         pod, node, *parts = rest.split(" ")
         failure = failure_of_plan(state, *read_plan(pod, node, parts))
+    elif word == "usable":
+        failure = usable_slices(state)
+    elif word == "refusal":
+        failure = refusal_of(state, *rest.split(" "))
     else:
         claim, document = rest.split(" ", 1)
         status = fields.read_status(Place(json.loads(document), ""))

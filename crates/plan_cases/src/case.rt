@@ -2,6 +2,7 @@ use crate::checking::{of_plan, of_status};
 use crate::documents::{do_copies, do_document};
 use crate::input::{CaseError, cut_word};
 use crate::setup::Setup;
+use crate::states::{of_refusal, of_usable};
 use std::alloc::{AllocError, Global};
 
 /// The line of a case, which begins with the case's name.
@@ -10,6 +11,8 @@ fn of_case(alloc: Global, setup: &Setup, verb: &str, text: &str) -> Result<Strin
     let found = match verb {
         "plan" => of_plan(alloc, setup, rest)?,
         "status" => of_status(alloc, setup, rest)?,
+        "usable" => of_usable(alloc, setup)?,
+        "refusal" => of_refusal(alloc, setup, rest)?,
         _ => return Err(CaseError::BadCase),
     };
     Ok(format!(in alloc; "{name}: {found}")?)

@@ -1,6 +1,6 @@
-//! Runs cases of the checks of plans and of status writes: makes states from the documents of the
-//! standard input, checks plans and status writes against them, and prints a line for each: what fails
-//! first, as a journal has it, or `ok`. The head of the crate's `stdin` says what a line may be.
+//! Runs cases of the checks of plans and of status writes, of usable pools and of refusals: makes states from
+//! the documents of the standard input, looks at them, and prints a line for each case: what fails first, as a
+//! journal has it, or `ok`. The head of the crate's `stdin` says what a line may be.
 #![tactic(auto)]
 
 mod case;
@@ -10,6 +10,7 @@ mod input;
 mod planning;
 mod setup;
 mod spelling;
+mod states;
 
 use setup::Setup;
 use std::alloc::{AllocError, Global};
