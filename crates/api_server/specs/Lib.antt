@@ -1,0 +1,4 @@
+pub mod Connections
+pub mod EndCauses
+pub mod Entries
+pub mod Standing
