@@ -23,8 +23,8 @@ class NoCommand(Exception):
     """A document that isn't JSON or isn't a command."""
 
 
-class NotYet(Exception):
-    """A command that isn't supported yet."""
+class OtherCommand(Exception):
+    """A command that isn't one that runs by itself."""
 
 
 # What a document may ask for beside commands
@@ -187,17 +187,9 @@ def asked_by(document):
     return [single_command(document)]
 
 
-def supported_by(document):
-    """What a JSON value asks for that a replay does: commands, each of which runs by itself, and Togethers."""
-    asked = asked_by(document)
-    if any(isinstance(one, (Prepare, Unprepare, Reopen)) for one in asked):
-        raise NotYet
-    return asked
-
-
 def commands_of(document):
     """The commands of a JSON value, each of which runs by itself."""
-    asked = supported_by(document)
-    if any(isinstance(one, Together) for one in asked):
-        raise NotYet
+    asked = asked_by(document)
+    if any(isinstance(one, (Together, Prepare, Unprepare, Reopen)) for one in asked):
+        raise OtherCommand
     return asked

@@ -6,7 +6,9 @@ usage: python3 .ci/model/replay_cases.py < crates/replay_cases/stdin
 
 import sys
 
+from checkpoint import BEGUN, MAGIC, OPEN, Record, body_of, framed
 from containers import Container, print_case
+from kubelet import Driver, Kubelet, NodeDisk, uid_text
 from script import Input, Output, ReadFailed, Workers, replay
 
 PLAIN = {
@@ -18,11 +20,38 @@ PLAIN = {
     "takes": None,
     "fail-read": 0,
     "fail-write": 0,
+    "node": 0,
+    "fail-disk": 0,
+    "fail-driver": 0,
+    "found": 0,
     "held": 0,
     "reserved": 0,
     "until": 0,
     "turns": 100_000_000,
 }
+
+
+# Checkpoints as they are found, of version 1: one without records, and one that has begun a claim for a pod; and a file of
+# another program. The version is 0, and a gate is open before a record and closed behind the last.
+HEADER = MAGIC + bytes(5)
+OLD_EMPTY = HEADER + b"\0"
+BEGINS = Record(BEGUN, uid_text(5), "default/c", ["default/p"], ["gpu.example.com/n2/gpu-0"])
+OLD = HEADER + bytes([OPEN]) + framed(body_of(BEGINS)) + b"\0"
+OTHER = b"SQLite format 3\0"
+
+
+def found_bytes(found):
+    """The bytes of the checkpoint as it is found."""
+    if found == 1:
+        return OLD_EMPTY
+    return OLD[:found] if found <= len(OLD) else OTHER
+
+
+def node_text(status, disk, driver, found):
+    """The driver's calls and the bytes on the disk, where the disk isn't left as it was found and didn't fail."""
+    if status == "7 disk" or (len(disk.data) == len(found) and not driver.calls):
+        return ""
+    return f", driver {''.join(driver.calls) or '-'}, disk {len(disk.data)}"
 
 
 class Outcome:
@@ -32,11 +61,15 @@ class Outcome:
         source = Input(script, options["pieces"], options["fail-read"])
         output = Output(options["takes"], options["fail-write"])
         workers = Workers(options["workers"], options["held"], options["reserved"] != 0, options["until"])
-        status = replay(source, output, options["budget"], options["attempts"], options["entries"], workers)
+        found = found_bytes(options["found"])
+        disk, driver = NodeDisk(found, options["fail-disk"]), Driver(options["fail-driver"])
+        kubelet = Kubelet(f"n{options['node']}" if options["node"] else "", disk, driver)
+        status = replay(source, output, options["budget"], options["attempts"], options["entries"], workers, kubelet)
         self.reads = source.reads
         self.writes = output.writes
         waited = ", waited in vain" if workers.in_vain else ""
-        self.head = f"{status}, faults {source.faults} {output.faults}{waited}".encode()
+        node = node_text(status, disk, driver, found)
+        self.head = f"{status}, faults {source.faults} {output.faults}{waited}{node}".encode()
         self.left = left_in(source).encode()
         self.content = output.content
 
@@ -79,11 +112,12 @@ def varied(verb, script, options):
     """The scripts and the options of the runs of a case that varies one of them, by number."""
     if verb == "cuts":
         return [(length, script[:length], options) for length in range(len(script) + 1)]
-    plain = Outcome(script, options)
+    plain = Outcome(script, {**options, "fail-disk": 0})
     name, numbers = {
         "pieces": ("pieces", range(1, options["pieces"] + 1)),
         "read-faults": ("fail-read", range(1, plain.reads + 2)),
         "write-faults": ("fail-write", range(1, plain.writes + 2)),
+        "disk-faults": ("fail-disk", range(1, options["fail-disk"] + 1)),
         "limits": ("entries", range(options["entries"] + 1)),
     }[verb]
     return [(number, script, {**options, name: number}) for number in numbers]
@@ -97,7 +131,7 @@ def case(line, scripts):
     options = {**PLAIN, **{name: int(number) for name, number in (word.split("=") for word in words[count:])}}
     if verb == "run":
         return Outcome(named[0], options).whole()
-    other = Outcome(named[0], options).content
+    other = Outcome(named[0], {**options, "fail-disk": 0}).content
     if verb == "each":
         lines = named[1].removesuffix(b"\n").split(b"\n") if named[1] else []
         runs = [(number, named[0] + last, options) for number, last in enumerate(lines, 1)]

@@ -3,8 +3,11 @@ as it is complete; the lines of each command go out in one write, and the summar
 
 from functools import lru_cache
 
-from documents import NoCommand, NotYet, Together, read_json, supported_by
+import journal
+from checkpoint import Failed, NotAJournal
+from documents import NoCommand, Prepare, Reopen, Together, Unprepare, asked_by, read_json
 from jobs import History, HistoryFull, Job
+from kubelet import Kubelet
 
 BLANKS = b" \t\r\n"
 MOST_BYTES = 2_097_152
@@ -114,11 +117,11 @@ def documents(source):
 
 @lru_cache(maxsize=None)
 def commands(document):
-    """The commands of a document, or the class of what it is instead."""
+    """What a document asks for, or None if it is no command."""
     try:
-        return supported_by(read_json(document))
-    except (NoCommand, NotYet) as other:
-        return type(other)
+        return asked_by(read_json(document))
+    except NoCommand:
+        return None
 
 
 class Workers:
@@ -172,31 +175,42 @@ def do_commands(history, workers, jobs, output):
         raise Ended(8, "limit", len(history.lines))
 
 
-def replay_all(source, output, workers, how, entries):
-    """Does all commands of a script, each as the job of its number, and writes the summary."""
+def do_asked(history, workers, asked, number, how, output, kubelet):
+    """Does a command, whose number comes after this one, or a Together, and returns the last number."""
+    if isinstance(asked, (Prepare, Unprepare, Reopen)):
+        lines = kubelet.lines(number + 1, asked, history.state)
+        output.write_all("".join(journal.clean(line) + "\n" for line in lines))
+        return number + 1
+    members = asked.commands if isinstance(asked, Together) else [asked]
+    do_commands(history, workers, [Job(number + i, member, *how) for i, member in enumerate(members, 1)], output)
+    return number + len(members)
+
+
+def replay_all(source, output, workers, how, entries, kubelet):
+    """Does all commands of a script, each as the job of its number or by the kubelet, and writes the summary."""
     history = History(entries)
     number = 0
     for at, document in documents(source):
         found = commands(document)
-        if found is NoCommand:
+        if found is None:
             raise Ended(3, "document", at)
-        if found is NotYet:
-            raise Ended(11, "not-yet", at)
-        for command in found:
-            members = command.commands if isinstance(command, Together) else [command]
-            do_commands(history, workers, [Job(number + i, member, *how) for i, member in enumerate(members, 1)], output)
-            number += len(members)
+        for asked in found:
+            number = do_asked(history, workers, asked, number, how, output, kubelet)
     output.write_all(history.summary(number))
 
 
-def replay(source, output, budget, attempts, entries, workers=None):
+def replay(source, output, budget, attempts, entries, workers=None, kubelet=None):
     """Replays a script, and returns the text of the status."""
     try:
-        replay_all(source, output, workers or Workers(), (budget, attempts), entries)
+        replay_all(source, output, workers or Workers(), (budget, attempts), entries, kubelet or Kubelet(""))
     except Ended as end:
         return " ".join(map(str, end.args))
     except ReadFailed:
         return "5 read"
     except WriteFailed:
         return "6 write"
+    except Failed:
+        return "7 disk"
+    except NotAJournal as found:
+        return f"10 checkpoint {found.offset}"
     return "0 done"

@@ -1,3 +1,5 @@
-pub mod Numbers
+pub mod Asked
+pub mod Tasks
 pub mod Told
 pub mod Truths
+pub mod Nothing

@@ -1,6 +1,5 @@
 -- What a run states about its options.
-use Rattle.std.proofs.Common.{ℕ, ◌≡◌, ◌∙◌, List, sym, subst}
-use Rattle.std.specs.Prelude.{Option, Some}
+use Rattle.std.proofs.Common.{ℕ, ◌≡◌, List, subst}
 use Rattle.std.proofs.lemmas.List.Elements.{All-contains}
 use Rattle.object_fields.specs.declared.key.Key.{Key}
 use Rattle.api_cluster.specs.declared.types.Pod.{Pod}
@@ -12,14 +11,7 @@ use Rattle.cluster.specs.declared.plan.Reason.TheVariants as reason
 use Rattle.cluster.specs.declared.plan.Verdict.{Verdict}
 use Rattle.cluster.specs.declared.state.State.{State}
 use Rattle.plan_rules.specs.Plans.{CauseBy, ReasonBy, VerdictBy}
-use Rattle.replay_core.specs.declared.options.ReplayOptions.{ReplayOptions}
 use Rattle.dra_cli.specs.Headline.{NamesBudget}
-use Rattle.dra_cli.specs.Program.{AsksFor}
-use Rattle.dra_cli.specs.Words.{options_of}
-
--- the arguments ask for it
-pub asks : (words : List (List ℕ)) (P : ReplayOptions → Type 0) (r : Option ReplayOptions) (options : ReplayOptions) → r ≡ options_of words → r ≡ Some options → P options → AsksFor words P
-asks words P r options is some so = record { options = options; asked = sym is ∙ some; so = so }
 
 -- the steps of a search that reached its budget are the budget
 cause_names : (s : State) (pod : Pod) (budget : ℕ) (node : List ℕ) (c : Cause) (steps : ℕ) → CauseBy s pod budget node c → c ≡ cause.Budget steps → steps ≡ budget

@@ -1,6 +1,6 @@
 -- That histories of runs are true.
 use Rattle.std.proofs.Common.{ℕ, ◌+◌, ◌≡◌, ◌∙◌, ◌⊎◌, inl, inr, List, ◌∷◌, ◌++◌, ap, append_assoc, subst, sym}
-use Rattle.std.specs.Prelude.{Option}
+use Rattle.std.specs.Prelude.{Option, None}
 use Rattle.object_fields.specs.declared.key.Key.{Key}
 use Rattle.cluster.specs.declared.plan.Plan.{Plan}
 use Rattle.cluster.specs.declared.plan.Verdict.{Verdict}
@@ -22,14 +22,18 @@ use Rattle.commands.specs.declared.command.Command.{Command}
 use Rattle.commands.specs.declared.command.Command.TheVariants.{Schedule}
 use Rattle.commands.specs.declared.given.Given.{Given}
 use Rattle.commands.specs.declared.given.Given.TheVariants.{One}
-use Rattle.replay_core.specs.declared.form.Form.{Form}
 use Rattle.replay_core.specs.declared.options.ReplayOptions.{ReplayOptions}
 use Rattle.replay_core.specs.Complete.{Scheduled}
 use Rattle.replay_core.specs.Forms.{count_of}
 use Rattle.replay_core.specs.Jobs.{RunOf, SegmentBegun}
-use Rattle.replay_core.specs.Replay.{EndsAt, EndsDone, EndsFull, EndsNotYet, EndsRead, EndsShort, IsLines, IsPart, IsPartLines, IsRun, IsText}
-use Rattle.replay_core.specs.Script.{Ending, commands_of}
-use Rattle.dra_cli.specs.Headline.{IsTrueHistory, IsTruePart, IsTrueRun, Replayed, ReplayedFull, ReplayedNotYet, ReplayedRead, ReplayedShort, ReplayedTo, TrueDue}
+use Rattle.replay_core.specs.Kubelet.{Node, node_with}
+use Rattle.replay_core.specs.Replay.{Ends, EndsAt, EndsFull, EndsSo, IsLines, IsPart, IsPartLines, IsRun, IsText}
+use Rattle.replay_core.specs.Script.{Ending, Long, commands_of, most_input}
+use Rattle.replay_core.specs.declared.status.Status.{Status}
+use Rattle.replay_core.specs.declared.status.Status.TheVariants as status
+use Rattle.dra_ports.specs.DiskContent.{Content}
+use Rattle.prepare_core.specs.declared.driver.DriverCall.{DriverCall}
+use Rattle.dra_cli.specs.Headline.{IsTrueHistory, IsTruePart, IsTrueRun, ReplayedFull, ReplayedTo, Replays, ReplaysSo, TrueDue}
 use Rattle.dra_cli.proofs.Told.{verdict_names}
 
 abbrev GrantLaw : Type 0
@@ -158,31 +162,35 @@ RunTruth = (options : ReplayOptions) (done : List (ℕ × Given)) (h : List Entr
 abbrev pub PartTruth : Type 0
 PartTruth = (options : ReplayOptions) (done : List (ℕ × Given)) (c : Given) (h : List Entry) → IsPart options done c h → IsTruePart options done c h
 
-pub replayed : RunTruth → (options : ReplayOptions) (left before after : Option (List ℕ)) → EndsDone options left before after → Replayed options left before after
-replayed truth options left before after e = record { ends = e; run = truth options e.done e.history e.run }
+module _ (truth : RunTruth) (part : PartTruth) (options : ReplayOptions) (left left_now before after : Option (List ℕ)) (found now : Node) where
+  to : (ending : Ending) → EndsAt options ending left before after found now → ReplayedTo options ending left before after found now
+  to ending e = record { ends = e; run = truth options e.done e.history e.so.run }
 
-pub replayed_to : RunTruth → (options : ReplayOptions) (ending : Ending) (left before after : Option (List ℕ)) → EndsAt options ending left before after → ReplayedTo options ending left before after
-replayed_to truth options ending left before after e = record { ends = e; run = truth options e.done e.history e.run }
+  -- the limit of the history, or that of the input
+  limit : (count : ℕ) → EndsFull options count left before after found now ⊎ ((count ≡ most_input) × EndsAt options Long left before after found now)
+      → ReplayedFull options count left before after found now ⊎ ((count ≡ most_input) × ReplayedTo options Long left before after found now)
+  limit count (inl e) = inl (record { ends = e; part = part options e.done e.command e.history e.part })
+  limit count (inr e) = inr (e.0, to Long e.1)
 
-pub replayed_read : RunTruth → (options : ReplayOptions) (left left_now before after : Option (List ℕ)) → EndsRead options left left_now before after → ReplayedRead options left left_now before after
-replayed_read truth options left left_now before after e = record { ends = e; run = truth options e.done e.history e.run }
+  due : (between : Node) (text : List ℕ) (d : IsLines options left found between text ⊎ (IsPartLines options left found between text ⊎ IsText options left found between text)) → TrueDue options left found between text d
+  due between text (inl lines) = truth options lines.done lines.history lines.so.run
+  due between text (inr (inl p)) = part options p.done p.command p.history p.part
+  due between text (inr (inr whole)) = truth options whole.done whole.history whole.so.run
 
-pub replayed_not_yet : RunTruth → (options : ReplayOptions) (at : ℕ) (form : Form) (left before after : Option (List ℕ)) → EndsNotYet options at form left before after → ReplayedNotYet options at form left before after
-replayed_not_yet truth options at form left before after e = record { ends = e; run = truth options e.done e.history e.run }
+  replays : (s : Status) → Ends options left left_now before after found now s → Replays options left left_now before after found now s
+  replays status.Done e = record { ends = e; run = truth options e.done e.history e.so.run }
+  replays status.Usage e = e
+  replays (status.Document at why) e = to _ e
+  replays status.Memory e = record { ends = e; due = due e.between e.text e.due }
+  replays status.Read e = record { ends = e; run = truth options e.done e.history e.so.run }
+  replays status.Write e = record { ends = e; due = due e.ends.between e.ends.text e.ends.due }
+  replays status.Disk e = record { ends = e; run = truth options e.done e.history e.so.run }
+  replays (status.Limit count) e = limit count e
+  replays (status.Checkpoint at) e = record { ends = e; run = truth options e.ends.done e.ends.history e.ends.so.run }
 
-replayed_full : PartTruth → (options : ReplayOptions) (count : ℕ) (left before after : Option (List ℕ)) → EndsFull options count left before after → ReplayedFull options count left before after
-replayed_full truth options count left before after e = record { ends = e; part = truth options e.done e.command e.history e.part }
-
--- the limit of the history, or that of the input
-pub replayed_limit : RunTruth → PartTruth → (options : ReplayOptions) (count : ℕ) (ending : Ending) (P : Type 0) (left before after : Option (List ℕ)) → EndsFull options count left before after ⊎ (P × EndsAt options ending left before after)
-    → ReplayedFull options count left before after ⊎ (P × ReplayedTo options ending left before after)
-replayed_limit truth part options count ending P left before after (inl e) = inl (replayed_full part options count left before after e)
-replayed_limit truth part options count ending P left before after (inr e) = inr (e.0, replayed_to truth options ending left before after e.1)
-
-true_due : RunTruth → PartTruth → (options : ReplayOptions) (left : Option (List ℕ)) (text : List ℕ) (due : IsLines options left text ⊎ (IsPartLines options left text ⊎ IsText options left text)) → TrueDue options left text due
-true_due truth part options left text (inl lines) = truth options lines.done lines.history lines.run
-true_due truth part options left text (inr (inl p)) = part options p.done p.command p.history p.part
-true_due truth part options left text (inr (inr whole)) = truth options whole.done whole.history whole.run
-
-pub replayed_short : RunTruth → PartTruth → (options : ReplayOptions) (left before after : Option (List ℕ)) → EndsShort options left before after → ReplayedShort options left before after
-replayed_short truth part options left before after e = record { ends = e; due = true_due truth part options left e.text e.due }
+pub replays_so : RunTruth → PartTruth → (options : ReplayOptions) (left left_now before after : Option (List ℕ)) (disk disk_now : Option Content) (calls calls_now : Option (List DriverCall)) (faults faults_now : ℕ) (s : Status)
+    → EndsSo options left left_now before after disk disk_now calls calls_now faults faults_now s → ReplaysSo options left left_now before after disk disk_now calls calls_now faults faults_now s
+replays_so truth part options left left_now before after disk disk_now calls calls_now faults faults_now s e = record {
+  table = e.table;
+  so = replays truth part options left left_now before after (node_with None disk calls faults) (node_with e.table disk_now calls_now faults_now) s e.ends;
+}

@@ -1,6 +1,6 @@
 -- What the journal that a run prints says.
 use mathlib.Core.Logic.{inl, inr}
-use Rattle.std.specs.Prelude.{ℕ, ◌≡◌, ◌+◌, ◌⊎◌, List, ◌∷◌, ◌++◌, Option, Contains}
+use Rattle.std.specs.Prelude.{ℕ, ◌≡◌, ◌+◌, ◌⊎◌, List, ◌∷◌, ◌++◌, Option, None, Contains}
 use Rattle.object_fields.specs.declared.key.Key.{Key}
 use Rattle.cluster.specs.declared.plan.Cause.TheVariants.{Budget}
 use Rattle.cluster.specs.declared.plan.Passed.{Passed}
@@ -27,10 +27,15 @@ use Rattle.commands.specs.declared.given.Given.{Given}
 use Rattle.commands.specs.declared.given.Given.TheVariants.{One}
 use Rattle.replay_core.specs.declared.options.ReplayOptions.{ReplayOptions}
 use Rattle.replay_core.specs.Complete.{Scheduled}
-use Rattle.replay_core.specs.declared.form.Form.{Form}
 use Rattle.replay_core.specs.Forms.{count_of}
-use Rattle.replay_core.specs.Replay.{EndsAt, EndsDone, EndsFull, EndsNotYet, EndsRead, EndsShort, IsLines, IsPartLines, IsText}
-use Rattle.replay_core.specs.Script.{Ending, commands_of}
+use Rattle.replay_core.specs.Kubelet.{Node, node_with}
+use Rattle.replay_core.specs.Replay.{EndsAt, EndsAtCheckpoint, EndsAtKubelet, EndsDone, EndsFull, EndsRead, EndsShort, EndsShortAll, IsLines, IsPartLines, IsText}
+use Rattle.replay_core.specs.Script.{Bad, Ending, Long, commands_of, most_input}
+use Rattle.replay_core.specs.declared.status.Status.{Status}
+use Rattle.replay_core.specs.declared.status.Status.TheVariants as status
+use Rattle.dra_ports.specs.DiskContent.{Content}
+use Rattle.pod_prepare.specs.Opening.{Table}
+use Rattle.prepare_core.specs.declared.driver.DriverCall.{DriverCall}
 
 -- each node whose cause is the budget was searched with this one
 abbrev pub NamesBudget : ℕ → Reason → Type 0
@@ -73,40 +78,67 @@ pub record IsTruePart (options : ReplayOptions) (done : List (ℕ × Given)) (c 
   pub run : IsTrueRun options done h
   pub undisturbed : (pod : Key) (attempts : ℕ) → c ≡ One (Schedule pod attempts) → NeverSetBack (count_of (commands_of done) + 1) h
 
--- ---- by status: what was printed, and that it is true
+-- ---- by status: what was printed, what the kubelet did, and that the history is true
 
 -- all commands of the script were done, and what was written is the text of their history
-pub record Replayed (options : ReplayOptions) (left before after : Option (List ℕ)) : Type 0 where
-  pub ends : EndsDone options left before after
+pub record Replayed (options : ReplayOptions) (left before after : Option (List ℕ)) (found now : Node) : Type 0 where
+  pub ends : EndsDone options left before after found now
   pub run : IsTrueRun options ends.done ends.history
 
 -- all commands of a script that ends otherwise
-pub record ReplayedTo (options : ReplayOptions) (ending : Ending) (left before after : Option (List ℕ)) : Type 0 where
-  pub ends : EndsAt options ending left before after
+pub record ReplayedTo (options : ReplayOptions) (ending : Ending) (left before after : Option (List ℕ)) (found now : Node) : Type 0 where
+  pub ends : EndsAt options ending left before after found now
   pub run : IsTrueRun options ends.done ends.history
 
 -- the commands of the documents that are whole in what was taken
-pub record ReplayedRead (options : ReplayOptions) (left left_now before after : Option (List ℕ)) : Type 0 where
-  pub ends : EndsRead options left left_now before after
+pub record ReplayedRead (options : ReplayOptions) (left left_now before after : Option (List ℕ)) (found now : Node) : Type 0 where
+  pub ends : EndsRead options left left_now before after found now
   pub run : IsTrueRun options ends.done ends.history
 
--- the commands before one whose form isn't supported
-pub record ReplayedNotYet (options : ReplayOptions) (at : ℕ) (form : Form) (left before after : Option (List ℕ)) : Type 0 where
-  pub ends : EndsNotYet options at form left before after
+-- the commands before one of the kubelet, which the disk ended
+pub record ReplayedToDisk (options : ReplayOptions) (left before after : Option (List ℕ)) (found now : Node) : Type 0 where
+  pub ends : EndsAtKubelet options left before after found now
   pub run : IsTrueRun options ends.done ends.history
+
+-- the commands before one that opened the kubelet, and found bytes that are no journal
+pub record ReplayedToCheckpoint (options : ReplayOptions) (offset : ℕ) (left before after : Option (List ℕ)) (found now : Node) : Type 0 where
+  pub ends : EndsAtCheckpoint options offset left before after found now
+  pub run : IsTrueRun options ends.ends.done ends.ends.history
 
 -- the commands before one that reached the limit, and a part of that one
-pub record ReplayedFull (options : ReplayOptions) (count : ℕ) (left before after : Option (List ℕ)) : Type 0 where
-  pub ends : EndsFull options count left before after
+pub record ReplayedFull (options : ReplayOptions) (count : ℕ) (left before after : Option (List ℕ)) (found now : Node) : Type 0 where
+  pub ends : EndsFull options count left before after found now
   pub part : IsTruePart options ends.done ends.command ends.history
 
 -- what a prefix was printed of
-abbrev pub TrueDue : (options : ReplayOptions) (left : Option (List ℕ)) (text : List ℕ) → IsLines options left text ⊎ (IsPartLines options left text ⊎ IsText options left text) → Type 0
-TrueDue options left text (inl lines) = IsTrueRun options lines.done lines.history
-TrueDue options left text (inr (inl part)) = IsTruePart options part.done part.command part.history
-TrueDue options left text (inr (inr whole)) = IsTrueRun options whole.done whole.history
+abbrev pub TrueDue : (options : ReplayOptions) (left : Option (List ℕ)) (found between : Node) (text : List ℕ) → IsLines options left found between text ⊎ (IsPartLines options left found between text ⊎ IsText options left found between text) → Type 0
+TrueDue options left found between text (inl lines) = IsTrueRun options lines.done lines.history
+TrueDue options left found between text (inr (inl part)) = IsTruePart options part.done part.command part.history
+TrueDue options left found between text (inr (inr whole)) = IsTrueRun options whole.done whole.history
 
 -- a prefix of such lines, or of the whole text
-pub record ReplayedShort (options : ReplayOptions) (left before after : Option (List ℕ)) : Type 0 where
-  pub ends : EndsShort options left before after
-  pub due : TrueDue options left ends.text ends.due
+pub record ReplayedShort (options : ReplayOptions) (left before after : Option (List ℕ)) (found now : Node) : Type 0 where
+  pub ends : EndsShort options left before after found now
+  pub due : TrueDue options left found ends.between ends.text ends.due
+
+-- the same, where all of the driver's calls are those of the commands
+pub record ReplayedShortAll (options : ReplayOptions) (left before after : Option (List ℕ)) (found now : Node) : Type 0 where
+  pub ends : EndsShortAll options left before after found now
+  pub due : TrueDue options left found ends.ends.between ends.ends.text ends.ends.due
+
+-- how a replay ends: what was done of the script, what was printed, what became of the node, and that the history is true
+abbrev pub Replays : ReplayOptions → Option (List ℕ) → Option (List ℕ) → Option (List ℕ) → Option (List ℕ) → Node → Node → Status → Type 0
+Replays options left left_now before after found now status.Done = Replayed options left before after found now
+Replays options left left_now before after found now status.Usage = ⊥
+Replays options left left_now before after found now (status.Document at why) = ReplayedTo options (Bad at why) left before after found now
+Replays options left left_now before after found now status.Memory = ReplayedShort options left before after found now
+Replays options left left_now before after found now status.Read = ReplayedRead options left left_now before after found now
+Replays options left left_now before after found now status.Write = ReplayedShortAll options left before after found now
+Replays options left left_now before after found now status.Disk = ReplayedToDisk options left before after found now
+Replays options left left_now before after found now (status.Limit count) = ReplayedFull options count left before after found now ⊎ ((count ≡ most_input) × ReplayedTo options Long left before after found now)
+Replays options left left_now before after found now (status.Checkpoint at) = ReplayedToCheckpoint options at left before after found now
+
+-- The same of a disk and a driver: as they were found the kubelet isn't open, and it is open or not when the run ends.
+pub record ReplaysSo (options : ReplayOptions) (left left_now before after : Option (List ℕ)) (disk disk_now : Option Content) (calls calls_now : Option (List DriverCall)) (faults faults_now : ℕ) (s : Status) : Type 0 where
+  pub table : Option Table
+  pub so : Replays options left left_now before after (node_with None disk calls faults) (node_with table disk_now calls_now faults_now) s

@@ -1,3 +1,3 @@
-pub mod Words
+pub mod Task
 pub mod Program
 pub mod Headline

@@ -1,19 +1,25 @@
-//! The program `dra`: `dra replay [--workers n] [--budget B] [--attempts A] [--entries E] < script` replays
-//! a script of the Kubernetes API's objects and prints the journal of what was decided.
+//! The program `dra`: `dra replay [--workers n] [--budget B] [--attempts A] [--entries E] [--node name]
+//! < script` replays a script of the Kubernetes API's objects and prints the journal of what was decided. The kubelet of
+//! the node keeps its checkpoint in the file `checkpoint.dra` of the current folder. `dra exercise --from s --pods p` replays
+//! a script that is generated, and prints its summary alone.
 #![tactic(auto)]
 
-mod asked;
 mod denials;
+mod file_disk;
 mod headline;
 mod message;
 mod position;
 mod program;
 mod stdio;
 mod tail;
-mod words;
+mod task;
+#[cfg(test)]
+mod tests;
+mod yes_driver;
 
 use denials::{Denials, WatchedSink};
 use dra_ports::OpenGate;
+use file_disk::FileDisk;
 use message::Message;
 use program::{exit_number, run};
 use replay_core::Status;
@@ -22,6 +28,7 @@ use std::process::ExitCode;
 use std::{env, str};
 use stdio::{StdSink, StdSource};
 use tail::TailSource;
+use yes_driver::YesDriver;
 
 /// The arguments of this call after the program's name.
 fn words_of_call(rt: &HostRuntime) -> io::Result<Vec<String>> {
@@ -58,13 +65,26 @@ fn main(rt: HostRuntime) -> ExitCode {
     let mut input = TailSource::new(StdSource::new(rt.stdin()), rt.alloc());
     let mut output = WatchedSink::new(StdSink::new(rt.stdout()), rt.alloc());
     let status = match words_of_call(&rt) {
-        Ok(words) => run(&rt, &words, &mut input, &mut output, &OpenGate),
+        Ok(words) => {
+            let disk = FileDisk::new(&rt);
+            let mut driver = YesDriver::new();
+            let (_disk, status) = run(
+                &rt,
+                &words,
+                &mut input,
+                &mut output,
+                disk,
+                &mut driver,
+                &OpenGate,
+            );
+            status
+        }
         Err(error) => status_without_words(&error),
     };
     report(&rt, output.denials());
     if status != Status::Done {
         // If the standard error fails, only the exit status reports the result.
-        let _ = eprintln!(rt; "dra: {}", Message::new(rt.alloc(), status, input.tail()));
+        let _ = eprintln!(rt; "dra: {}", Message::new(status, input.tail()));
     }
     ExitCode::from(exit_number(status))
 }

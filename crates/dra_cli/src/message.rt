@@ -1,9 +1,6 @@
-use crate::asked::pod_at;
 use crate::position::Position;
 use crate::tail::Tail;
-use object_fields::Key;
-use replay_core::{Form, Rejection, Status};
-use std::alloc::Global;
+use replay_core::{Rejection, Status};
 use std::fmt;
 
 /// The most bytes of an input; a history never has so many entries.
@@ -67,14 +64,6 @@ fn stray<W: fmt::Write>(byte: Option<u8>, f: &mut fmt::Formatter<W>) -> fmt::Res
     }
 }
 
-fn form_name(form: Form) -> &'static str {
-    match form {
-        Form::Prepare => "Prepare",
-        Form::Unprepare => "Unprepare",
-        Form::Reopen => "Reopen",
-    }
-}
-
 fn limit<W: fmt::Write>(count: u64, f: &mut fmt::Formatter<W>) -> fmt::Result {
     if count == MOST_INPUT {
         write!(
@@ -96,51 +85,29 @@ pub struct Message {
     status: Status,
     position: Option<Position>,
     byte: Option<u8>,
-    /// The pod that a command which isn't supported is for.
-    pod: Option<Key>,
 }
 
 /// The offset that a status names.
 fn offset_of(status: Status) -> Option<u64> {
     match status {
-        Status::Document(offset, _) | Status::NotYet(offset, _) => Some(offset),
+        Status::Document(offset, _) => Some(offset),
         _ => None,
-    }
-}
-
-/// The pod that a command which isn't supported is for, if it is for one.
-fn unsupported_pod(alloc: Global, status: Status, tail: &Tail) -> Option<Key> {
-    match status {
-        Status::NotYet(offset, Form::Prepare | Form::Unprepare) => pod_at(alloc, tail, offset),
-        _ => None,
-    }
-}
-
-/// What a command that isn't supported asks for: its kind, and its pod if it is for one.
-fn asked<W: fmt::Write>(form: Form, pod: &Option<Key>, f: &mut fmt::Formatter<W>) -> fmt::Result {
-    match (form, pod) {
-        (Form::Prepare | Form::Unprepare, Some(pod)) => {
-            write!(f, "{} of the pod {pod}", form_name(form))
-        }
-        (Form::Prepare | Form::Unprepare | Form::Reopen, _) => { f.write_str(form_name(form)) }
     }
 }
 
 impl Message {
     /// The message for a status, where these are the last bytes of the input.
-    pub fn new(alloc: Global, status: Status, tail: &Tail) -> Message {
+    pub fn new(status: Status, tail: &Tail) -> Message {
         match offset_of(status) {
             Some(offset) => Message {
                 status,
                 position: tail.position(offset),
                 byte: tail.byte(offset),
-                pod: unsupported_pod(alloc, status, tail),
             },
             None => Message {
                 status,
                 position: None,
                 byte: None,
-                pod: None,
             },
         }
     }
@@ -165,9 +132,10 @@ impl fmt::Display for Message {
         match self.status {
             Status::Done => f.write_str("all was done"),
             Status::Usage => f.write_str(
-                "these arguments are not supported; the one command is `replay`\n\
+                "these arguments are not supported; the commands are `replay` and `exercise`\n\
                  usage: dra replay [--workers 1..64] [--budget 1..10000000] [--attempts 1..64] \
-                 [--entries 1..1000000] < script",
+                 [--entries 1..1000000] [--node name] < script\n\
+                 usage: dra exercise --from 0..9223372036854775807 --pods 0..100000",
             ),
             Status::Document(offset, why) => write!(
                 f,
@@ -176,7 +144,7 @@ impl fmt::Display for Message {
                 self.found(why)
             ),
             Status::Memory => f.write_str(
-                "memory ran out; expected more memory, or a shorter script",
+                "memory ran out; expected more memory, or a shorter script or fewer pods",
             ),
             Status::Read => f.write_str(
                 "the standard input could not be read; expected a script, as a file or a pipe",
@@ -185,14 +153,15 @@ impl fmt::Display for Message {
                 "the standard output could not be written; expected it to be open and to have room",
             ),
             Status::Limit(count) => limit(count, f),
-            Status::NotYet(offset, form) => {
-                asked(form, &self.pod, f)?;
-                write!(
-                    f,
-                    ", at {}, is not supported yet; docs/FORMATS.md says what is",
-                    self.at(offset)
-                )
-            }
+            Status::Disk => f.write_str(
+                "the file checkpoint.dra could not be opened, read, written or synced; expected a folder and a file that \
+                 may be written, with room for 9 MB",
+            ),
+            Status::Checkpoint(offset) => write!(
+                f,
+                "the file checkpoint.dra is no checkpoint of a kubelet at byte {offset}; expected one that dra wrote, or \
+                 none",
+            ),
         }
     }
 }

@@ -1,75 +1,117 @@
-ghost use Rattle.std.specs.Prelude.{◌≡◌, ◌↔◌, ◌⊎◌, ℕ, None, map, string_bytes};
+ghost use Rattle.std.specs.Prelude.{◌≡◌, ◌↔◌, None, Some, map, string_bytes};
 ghost use Rattle.std.specs.Io.KnownBytes.{IsAtEnd};
+ghost use Rattle.cli_words.specs.declared.command.ExerciseWords.{ExerciseWords};
 ghost use Rattle.dra_ports.specs.Causes.{Rose};
-ghost use Rattle.replay_core.specs.declared.form.Form.{Form};
-ghost use Rattle.replay_core.specs.declared.status.Rejection.{Rejection};
-ghost use Rattle.replay_core.specs.Script.{Bad, Long, most_input};
-ghost use Rattle.dra_cli.specs.Headline.{Replayed, ReplayedFull, ReplayedNotYet, ReplayedRead, ReplayedShort, ReplayedTo};
-ghost use Rattle.dra_cli.specs.Program.{AsksFor, exit_number};
-ghost use Rattle.dra_cli.specs.Words.{options_of};
+ghost use Rattle.exercise_core.specs.Exercise.{Prints};
+ghost use Rattle.replay_core.specs.Replay.{HasNone};
+ghost use Rattle.replay_core.specs.declared.options.ReplayOptions.{ReplayOptions};
+ghost use Rattle.dra_cli.specs.Headline.{ReplaysSo};
+ghost use Rattle.dra_cli.specs.Program.{exit_number};
+ghost use Rattle.dra_cli.specs.Task.{asked_of};
+ghost use Rattle.dra_cli.specs.declared.task.Task.TheVariants.{Exercise, Replay};
 
 use crate::headline::runs_are_true;
-use crate::words::options_of;
-use dra_ports::{Gate, Sink, Source};
+use crate::task::{Task, asked};
+use dra_ports::{Disk, Gate, Sink, Source};
+use exercise_core::exercise;
+use prepare_core::Driver;
 use replay_core::{Status, replay};
 use std::sync::Wait;
 use std::thread::Threads;
 
-/// Does what the arguments of a call, without the program's name, ask for, over the objects that
-/// are passed in: `replay`, with its options after it, replays the script that the input is and
-/// prints to the output. The commands of a Together are done by as many workers as the option says, and
-/// what is stated here holds for every number of workers and however their turns interleave. The gate is
-/// called as these jobs go on.
+/// Does what the arguments of a call, without the program's name, ask for, over the objects that are passed in.
+/// `replay`, with its options after it, replays the script that the input is and prints to the output. `exercise`, with its
+/// options after it, replays a generated script, and prints the summary alone.
 ///
-/// `Usage` is returned if and only if the arguments are no such command (`options_of`), and then nothing
-/// was read or written. `Memory` is returned only if memory runs out, `Read` and `Write` only
-/// if that object's count of errors rose in this call, or is at its maximum. With every status
-/// but `Read` the input's count of errors stays, and with every one but `Write` the output's.
+/// `Usage` is returned if and only if the arguments are no command of this program (`asked_of`), unless memory ran out as
+/// they were read; with such arguments nothing was read, written or opened. `Memory` is returned only if memory runs out,
+/// `Read`, `Write` and `Disk` only if that object's count of errors rose in this call, or is at its maximum. With every
+/// status but `Read` the input's count of errors stays, with every one but `Write` the output's, and with every one but
+/// `Disk` the disk's.
+///
+/// # Replay
+///
+/// The commands of a Together are done by as many workers as the option says, and what is stated here holds for every
+/// number of workers and however their turns interleave. The gate is called as these jobs go on. The kubelet of the node
+/// that the option names has its checkpoint on the disk, which is handed back beside the status, and asks the driver.
 ///
 /// If the input exposes its contents: `Document` is returned only if what is at its offset isn't a command,
-/// for the reason that it names, `Limit` only if a history of as many entries as the option says is to have
-/// one more or the input has more than 2^30 bytes, and `NotYet` only if the document at its offset has the
-/// form that it names, which isn't supported yet.
+/// for the reason that it names, and `Limit` only if a history of as many entries as the option says is to have
+/// one more or the input has more than 2^30 bytes. If the disk exposes its contents, `Checkpoint` is returned only if a
+/// command that opens the kubelet finds a disk that isn't empty, and whose bytes are no journal from its offset on. A
+/// script without commands of the kubelet leaves the disk alone.
 ///
 /// If the output exposes what was written (which statuses print what is this project's own): with
-/// `Done` it is the whole text of the history, the summary at its end; with `Document`, `Read` and
-/// `NotYet` the lines of the commands done before; with `Limit` also those of the entries that the
-/// last command still made; with `Memory` and `Write` a prefix of such lines or of the whole text,
-/// perhaps all of it.
+/// `Done` it is the whole text of the run, the summary at its end; with `Document`, `Read`, `Disk` and `Checkpoint` the
+/// lines of the commands done before; with `Limit` also those of the entries that the last command still made; with
+/// `Memory` and `Write` a prefix of such lines or of the whole text, perhaps all of it.
 ///
-/// With each status that prints: each command that was done is of a supported form, its searches are those
-/// within the budget of the option, and the history has at most as many entries as the option says. It is legal
-/// and true: each grant is an allocation, each verdict is true at its index, and at no index does a device have
-/// two holders. Each Schedule that is a single command is never refused by the check of its plan, in conflict or
-/// contended, and is complete: if its pod is there and Idle as it begins, the pod is bound to the first node by
-/// name that fits within the budget, or its one entry is the verdict that says why not.
-pub fn run<R: AllocGlobal + Threads + Wait + Sync, S: Source, K: Sink, G: Gate + Sync>(
+/// The lines of the kubelet's commands are those of its rule over its table, the claims and their users as the state is
+/// at that command, the node, and what the driver returned. If the disk exposes its contents, the table begins as that of
+/// the bytes that were found. If the driver exposes its calls, they are those that the rule asks for in the commands that
+/// were done, in order, and with `Memory` and `Disk` perhaps some more of the command that met the error. There are at
+/// most as many lines with `DriverFault` as the driver's count of errors rose by, unless that is at its maximum.
+///
+/// With each status that prints: the searches are those within the budget of the option, and the history has at most as
+/// many entries as the option says. It is legal and true: each grant is an allocation, each verdict is true at its index,
+/// and at no index does a device have two holders. Each Schedule that is a single command is never refused by the check
+/// of its plan, in conflict or contended, and is complete: if its pod is there and Idle as it begins, the pod is bound to
+/// the first node by name that fits within the budget, or its one entry is the verdict that says why not.
+///
+/// # Exercise
+///
+/// The script is generated from a number, and has as many pods as the options say; what it asks for is done by one worker
+/// with the options that a replay has if none is given. The input, the disk and the driver stay as they were. If the
+/// output exposes what was written: with `Done` it is the summary of a legal history that is the run of the script's
+/// commands; with `Memory` and `Write` a prefix of such a summary. There are no other statuses.
+pub fn run<
+    R: AllocGlobal + Threads + Wait + Sync,
+    S: Source,
+    K: Sink,
+    D: Disk,
+    V: Driver,
+    G: Gate + Sync,
+>(
     rt: &R,
     words: &Vec<String>,
     input: &mut S,
     output: &mut K,
+    disk: D,
+    driver: &mut V,
     gate: &G,
-) -> Status
-    ensures usage { result ≡ Status.Usage ↔ options_of (map string_bytes words.now.items) ≡ None }
-    ensures usage_input { result ≡ Status.Usage → input.new ≡ input.old }
-    ensures usage_output { result ≡ Status.Usage → output.new ≡ output.old }
-    ensures done { result ≡ Status.Done → AsksFor (map string_bytes words.now.items) (λ o. Replayed o (S.left input.old) (K.written output.old) (K.written output.new)) }
-    ensures all_read { result ≡ Status.Done → IsAtEnd (S.left input.new) }
-    ensures document { (at : ℕ) (why : Rejection) → result ≡ Status.Document at why → AsksFor (map string_bytes words.now.items) (λ o. ReplayedTo o (Bad at why) (S.left input.old) (K.written output.old) (K.written output.new)) }
-    ensures memory { result ≡ Status.Memory → AsksFor (map string_bytes words.now.items) (λ o. ReplayedShort o (S.left input.old) (K.written output.old) (K.written output.new)) }
-    ensures read { result ≡ Status.Read → Rose (S.faults input.old) (S.faults input.new) }
-    ensures read_prints { result ≡ Status.Read → AsksFor (map string_bytes words.now.items) (λ o. ReplayedRead o (S.left input.old) (S.left input.new) (K.written output.old) (K.written output.new)) }
-    ensures faultless_input { (result ≡ Status.Read → ⊥) → S.faults input.new ≡ S.faults input.old }
-    ensures write { result ≡ Status.Write → Rose (K.faults output.old) (K.faults output.new) }
-    ensures write_prints { result ≡ Status.Write → AsksFor (map string_bytes words.now.items) (λ o. ReplayedShort o (S.left input.old) (K.written output.old) (K.written output.new)) }
-    ensures faultless_output { (result ≡ Status.Write → ⊥) → K.faults output.new ≡ K.faults output.old }
-    ensures limit { (count : ℕ) → result ≡ Status.Limit count → AsksFor (map string_bytes words.now.items) (λ o. ReplayedFull o count (S.left input.old) (K.written output.old) (K.written output.new) ⊎ ((count ≡ most_input) × ReplayedTo o Long (S.left input.old) (K.written output.old) (K.written output.new))) }
-    ensures not_yet { (at : ℕ) (form : Form) → result ≡ Status.NotYet at form → AsksFor (map string_bytes words.now.items) (λ o. ReplayedNotYet o at form (S.left input.old) (K.written output.old) (K.written output.new)) }
+) -> (D, Status)
+    ensures usage { (result.1 ≡ Status.Memory → ⊥) → (result.1 ≡ Status.Usage ↔ asked_of (map string_bytes words.now.items) ≡ None) }
+    ensures usage_input { asked_of (map string_bytes words.now.items) ≡ None → input.new ≡ input.old }
+    ensures usage_output { asked_of (map string_bytes words.now.items) ≡ None → output.new ≡ output.old }
+    ensures usage_disk { asked_of (map string_bytes words.now.items) ≡ None → result.0 ≡ disk }
+    ensures usage_driver { asked_of (map string_bytes words.now.items) ≡ None → driver.new ≡ driver.old }
+    ensures replays { (o : ReplayOptions) → asked_of (map string_bytes words.now.items) ≡ Some (Replay o) → ReplaysSo o (S.left input.old) (S.left input.new) (K.written output.old) (K.written output.new) (D.content disk) (D.content result.0) (V.calls driver.old) (V.calls driver.new) (V.faults driver.old) (V.faults driver.new) result.1 }
+    ensures all_read { (o : ReplayOptions) → asked_of (map string_bytes words.now.items) ≡ Some (Replay o) → result.1 ≡ Status.Done → IsAtEnd (S.left input.new) }
+    ensures untouched { (o : ReplayOptions) → asked_of (map string_bytes words.now.items) ≡ Some (Replay o) → HasNone o.attempts (S.left input.old) → result.0 ≡ disk }
+    ensures exercises { (w : ExerciseWords) → asked_of (map string_bytes words.now.items) ≡ Some (Exercise w) → Prints w.from w.pods (K.written output.old) (K.written output.new) result.1 }
+    ensures exercise_input { (w : ExerciseWords) → asked_of (map string_bytes words.now.items) ≡ Some (Exercise w) → input.new ≡ input.old }
+    ensures exercise_disk { (w : ExerciseWords) → asked_of (map string_bytes words.now.items) ≡ Some (Exercise w) → result.0 ≡ disk }
+    ensures exercise_driver { (w : ExerciseWords) → asked_of (map string_bytes words.now.items) ≡ Some (Exercise w) → driver.new ≡ driver.old }
+    ensures read { result.1 ≡ Status.Read → Rose (S.faults input.old) (S.faults input.new) }
+    ensures faultless_input { (result.1 ≡ Status.Read → ⊥) → S.faults input.new ≡ S.faults input.old }
+    ensures write { result.1 ≡ Status.Write → Rose (K.faults output.old) (K.faults output.new) }
+    ensures faultless_output { (result.1 ≡ Status.Write → ⊥) → K.faults output.new ≡ K.faults output.old }
+    ensures disk { result.1 ≡ Status.Disk → Rose (D.faults disk) (D.faults result.0) }
+    ensures faultless_disk { (result.1 ≡ Status.Disk → ⊥) → D.faults result.0 ≡ D.faults disk }
 {
     runs_are_true();
-    match options_of(words) {
-        Some(options) => replay(rt, options, input, output, gate),
-        None => Status::Usage,
+    match asked(rt.alloc(), words) {
+        Ok(asked) => match asked {
+            Some(task) => match task {
+                Task::Replay(options) => replay(rt, &options, input, output, disk, driver, gate),
+                Task::Exercise(words) => {
+                    let status = exercise(rt, words.from, words.pods, output);
+                    (disk, status)
+                }
+            },
+            None => (disk, Status::Usage),
+        },
+        Err(_) => (disk, Status::Memory),
     }
 }
 
@@ -84,7 +126,8 @@ pub fn exit_number(status: Status) -> u8
         Status::Memory => 4,
         Status::Read => 5,
         Status::Write => 6,
+        Status::Disk => 7,
         Status::Limit(_) => 8,
-        Status::NotYet(_, _) => 11,
+        Status::Checkpoint(_) => 10,
     }
 }

@@ -88,6 +88,7 @@ fn varied_by(verb: &str) -> Option<Varied> {
         "pieces" => Some(Varied::Pieces),
         "read-faults" => Some(Varied::FailRead),
         "write-faults" => Some(Varied::FailWrite),
+        "disk-faults" => Some(Varied::FailDisk),
         "limits" => Some(Varied::Entries),
         _ => None,
     }

@@ -17,6 +17,15 @@ pub struct Options {
     pub fail_read: u64,
     /// The number of the write that fails, from 1, or 0.
     pub fail_write: u64,
+    /// The kubelet's node is `n` and this number; 0 for none.
+    pub node: u64,
+    /// The number of the disk's call that fails, from 1, or 0.
+    pub fail_disk: u64,
+    /// The number of the driver's call that fails, from 1, or 0.
+    pub fail_driver: u64,
+    /// The checkpoint as it is found: the first so many bytes of one of version 1, which has 113 and begins a claim; one of
+    /// version 1 without records if this is 1, and another program's file if it is over 113.
+    pub found: u64,
     /// The job that waits where it is held, until the job `until` has ended; 0 for none.
     pub held: u64,
     /// Where it is held: once it has searched, or, if this isn't 0, once it has reserved.
@@ -39,6 +48,10 @@ impl Options {
             takes: u64::MAX,
             fail_read: 0,
             fail_write: 0,
+            node: 0,
+            fail_disk: 0,
+            fail_driver: 0,
+            found: 0,
             held: 0,
             reserved: 0,
             until: 0,
@@ -81,6 +94,22 @@ impl Options {
             }),
             "fail-write" => Some(Options {
                 fail_write: number,
+                ..self
+            }),
+            "node" => Some(Options {
+                node: number,
+                ..self
+            }),
+            "fail-disk" => Some(Options {
+                fail_disk: number,
+                ..self
+            }),
+            "fail-driver" => Some(Options {
+                fail_driver: number,
+                ..self
+            }),
+            "found" => Some(Options {
+                found: number,
                 ..self
             }),
             "held" => Some(Options {

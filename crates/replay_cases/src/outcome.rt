@@ -1,6 +1,11 @@
+ghost use Rattle.std.specs.Prelude.{◌<◌, ◌≤◌, ◌^◌, IfOk};
+
 use crate::options::Options;
 use crate::ports::{Input, Output};
 use dra_ports::{HoldGate, Point, PortError, read_all};
+use dra_values::Text;
+use mem_disk::MemDisk;
+use prepare_core::{CallKind, MemDriver};
 use replay_core::{ReplayOptions, Status, replay};
 use std::alloc::{AllocError, Global};
 use std::sync::Wait;
@@ -15,6 +20,7 @@ pub struct Outcome {
     read_faults: u64,
     gave_up: bool,
     pub output: Output,
+    node: String,
 }
 
 /// How many bytes no read had returned, which are read at the end.
@@ -60,7 +66,119 @@ fn left_text(alloc: Global, left: Left) -> Result<String, AllocError> {
 /// No history may have room for this many entries.
 const ENTRIES_BOUND: u64 = 281_474_976_710_656;
 
-/// Runs a script, by 1 to 64 workers. A read returns at least one byte and a write takes at least one.
+/// The name of the kubelet's node, which is empty for the number 0.
+fn node_name(alloc: Global, number: u64) -> Result<Text, AllocError> {
+    if number == 0 {
+        Text::from_str(alloc, "")
+    } else {
+        let name = format!(in alloc; "n{number}")?;
+        Text::new(alloc, name)
+    }
+}
+
+/// A checkpoint of version 1 that has begun the claim `default/c` for the pod `default/p`, whose uid ends with 5.
+const OLD: &[u8] = b"DRAKCKPT\0\0\0\0\0\0\0\0Z\0\0\0[\x01\0\x2400000000-0000-4000-8000-000000000005\
+    \0\x09default/c\0\x01\0\x09default/p\0\x01\0\x18gpu.example.com/n2/gpu-0\0";
+
+/// One without records.
+const OLD_EMPTY: &[u8] = b"DRAKCKPT\0\0\0\0\0\0\0\0\0";
+
+/// The first bytes of another program's file.
+const OTHER: &[u8] = b"SQLite format 3\0";
+
+/// The bytes of the checkpoint as it is found.
+fn found_bytes(found: u64) -> &'static [u8] {
+    if found == 1 {
+        return OLD_EMPTY;
+    }
+    OLD.get(..found as usize).unwrap_or(OTHER)
+}
+
+/// The disk as it is found.
+fn disk_of(alloc: Global, options: Options) -> Result<MemDisk, AllocError> {
+    let failing = vec![in alloc; options.fail_disk]?;
+    let bytes = Vec::from_slice(alloc, found_bytes(options.found))?;
+    MemDisk::new(alloc, bytes, failing)
+}
+
+/// What the driver was asked and how many bytes the disk holds, if it wasn't left as it was found and didn't fail: a
+/// letter for each call, P to prepare and U to take back, with `!` after one that failed.
+fn node_text(
+    alloc: Global,
+    status: Status,
+    disk: &MemDisk,
+    driver: &MemDriver,
+    found: usize,
+) -> Result<String, AllocError> {
+    let mut text = String::new(alloc);
+    if status == Status::Disk || (disk.bytes().len() == found && driver.calls().is_empty()) {
+        return Ok(text);
+    }
+    text.push_str(", driver ")?;
+    for call in driver.calls() {
+        let letter = match call.kind {
+            CallKind::Prepare => "P",
+            CallKind::Unprepare => "U",
+        };
+        text.push_str(letter)?;
+        if !call.ok {
+            text.push_str("!")?;
+        }
+    }
+    if driver.calls().is_empty() {
+        text.push_str("-")?;
+    }
+    let bytes = format!(in alloc; ", disk {}", disk.bytes().len())?;
+    text.push_str(bytes.as_str())?;
+    Ok(text)
+}
+
+/// How a script is replayed: by 1 to 64 workers.
+fn replay_options(alloc: Global, options: Options) -> Result<ReplayOptions, AllocError>
+    ensures workers { IfOk result (λ o. (0 < o.workers) × (o.workers ≤ 64)) }
+    ensures entries { IfOk result (λ o. o.entries < 2 ^ 48) }
+    ensures attempts { IfOk result (λ o. 0 < o.attempts) }
+{
+    let node = node_name(alloc, options.node)?;
+    Ok(ReplayOptions {
+        workers: options.workers.clamp(1, 64),
+        budget: options.budget,
+        attempts: options.attempts.max(1),
+        entries: options.entries.min(ENTRIES_BOUND - 1),
+        node,
+    })
+}
+
+/// The gate that holds two jobs as the options say.
+fn gate_of(options: Options) -> HoldGate {
+    let point = if options.reserved == 0 {
+        Point::Searched
+    } else {
+        Point::Reserved
+    };
+    HoldGate::new(options.held, point, options.until, options.turns)
+}
+
+/// Replays a script over a disk, and returns the status and what became of the disk and the driver.
+fn replay_over<R: AllocGlobal + Threads + Wait + Sync>(
+    rt: &R,
+    how: &ReplayOptions,
+    input: &mut Input,
+    output: &mut Output,
+    disk: MemDisk,
+    driver: &mut MemDriver,
+    gate: &HoldGate,
+) -> (Status, Result<String, AllocError>)
+    requires workers { (0 < how.now.workers) × (how.now.workers ≤ 64) }
+    requires entries { how.now.entries < 2 ^ 48 }
+    requires attempts { 0 < how.now.attempts }
+{
+    let found = disk.bytes().len();
+    let (disk, status) = replay(rt, how, input, output, disk, driver, gate);
+    (status, node_text(rt.alloc(), status, &disk, driver, found))
+}
+
+/// Runs a script. A read returns at least one byte and a write takes at least one.
 pub fn run_once<R: AllocGlobal + Threads + Wait + Sync>(
     rt: &R,
     script: &[u8],
@@ -69,23 +187,16 @@ pub fn run_once<R: AllocGlobal + Threads + Wait + Sync>(
     let alloc = rt.alloc();
     let takes = (options.takes as usize).max(1);
     let pieces = (options.pieces as usize).max(1);
-    let how = ReplayOptions {
-        workers: options.workers.clamp(1, 64),
-        budget: options.budget,
-        attempts: options.attempts.max(1),
-        entries: options.entries.min(ENTRIES_BOUND - 1),
-    };
+    let how = replay_options(alloc, options)?;
+    let mut driver = MemDriver::new(alloc, vec![in alloc; options.fail_driver]?);
     let Ok(mut output) = Output::new(alloc, takes, options.fail_write) else {
         return Err(AllocError);
     };
     let mut input = Input::new(alloc, script, pieces, options.fail_read)?;
-    let point = if options.reserved == 0 {
-        Point::Searched
-    } else {
-        Point::Reserved
-    };
-    let gate = HoldGate::new(options.held, point, options.until, options.turns);
-    let status = replay(rt, how, &mut input, &mut output, &gate);
+    let disk = disk_of(alloc, options)?;
+    let gate = gate_of(options);
+    let (status, node) = replay_over(rt, &how, &mut input, &mut output, disk, &mut driver, &gate);
+    let node = node?;
     let reads = input.reads;
     let read_faults = input.faults;
     let left = left_in(alloc, &mut input)?;
@@ -96,6 +207,7 @@ pub fn run_once<R: AllocGlobal + Threads + Wait + Sync>(
         read_faults,
         gave_up: gate.gave_up(),
         output,
+        node,
     })
 }
 
@@ -108,8 +220,9 @@ fn status_text(alloc: Global, status: Status) -> Result<String, AllocError> {
         Status::Memory => format!(in alloc; "4 memory"),
         Status::Read => format!(in alloc; "5 read"),
         Status::Write => format!(in alloc; "6 write"),
+        Status::Disk => format!(in alloc; "7 disk"),
         Status::Limit(count) => format!(in alloc; "8 limit {count}"),
-        Status::NotYet(at, _) => format!(in alloc; "11 not-yet {at}"),
+        Status::Checkpoint(at) => format!(in alloc; "10 checkpoint {at}"),
     }
 }
 
@@ -120,7 +233,8 @@ impl Outcome {
         let read_faults = self.read_faults;
         let write_faults = self.output.faults;
         let waited = if self.gave_up { ", waited in vain" } else { "" };
-        format!(in alloc; "{status}, faults {read_faults} {write_faults}{waited}")
+        let node = &self.node;
+        format!(in alloc; "{status}, faults {read_faults} {write_faults}{waited}{node}")
     }
 
     /// Prints the outcome with the whole output.

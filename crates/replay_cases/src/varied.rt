@@ -17,6 +17,8 @@ pub enum Varied {
     FailRead,
     /// The write that fails: each of those of a run, and one more.
     FailWrite,
+    /// The disk's call that fails: each from 1 to that of the options.
+    FailDisk,
     /// The most entries: each from 0 to that of the options.
     Entries,
 }
@@ -39,6 +41,7 @@ fn numbers<R: AllocGlobal + Threads + Wait + Sync>(
             let writes = run_once(rt, script, options)?.output.writes;
             Ok((1, writes.saturating_add(1)))
         }
+        Varied::FailDisk => Ok((1, options.fail_disk)),
         Varied::Entries => Ok((0, options.entries)),
     }
 }
@@ -59,10 +62,22 @@ fn options_of(varied: Varied, options: Options, number: u64) -> Options {
             fail_write: number,
             ..options
         },
+        Varied::FailDisk => Options {
+            fail_disk: number,
+            ..options
+        },
         Varied::Entries => Options {
             entries: number,
             ..options
         },
+    }
+}
+
+/// The options of the run that isn't varied, whose disk doesn't fail.
+fn unfailing(varied: Varied, options: Options) -> Options {
+    match varied {
+        Varied::FailDisk => options_of(varied, options, 0),
+        _ => options,
     }
 }
 
@@ -94,7 +109,7 @@ pub fn run_varied<R: AllocGlobal + Threads + Wait + Sync>(
     options: Options,
     out: &mut Vec<u8>,
 ) -> Result<(), AllocError> {
-    let whole = text_of(rt, alloc, script, options)?;
+    let whole = text_of(rt, alloc, script, unfailing(varied, options))?;
     let (first, last) = numbers(rt, varied, script, options)?;
     let mut report = Report::new(alloc);
     for number in first..=last {

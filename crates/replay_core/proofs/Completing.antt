@@ -98,10 +98,7 @@ all_of n (e ∷ es) own =
 one_of : (n : ℕ) (o : Command) (budget : ℕ) (before segment : List Entry) → SegmentRun n (One o) budget before segment
     → AllOwn n 1 segment × JobRun (run_after (n + 1) o budget before) (before ++ segment)
 unfolding AllRun
-one_of n o budget before segment run =
-    let same : run.commands ≡ o ∷ [] = sym (cc (run.commands_are)) in
-    let runs : AllRun budget n before (o ∷ []) (before ++ segment) = subst (λ (cs : List Command). AllRun budget n before cs (before ++ segment)) same run.run in
-    (subst (λ (cs : List Command). AllOwn n (length cs) segment) same run.own, runs.0)
+one_of n o budget before segment run = (run.own, run.run.0)
 
 -- a job's entries that are the last ones are of it alone
 alone_past : AloneLaw → (n : ℕ) (before segment : List Entry) → AllOwn n 1 segment → Alone (n + 1) (length before) (before ++ segment)
@@ -121,10 +118,7 @@ kept_of c h (inr begun) = begun.kept
 one_begun : (n : ℕ) (o : Command) (budget : ℕ) (before segment : List Entry) → SegmentBegun n (One o) budget before segment
     → AllOwn n 1 segment × JobKept (run_after (n + 1) o budget before) (before ++ segment)
 unfolding AllBegun
-one_begun n o budget before segment begun =
-    let same : begun.commands ≡ o ∷ [] = sym (cc (begun.commands_are)) in
-    let each : AllBegun budget n before (o ∷ []) (before ++ segment) = subst (λ (cs : List Command). AllBegun budget n before cs (before ++ segment)) same begun.each in
-    (subst (λ (cs : List Command). AllOwn n (length cs) segment) same begun.own, kept_of (run_after (n + 1) o budget before) (before ++ segment) each.0)
+one_begun n o budget before segment begun = (begun.own, kept_of (run_after (n + 1) o budget before) (before ++ segment) begun.each.0)
 
 pub undisturbed_part : AloneLaw → UndisturbedLaw → (n : ℕ) (o : Command) (budget : ℕ) (before segment : List Entry) → Legal (before ++ segment) → SegmentBegun n (One o) budget before segment
     → NeverSetBack (n + 1) (before ++ segment)

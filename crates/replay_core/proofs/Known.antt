@@ -1,6 +1,6 @@
 -- Bytes that are known, or not.
 use Rattle.std.proofs.Common.{ℕ, suc, ◌+◌, ◌≡◌, ◌∙◌, List, [], ◌∷◌, ◌++◌, length, take, refl, sym, ap, subst, arith, append_assoc, append-nil}
-use Rattle.std.specs.Prelude.{Option, None, Some}
+use Rattle.std.specs.Prelude.{Option, None, Some, Result, Ok, Err, IfErr, OnOk}
 use Rattle.std.specs.Io.KnownBytes.{Appends, Consumes, IsAtEnd}
 use Rattle.std.proofs.lemmas.List.{take_all}
 use Rattle.dra_ports.specs.Prefixes.{AppendsPrefix}
@@ -55,3 +55,22 @@ rest_of (Some xs) (Some ys) taken bytes p e = let s : xs ≡ bytes = cc in (ys, 
 pub rest_at_end : (now : Option (List ℕ)) (rest : List ℕ) → now ≡ Some rest → IsAtEnd now → rest ≡ []
 rest_at_end None rest e end = absurd (cc)
 rest_at_end (Some ys) rest e end = let s : ys ≡ rest = cc in sym s ∙ end
+
+-- ---- results
+
+-- what holds of Ok, and of an error
+pub ok_then : {A E : Type 0} (r : Result A E) (x : A) (Q : Type 0) → r ≡ Ok x → OnOk r Q → Q
+ok_then (Ok y) x Q is q = q
+ok_then (Err e) x Q is q = absurd (cc)
+
+pub err_then : {A E : Type 0} (r : Result A E) (e : E) (P : E → Type 0) → r ≡ Err e → IfErr r P → P e
+err_then (Ok y) e P is p = absurd (cc)
+err_then (Err d) e P is p = let same : d ≡ e = cc (is) in subst P same p
+
+pub on_ok : {A E : Type 0} (r : Result A E) (P Q : Type 0) → (P → Q) → OnOk r P → OnOk r Q
+on_ok (Ok x) P Q f p = f p
+on_ok (Err e) P Q f p = tt
+
+pub if_err : {A E : Type 0} (r : Result A E) (P Q : E → Type 0) → ((e : E) → P e → Q e) → IfErr r P → IfErr r Q
+if_err (Ok x) P Q f p = tt
+if_err (Err e) P Q f p = f e p

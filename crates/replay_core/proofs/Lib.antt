@@ -2,6 +2,7 @@ pub mod Counting
 pub mod Orders
 pub mod Stopping
 pub mod Known
+pub mod Showing
 pub mod Running
 pub mod Scripts
 pub mod Ending
@@ -9,3 +10,9 @@ pub mod Turns
 pub mod Searched
 pub mod Completing
 pub mod Trying
+pub mod Slashless
+pub mod NodeDevices
+pub mod StatesRead
+pub mod OneOfKubelet
+pub mod Asking
+pub mod Printing

@@ -1,5 +1,5 @@
 -- Jobs that were run over a ledger, as those of what is asked for.
-use Rattle.std.proofs.Common.{ℕ, ◌+◌, ◌≤◌, ◌<◌, List, [], ◌∷◌, ◌++◌, ◌≡◌, ◌∙◌, ◌⊎◌, inl, inr, Bool, true, false, length, refl, sym, ap, arith, subst}
+use Rattle.std.proofs.Common.{ℕ, ◌+◌, ◌≤◌, ◌<◌, List, [], ◌∷◌, ◌++◌, ◌≡◌, ◌∙◌, ◌⊎◌, inl, inr, Bool, true, false, length, refl, sym, ap, arith, subst, append-nil}
 use Rattle.std.proofs.lemmas.Bool.{eqb-true, ne_eqb}
 use Rattle.std.specs.Prelude.{nat_eq, ◌||◌}
 use Rattle.std.specs.List.{list_any}
@@ -9,13 +9,15 @@ use Rattle.cluster.specs.declared.entry.JobState.TheVariants as job_state
 use Rattle.cluster.specs.History.{job_state_of}
 use Rattle.ledger_core.specs.Ledger.{History}
 use Rattle.commands.specs.declared.command.Command.{Command}
-use Rattle.commands.specs.declared.given.Given.TheVariants.{One, Together}
+use Rattle.commands.specs.declared.given.Given.{Given}
+use Rattle.commands.specs.declared.given.Given.TheVariants.{One, Together, Prepare, Unprepare, Reopen}
 use Rattle.histories.specs.JobRuns.{JobBegun, JobRun, is_ended}
 use Rattle.sched_job.specs.declared.work.Work.{Work}
 use Rattle.sched_job.specs.Steps.{AllEnds, AllNew, AllOf, Differ, Extends, jobs_of}
 use Rattle.job_crew.specs.Together.{AllEnded, RanTogether, SomeOpen}
 use Rattle.replay_core.specs.Attempts.{AllTry}
 use Rattle.replay_core.specs.Doing.{Met, Ran, works_from}
+use Rattle.replay_core.specs.Forms.{is_of_kubelet}
 use Rattle.replay_core.specs.Jobs.{AllBegun, AllOwn, AllRun, SomeBegun, run_after}
 
 either : (a b : Bool) → (a || b) ≡ true → (a ≡ true) ⊎ (b ≡ true)
@@ -40,6 +42,20 @@ same_history : (old new : History) (segment : List Entry) → new.entries ≡ ol
 same_history old new segment is limit =
     ap (λ (xs : List Entry). record new { entries = xs }) is ∙ ap (λ (n : ℕ). record old { entries = old.entries ++ segment; limit = n }) limit
 
+-- ---- a command of the kubelet
+
+same_entries : (h : History) → h ≡ record h { entries = h.entries ++ [] }
+same_entries h = ap (λ (xs : List Entry). record h { entries = xs }) (sym (append-nil h.entries))
+
+-- it has no job, so it was run with no entry
+pub ran_nothing : (n : ℕ) (g : Given) (budget : ℕ) (h : History) → is_of_kubelet g ≡ true → Ran n g budget h h
+unfolding AllOwn AllRun
+ran_nothing n (One c) budget h kubelet = absurd (cc)
+ran_nothing n (Together cs) budget h kubelet = absurd (cc)
+ran_nothing n (Prepare pod) budget h kubelet = record { segment = []; is = same_entries h; run = record { own = tt; run = tt } }
+ran_nothing n (Unprepare pod) budget h kubelet = record { segment = []; is = same_entries h; run = record { own = tt; run = tt } }
+ran_nothing n Reopen budget h kubelet = record { segment = []; is = same_entries h; run = record { own = tt; run = tt } }
+
 -- ---- a job that runs alone
 
 -- to its end
@@ -51,8 +67,6 @@ ran_alone n c budget old new extends limit run =
       segment = extends.added;
       is = same_history old new extends.added extends.now limit;
       run = record {
-        commands = c ∷ [];
-        commands_are = refl;
         own = own_of n (c ∷ []) extends.added extends.of_jobs;
         run = (subst (λ (h : List Entry). JobRun (run_after (n + 1) c budget old.entries) h) extends.now run, tt);
       };
@@ -68,8 +82,6 @@ met_alone n c budget old new count extends limit begun is full =
       segment = extends.added;
       is = same_history old new extends.added extends.now limit;
       begun = record {
-        commands = c ∷ [];
-        commands_are = refl;
         own = own_of n (c ∷ []) extends.added extends.of_jobs;
         each = (inr part, tt);
         some = inl part;
@@ -136,8 +148,6 @@ ran_from n cs budget old new ran ended =
       segment = ran.extends.added;
       is = same_history old new ran.extends.added ran.extends.now ran.limit;
       run = record {
-        commands = cs;
-        commands_are = refl;
         own = own_of n cs ran.extends.added ran.extends.of_jobs;
         run = subst (λ (h : List Entry). AllRun budget n old.entries cs h) ran.extends.now (all_run budget n old.entries cs new.entries ran.ends ended);
       };
@@ -151,8 +161,6 @@ met_from n cs budget old new count ran is full some =
       segment = ran.extends.added;
       is = same_history old new ran.extends.added ran.extends.now ran.limit;
       begun = record {
-        commands = cs;
-        commands_are = refl;
         own = own_of n cs ran.extends.added ran.extends.of_jobs;
         each = subst (λ (h : List Entry). AllBegun budget n old.entries cs h) ran.extends.now (all_begun budget n old.entries cs new.entries ran.ends);
         some = subst (λ (h : List Entry). SomeBegun budget n old.entries cs h) ran.extends.now (some_begun budget n old.entries cs new.entries ran.ends some);

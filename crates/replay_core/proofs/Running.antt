@@ -1,30 +1,28 @@
 -- One command more.
-use Rattle.std.proofs.Common.{ℕ, ◌+◌, ◌^◌, ◌<◌, ◌≡◌, ◌∙◌, List, [], ◌∷◌, ◌++◌, length, refl, sym, ap, subst, arith, append_assoc, append-nil, length-append}
-use Rattle.std.specs.Prelude.{Option, Ok, drop}
-use Rattle.std.specs.Io.KnownBytes.{Appends}
+use Rattle.std.proofs.Common.{ℕ, ◌+◌, ◌^◌, ◌<◌, ◌≤◌, ◌≡◌, ◌∙◌, false, List, [], ◌∷◌, ◌++◌, length, refl, sym, ap, subst, arith, append_assoc, append-nil, length-append}
+use Rattle.std.proofs.lemmas.List.{append_cancel_left}
+use Rattle.std.specs.Prelude.{Option, None}
 use Rattle.cluster.specs.declared.entry.Entry.{Entry}
 use Rattle.ledger_core.specs.Ledger.{History}
+use Rattle.cluster.specs.declared.entry.JobState.TheVariants.{Fresh}
 use Rattle.cluster.specs.History.{job_state_of}
-use Rattle.journal_text.specs.Journal.{lines_from}
-use Rattle.commands.specs.declared.command.Command.{Command}
 use Rattle.commands.specs.declared.given.Given.{Given}
 use Rattle.commands.specs.declared.given.Given.TheVariants as given
+use Rattle.pod_prepare.specs.Words.{TellsStill}
 use Rattle.replay_core.specs.declared.work.Work.{Work}
 use Rattle.replay_core.specs.Script.{at_each, commands_of}
 use Rattle.replay_core.specs.declared.options.ReplayOptions.{ReplayOptions}
-use Rattle.replay_core.specs.Forms.{count_of, members, width}
-use Rattle.replay_core.specs.Jobs.{RunFrom, RunOf, SegmentRun}
-use Rattle.replay_core.specs.Lines.{Did, RanNext, new_lines}
-use Rattle.replay_core.specs.Replay.{IsRun}
+use Rattle.replay_core.specs.Forms.{count_of, is_of_kubelet, kubelet_count, members, width}
+use Rattle.replay_core.specs.Jobs.{AllOwn, RunFrom, RunOf, SegmentRun}
+use Rattle.replay_core.specs.Kubelet.{IsShown, Node}
+use Rattle.replay_core.specs.Lines.{Did, RanNext, ShownNext}
+use Rattle.replay_core.specs.Replay.{IsDone, IsRun}
 use Rattle.replay_core.specs.Progress.{IsReady, IsSound, Standing}
 use Rattle.replay_core.specs.Turns.{StandsOn}
 use Rattle.replay_core.proofs.Counting.{StandLaw, jobs_few, own_only}
 use Rattle.replay_core.proofs.Known.{appends_more}
 use Rattle.replay_core.proofs.Scripts.{at_each_joined}
-
--- the law of lines, which the call of a lower crate states
-abbrev pub LinesLaw : Type 0
-LinesLaw = (n : ℕ) (xs ys : List Entry) → lines_from n (xs ++ ys) ≡ lines_from n xs ++ lines_from (n + length xs) ys
+use Rattle.replay_core.proofs.Showing.{shown_more, untouched_more}
 
 RunFrom-more : (b n : ℕ) (before : List Entry) (cs : List Given) (mid : List Entry) (c : Given) (seg : List Entry)
     → RunFrom b n before cs mid → SegmentRun (n + count_of cs) c b mid seg → RunFrom b n before (cs ++ c ∷ []) (mid ++ seg)
@@ -36,9 +34,18 @@ RunFrom-more b n before (d ∷ ds) mid c seg r run =
     let eq : n + count_of (d ∷ ds) ≡ n + width d + count_of ds = omega arith in
     (r.0, r.1, RunFrom-more b (n + width d) (before ++ r.0) ds mid c seg r.2 (subst (λ (k : ℕ). SegmentRun k c b mid seg) eq run))
 
+-- ---- commands and their counts
+
+pub commands_joined : (done more : List (ℕ × Given)) → commands_of (done ++ more) ≡ commands_of done ++ commands_of more
+commands_joined [] more = refl
+commands_joined (d ∷ ds) more = ap (λ (l : List Given). d.1 ∷ l) (commands_joined ds more)
+
 commands_more : (done : List (ℕ × Given)) (at : ℕ) (c : Given) → commands_of (done ++ (at, c) ∷ []) ≡ commands_of done ++ c ∷ []
-commands_more [] at c = refl
-commands_more (d ∷ ds) at c = ap (λ (l : List Given). d.1 ∷ l) (commands_more ds at c)
+commands_more done at c = commands_joined done ((at, c) ∷ [])
+
+pub commands_each : (at : ℕ) (cs : List Given) → commands_of (at_each at cs) ≡ cs
+commands_each at [] = refl
+commands_each at (c ∷ cs) = ap (λ (l : List Given). c ∷ l) (commands_each at cs)
 
 count_joined : (gs : List Given) (c : Given) → count_of (gs ++ c ∷ []) ≡ count_of gs + width c
 count_joined [] c = omega arith
@@ -47,16 +54,52 @@ count_joined (g ∷ gs) c = omega (arith, count_joined gs c)
 count_more : (done : List (ℕ × Given)) (at : ℕ) (c : Given) → count_of (commands_of (done ++ (at, c) ∷ [])) ≡ count_of (commands_of done) + width c
 count_more done at c = ap count_of (commands_more done at c) ∙ count_joined (commands_of done) c
 
--- what is asked for is as many commands as its members
-width_is : (g : Given) (cs : List Command) → members g ≡ Ok cs → width g ≡ length cs
-width_is (given.One c) cs is = let same : c ∷ [] ≡ cs = cc (is) in ap (λ (l : List Command). length l) same
-width_is (given.Together xs) cs is = let same : xs ≡ cs = cc (is) in ap (λ (l : List Command). length l) same
-width_is (given.Prepare pod) cs is = absurd (cc)
-width_is (given.Unprepare pod) cs is = absurd (cc)
-width_is given.Reopen cs is = absurd (cc)
+pub kubelet_joined : (gs hs : List Given) → kubelet_count (gs ++ hs) ≡ kubelet_count gs + kubelet_count hs
+kubelet_joined [] hs = omega arith
+kubelet_joined (g ∷ gs) hs = omega (arith, kubelet_joined gs hs)
+
+kubelet_more : (done : List (ℕ × Given)) (at : ℕ) (c : Given) → kubelet_count (commands_of (done ++ (at, c) ∷ [])) ≡ kubelet_count (commands_of done) + kubelet_count (c ∷ [])
+kubelet_more done at c = ap kubelet_count (commands_more done at c) ∙ kubelet_joined (commands_of done) (c ∷ [])
+
+-- each command is one of the kubelet, or jobs
+width_few : (g : Given) → length (members g) ≤ width g
+width_few (given.One c) = omega arith
+width_few (given.Together cs) = omega arith
+width_few (given.Prepare pod) = omega arith
+width_few (given.Unprepare pod) = omega arith
+width_few given.Reopen = omega arith
+
+width_is : (g : Given) → width g ≡ length (members g) + kubelet_count (g ∷ [])
+width_is (given.One c) = omega arith
+width_is (given.Together cs) = omega arith
+width_is (given.Prepare pod) = omega arith
+width_is (given.Unprepare pod) = omega arith
+width_is given.Reopen = omega arith
+
+-- where none is of the kubelet
+none_here : (c : Given) → kubelet_count (c ∷ []) ≡ 0 → is_of_kubelet c ≡ false
+none_here (given.One c) none = refl
+none_here (given.Together cs) none = refl
+none_here (given.Prepare pod) none = absurd (cc)
+none_here (given.Unprepare pod) none = absurd (cc)
+none_here given.Reopen none = absurd (cc)
+
+pub none_among : (gs prefix : List Given) (c : Given) (back : List Given) → gs ≡ prefix ++ c ∷ back → kubelet_count gs ≡ 0 → (kubelet_count prefix ≡ 0) × (is_of_kubelet c ≡ false)
+none_among gs prefix c back are none =
+    let first : kubelet_count gs ≡ kubelet_count prefix + kubelet_count (c ∷ back) = ap kubelet_count are ∙ kubelet_joined prefix (c ∷ back) in
+    let second : kubelet_count (c ∷ back) ≡ kubelet_count (c ∷ []) + kubelet_count back = kubelet_joined (c ∷ []) back in
+    (omega (arith, none, first), none_here c (omega (arith, none, first, second)))
+
+-- entries of some jobs are of so many more
+own_wide : (n a b : ℕ) (es : List Entry) → a ≤ b → AllOwn n a es → AllOwn n b es
+unfolding AllOwn
+own_wide n a b [] less own = tt
+own_wide n a b (e ∷ es) less own = (own.0, omega (arith, less, own.1), own_wide n a b es less own.2)
+
+-- ---- the history
 
 -- the run of one command more
-pub RunOf-more : (b : ℕ) (done : List (ℕ × Given)) (mid : List Entry) (at : ℕ) (c : Given) (seg : List Entry) (n : ℕ) → n ≡ count_of (commands_of done)
+RunOf-more : (b : ℕ) (done : List (ℕ × Given)) (mid : List Entry) (at : ℕ) (c : Given) (seg : List Entry) (n : ℕ) → n ≡ count_of (commands_of done)
     → RunOf b (commands_of done) mid → SegmentRun n c b mid seg → RunOf b (commands_of (done ++ (at, c) ∷ [])) (mid ++ seg)
 unfolding RunOf
 RunOf-more b done mid at c seg n is run segment =
@@ -64,80 +107,109 @@ RunOf-more b done mid at c seg n is run segment =
     subst (λ (cs : List Given). RunFrom b 0 [] cs (mid ++ seg)) (sym (commands_more done at c))
     (RunFrom-more b 0 [] (commands_of done) mid c seg run (subst (λ (k : ℕ). SegmentRun k c b mid seg) eq segment))
 
-drop_prefix : (xs ys : List Entry) → drop (length xs) (xs ++ ys) ≡ ys
-drop_prefix [] ys = refl
-drop_prefix (x ∷ xs) ys = drop_prefix xs ys
+grown_by : (options : ReplayOptions) (c : Given) (old new : Work) → (ran : RanNext options c old new) → new.ledger.entries ≡ old.ledger.entries ++ ran.segment
+grown_by options c old new ran = ap (λ (h : History). h.entries) ran.is
 
--- the lines of a history that grew
-pub lines_more : LinesLaw → (old new : History) (seg : List Entry) → new ≡ record old { entries = old.entries ++ seg }
-    → lines_from 0 new.entries ≡ lines_from 0 old.entries ++ new_lines old new
-lines_more law old new seg is =
-    let grown : new.entries ≡ old.entries ++ seg = ap (λ (h : History). h.entries) is in
-    let rest : drop (length old.entries) new.entries ≡ seg = ap (drop (length old.entries)) grown ∙ drop_prefix old.entries seg in
-    let zero : 0 + length old.entries ≡ length old.entries = omega arith in
-    ap (lines_from 0) grown ∙ law 0 old.entries seg
-    ∙ ap (λ (k : ℕ). lines_from 0 old.entries ++ lines_from k seg) zero
-    ∙ ap (λ (l : List Entry). lines_from 0 old.entries ++ lines_from (length old.entries) l) (sym rest)
+limit_kept : (options : ReplayOptions) (c : Given) (old new : Work) → (ran : RanNext options c old new) → new.ledger.limit ≡ old.ledger.limit
+limit_kept options c old new ran = ap (λ (h : History). h.limit) ran.is
 
 -- the history of one command more
-pub run_more : (options : ReplayOptions) (done : List (ℕ × Given)) (at : ℕ) (c : Given) (old new : Work) → IsRun options done old.ledger.entries → old.commands ≡ count_of (commands_of done) → old.ledger.limit ≡ options.entries → IsSound new.ledger
+run_more : (options : ReplayOptions) (done : List (ℕ × Given)) (at : ℕ) (c : Given) (old new : Work) → IsRun options done old.ledger.entries → old.commands ≡ count_of (commands_of done) → old.ledger.limit ≡ options.entries → IsSound new.ledger
     → RanNext options c old new → IsRun options (done ++ (at, c) ∷ []) new.ledger.entries
 run_more options done at c old new run count same sound ran =
-    let grown : new.ledger.entries ≡ old.ledger.entries ++ ran.segment = ap (λ (h : History). h.entries) ran.is in
-    let kept : new.ledger.limit ≡ old.ledger.limit = ap (λ (h : History). h.limit) ran.is in
     record {
-      within = omega (arith, kept, same, sound.within);
+      within = omega (arith, limit_kept options c old new ran, same, sound.within);
       legal = sound.legal;
-      run = subst (λ (h : List Entry). RunOf options.budget (commands_of (done ++ (at, c) ∷ [])) h) (sym grown)
+      run = subst (λ (h : List Entry). RunOf options.budget (commands_of (done ++ (at, c) ∷ [])) h) (sym (grown_by options c old new ran))
           (RunOf-more options.budget done old.ledger.entries at c ran.segment old.commands count run.run ran.run);
     }
 
--- after a command the next may be done
-pub ready_more : StandLaw → (options : ReplayOptions) (c : Given) (old new : Work) (before after : Option (List ℕ)) → IsReady old → Did options c old new before after → IsReady new
-ready_more stands options c old new before after r did =
-    let ran = did.ran in
-    let grown : new.ledger.entries ≡ old.ledger.entries ++ ran.segment = ap (λ (h : History). h.entries) ran.is in
-    let same : new.ledger.limit ≡ old.ledger.limit = ap (λ (h : History). h.limit) ran.is in
-    let wide : width c ≡ length ran.run.commands = width_is c ran.run.commands ran.run.commands_are in
-    let some = jobs_few stands options.budget old.commands old.ledger.entries ran.run.commands ran.segment r.fresh ran.run.run in
-    let longer : length new.ledger.entries ≡ length old.ledger.entries + length ran.segment = ap (λ (h : List Entry). length h) grown ∙ length-append old.ledger.entries ran.segment in
+-- one command more was done, and what it shows comes after what the others show
+pub done_more : (options : ReplayOptions) (found x y : Node) (done : List (ℕ × Given)) (at : ℕ) (c : Given) (old new : Work) (text next : List ℕ) → IsDone options found x done old.ledger.entries text → TellsStill found.content x.content
+    → (x.table ≡ None → x.content ≡ found.content) → old.commands ≡ count_of (commands_of done) → old.ledger.limit ≡ options.entries → IsSound new.ledger → RanNext options c old new → ShownNext options c old new x y next
+    → IsDone options found y (done ++ (at, c) ∷ []) new.ledger.entries (text ++ next)
+done_more options found x y done at c old new text next so still untouched count limit sound ran shown =
+    let same : ran.segment ≡ shown.segment = append_cancel_left old.ledger.entries ran.segment shown.segment (sym (grown_by options c old new ran) ∙ shown.grown) in
+    let own : AllOwn old.commands (width c) shown.segment =
+    subst (λ (es : List Entry). AllOwn old.commands (width c) es) same (own_wide old.commands (length (members c)) (width c) ran.segment (width_few c) ran.run.own) in
     record {
-      fresh = λ job above.
-          ap (λ (h : List Entry). job_state_of h job) grown
-          ∙ own_only stands old.commands (length ran.run.commands) old.ledger.entries ran.segment job (omega (arith, did.counted, wide, above)) ran.run.own
-          ∙ r.fresh job (omega (arith, did.counted, above));
-      few = omega (arith, did.counted, r.few, wide, some, longer);
-      small = subst (λ (n : ℕ). n < 2 ^ 48) (sym same) r.small;
+      run = run_more options done at c old new so.run count limit sound ran;
+      shown = subst (λ (h : List Entry). IsShown options.node found y (commands_of (done ++ (at, c) ∷ [])) h (text ++ next)) (sym shown.grown)
+          (subst (λ (gs : List Given). IsShown options.node found y gs (old.ledger.entries ++ shown.segment) (text ++ next)) (sym (commands_more done at c))
+          (shown_more options found x y (commands_of done) old.ledger.entries shown.segment c old.commands text next count own so.shown still untouched shown.by));
     }
 
--- one command more was done
-pub standing_more : StandLaw → LinesLaw → (options : ReplayOptions) (before now next : Option (List ℕ)) (done : List (ℕ × Given)) (at : ℕ) (c : Given) (old new : Work)
-    → Standing options before now done old → Did options c old new now next → IsSound new.ledger → Standing options before next (done ++ (at, c) ∷ []) new
-standing_more stands lines options before now next done at c old new s did sound =
-    let ran = did.ran in
-    let same : new.ledger.limit ≡ old.ledger.limit = ap (λ (h : History). h.limit) ran.is in
+-- ---- what may be done next
+
+fresh_more : StandLaw → (options : ReplayOptions) (c : Given) (old new : Work) → ((job : ℕ) → old.commands < job → job_state_of old.ledger.entries job ≡ Fresh) → RanNext options c old new → new.commands ≡ old.commands + width c
+    → (job : ℕ) → new.commands < job → job_state_of new.ledger.entries job ≡ Fresh
+fresh_more stands options c old new fresh ran counted job above =
+    ap (λ (h : List Entry). job_state_of h job) (grown_by options c old new ran)
+    ∙ own_only stands old.commands (length (members c)) old.ledger.entries ran.segment job (omega (arith, counted, width_few c, above)) ran.run.own
+    ∙ fresh job (omega (arith, counted, above))
+
+few_more : StandLaw → (options : ReplayOptions) (c : Given) (old new : Work) (without : ℕ) → ((job : ℕ) → old.commands < job → job_state_of old.ledger.entries job ≡ Fresh) → RanNext options c old new → new.commands ≡ old.commands + width c
+    → old.commands ≤ length old.ledger.entries + without → new.commands ≤ length new.ledger.entries + (without + kubelet_count (c ∷ []))
+few_more stands options c old new without fresh ran counted few =
+    let some = jobs_few stands options.budget old.commands old.ledger.entries (members c) ran.segment fresh ran.run.run in
+    let longer : length new.ledger.entries ≡ length old.ledger.entries + length ran.segment = ap (λ (h : List Entry). length h) (grown_by options c old new ran) ∙ length-append old.ledger.entries ran.segment in
+    omega (arith, counted, few, width_is c, some, longer)
+
+-- after a command the next may be done
+pub ready_more : StandLaw → (options : ReplayOptions) (c : Given) (rest : List Given) (old new : Work) (x y : Node) (before after : Option (List ℕ)) → IsReady old (kubelet_count (c ∷ rest)) → Did options c old new x y before after → IsSound new.ledger
+    → IsReady new (kubelet_count rest)
+ready_more stands options c rest old new x y before after r did sound =
     record {
-      run = run_more options done at c old new s.run s.count_is s.limit_is sound ran;
+      fresh = fresh_more stands options c old new r.fresh did.ran did.counted;
+      without = r.without + kubelet_count (c ∷ []);
+      few = few_more stands options c old new r.without r.fresh did.ran did.counted r.few;
+      room = omega (arith, r.room, kubelet_joined (c ∷ []) rest);
+      sound = sound.within;
+      small = subst (λ (n : ℕ). n < 2 ^ 48) (sym (limit_kept options c old new did.ran)) r.small;
+    }
+
+-- what may be done more of may be done less
+pub ready_fewer : (work : Work) (more fewer : ℕ) → fewer ≤ more → IsReady work more → IsReady work fewer
+ready_fewer work more fewer less r = record { fresh = r.fresh; without = r.without; few = r.few; room = omega (arith, r.room, less); sound = r.sound; small = r.small }
+
+-- the first of some commands may be done
+pub ready_first : (work : Work) (c : Given) (rest : List Given) → IsReady work (kubelet_count (c ∷ rest)) → IsReady work (kubelet_count (c ∷ []))
+ready_first work c rest r = ready_fewer work (kubelet_count (c ∷ rest)) (kubelet_count (c ∷ [])) (omega (arith, kubelet_joined (c ∷ []) rest)) r
+
+-- ---- what was done
+
+-- one command more was done
+pub standing_more : StandLaw → (options : ReplayOptions) (found x y : Node) (before now next : Option (List ℕ)) (done : List (ℕ × Given)) (at : ℕ) (c : Given) (old new : Work)
+    → Standing options found x before now done old → Did options c old new x y now next → IsSound new.ledger → Standing options found y before next (done ++ (at, c) ∷ []) new
+standing_more stands options found x y before now next done at c old new s did sound =
+    let so = done_more options found x y done at c old new s.text did.text (record { run = s.run; shown = s.shown }) s.still s.untouched s.count_is s.limit_is sound did.ran did.shown in
+    record {
+      run = so.run;
+      text = s.text ++ did.text;
+      shown = so.shown;
+      still = did.shown.by.still ∙ s.still;
+      untouched = untouched_more options found x y old.ledger.entries did.shown.segment c old.commands did.text s.untouched did.shown.by;
       count_is = omega (arith, did.counted, s.count_is, count_more done at c);
-      ready = ready_more stands options c old new now next s.ready did;
-      printed = subst (λ (t : List ℕ). Appends before next t) (sym (lines_more lines old.ledger new.ledger ran.segment ran.is))
-          (appends_more before now next (lines_from 0 old.ledger.entries) (new_lines old.ledger new.ledger) s.printed did.printed);
-      limit_is = same ∙ s.limit_is;
+      fresh = fresh_more stands options c old new s.fresh did.ran did.counted;
+      few = subst (λ (k : ℕ). new.commands ≤ length new.ledger.entries + k) (sym (kubelet_more done at c)) (few_more stands options c old new (kubelet_count (commands_of done)) s.fresh did.ran did.counted s.few);
+      small = subst (λ (n : ℕ). n < 2 ^ 48) (sym (limit_kept options c old new did.ran)) s.small;
+      printed = appends_more before now next s.text did.text s.printed did.printed;
+      limit_is = limit_kept options c old new did.ran ∙ s.limit_is;
     }
 
 -- nothing was done yet
-pub stands_first : (options : ReplayOptions) (old : Work) (before : Option (List ℕ)) → StandsOn options [] old old before before
-stands_first options old before = record {
-  standing = λ start done s. subst (λ (l : List (ℕ × Given)). Standing options start before l old) (sym (append-nil done)) s;
+pub stands_first : (options : ReplayOptions) (old : Work) (x : Node) (before : Option (List ℕ)) → StandsOn options [] old old x x before before
+stands_first options old x before = record {
+  standing = λ found start done s. subst (λ (l : List (ℕ × Given)). Standing options found x start before l old) (sym (append-nil done)) s;
 }
 
 -- and then one command more
-pub stands_more : StandLaw → LinesLaw → (options : ReplayOptions) (at : ℕ) (prefix : List Given) (c : Given) (old mid new : Work) (before now next : Option (List ℕ))
-    → StandsOn options (at_each at prefix) old mid before now → Did options c mid new now next → IsSound new.ledger → StandsOn options (at_each at (prefix ++ c ∷ [])) old new before next
-stands_more stands lines options at prefix c old mid new before now next on did sound = record {
-  standing = λ start done s.
-      let joined : (done ++ at_each at prefix) ++ (at, c) ∷ [] ≡ done ++ at_each at (prefix ++ c ∷ []) =
+pub stands_more : StandLaw → (options : ReplayOptions) (at : ℕ) (prefix : List Given) (c : Given) (old mid new : Work) (x y z : Node) (before now next : Option (List ℕ))
+    → StandsOn options (at_each at prefix) old mid x y before now → Did options c mid new y z now next → IsSound new.ledger → StandsOn options (at_each at (prefix ++ c ∷ [])) old new x z before next
+stands_more stands options at prefix c old mid new x y z before now next on did sound = record {
+  standing = λ found start done s.
+      let regrouped : (done ++ at_each at prefix) ++ (at, c) ∷ [] ≡ done ++ at_each at (prefix ++ c ∷ []) =
       append_assoc done (at_each at prefix) ((at, c) ∷ []) ∙ ap (λ (l : List (ℕ × Given)). done ++ l) (sym (at_each_joined at prefix (c ∷ []))) in
-      subst (λ (l : List (ℕ × Given)). Standing options start next l new) joined
-      (standing_more stands lines options start now next (done ++ at_each at prefix) at c mid new (on.standing start done s) did sound);
+      subst (λ (l : List (ℕ × Given)). Standing options found z start next l new) regrouped
+      (standing_more stands options found y z start now next (done ++ at_each at prefix) at c mid new (on.standing found start done s) did sound);
 }

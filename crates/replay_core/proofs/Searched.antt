@@ -6,7 +6,7 @@ use Rattle.commands.specs.declared.command.Command.{Command}
 use Rattle.commands.specs.declared.given.Given.{Given}
 use Rattle.histories.specs.Histories.{Each}
 use Rattle.histories.specs.JobRuns.{JobBegun, JobKept, JobRun, JobStep, Run, Timed}
-use Rattle.replay_core.specs.Forms.{width}
+use Rattle.replay_core.specs.Forms.{members, width}
 use Rattle.replay_core.specs.Jobs.{AllBegun, AllOwn, AllRun, RunFrom, RunOf, SegmentBegun, SegmentRun, run_after}
 
 -- the entry states the result of a search of its job's run, which looks at so many items of a node's walk
@@ -52,8 +52,8 @@ members_tell budget n first before prefix e back (c ∷ cs) over under run = eli
 
 made_tells : (n : ℕ) (g : Given) (budget : ℕ) (before prefix : List Entry) (e : Entry) (back : List Entry) → SegmentRun n g budget before (prefix ++ e ∷ back) → TellsOf budget (before ++ prefix) e
 made_tells n g budget before prefix e back run =
-    let own = own_at n (length run.commands) prefix e back run.own in
-    members_tell budget n before before prefix e back run.commands own.0 own.1 run.run
+    let own = own_at n (length (members g)) prefix e back run.own in
+    members_tell budget n before before prefix e back (members g) own.0 own.1 run.run
 
 -- a run goes on from the entries before it
 pub record GoesFrom (before after : List Entry) : Type 0 where
@@ -147,8 +147,8 @@ members_begun_tell budget n first before prefix e back (c ∷ cs) over under eac
 
 made_begun_tells : (n : ℕ) (g : Given) (budget : ℕ) (before prefix : List Entry) (e : Entry) (back : List Entry) → SegmentBegun n g budget before (prefix ++ e ∷ back) → TellsOf budget (before ++ prefix) e
 made_begun_tells n g budget before prefix e back begun =
-    let own = own_at n (length begun.commands) prefix e back begun.own in
-    members_begun_tell budget n before before prefix e back begun.commands own.0 own.1 begun.each
+    let own = own_at n (length (members g)) prefix e back begun.own in
+    members_begun_tell budget n before before prefix e back (members g) own.0 own.1 begun.each
 
 pub part_tells : (budget n : ℕ) (cs : List Given) (g : Given) (before segment prefix : List Entry) (e : Entry) (back : List Entry) → RunOf budget cs before → SegmentBegun n g budget before segment
     → before ++ segment ≡ prefix ++ e ∷ back → TellsOf budget prefix e

@@ -60,11 +60,11 @@ one_by (Some c) try = one_may_try c try
 
 prepares_may_try : (o : Option Key) → IfSome (option_map Prepare o) MayTry
 prepares_may_try None = tt
-prepares_may_try (Some pod) = tt
+prepares_may_try (Some pod) = (tt, omega arith)
 
 unprepares_may_try : (o : Option Key) → IfSome (option_map Unprepare o) MayTry
 unprepares_may_try None = tt
-unprepares_may_try (Some pod) = tt
+unprepares_may_try (Some pod) = (tt, omega arith)
 
 -- ---- a Together
 
@@ -150,7 +150,7 @@ given_may_try attempts d is.Schedule some = alone_may_try (option_map One (sched
 given_may_try attempts d is.Release some = alone_may_try (option_map One (release_of d)) (one_by (release_of d) (releases_try (key_of d)))
 given_may_try attempts d is.Prepare some = alone_may_try (option_map Prepare (key_of d)) (prepares_may_try (key_of d))
 given_may_try attempts d is.Unprepare some = alone_may_try (option_map Unprepare (key_of d)) (unprepares_may_try (key_of d))
-given_may_try attempts d is.Reopen some = (tt, tt)
+given_may_try attempts d is.Reopen some = ((tt, omega arith), tt)
 given_may_try attempts d is.Together some = alone_may_try (together attempts d) (together_may_try attempts (list_at (codes "commands") d) some)
 
 kind_may_try : (attempts : ℕ) (d : Data) (o : Option Document) → 0 < attempts → IfSome (option_and_then (given_by attempts d) o) AllMayTry

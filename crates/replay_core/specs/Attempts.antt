@@ -1,5 +1,5 @@
 -- How many attempts what a document asks for has.
-use Rattle.std.specs.Prelude.{◌<◌, ◌≤◌, List, [], ◌∷◌, IfOk, length}
+use Rattle.std.specs.Prelude.{◌<◌, ◌≤◌, List, [], ◌∷◌, length}
 use Rattle.commands.specs.declared.command.Command.{Command}
 use Rattle.commands.specs.declared.given.Given.{Given}
 use Rattle.commands.specs.Commands.{together_most}
@@ -13,7 +13,7 @@ AllTry (c ∷ cs) = (0 < attempts_of c) × AllTry cs
 
 -- each of its commands has at least one, and they are no more than a Together may have
 abbrev pub MayTry : Given → Type 0
-MayTry g = IfOk (members g) (λ commands. AllTry commands × (length commands ≤ together_most))
+MayTry g = AllTry (members g) × (length (members g) ≤ together_most)
 
 abbrev pub AllMayTry : List Given → Type 0
 AllMayTry [] = Unit {0}

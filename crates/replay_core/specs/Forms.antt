@@ -1,18 +1,24 @@
--- Which of what a document asks for is supported, and how many commands it is.
-use Rattle.std.specs.Prelude.{ℕ, ◌+◌, List, [], ◌∷◌, Result, Ok, Err, length}
+-- How many commands what a document asks for is, and which of them are jobs.
+use Rattle.std.specs.Prelude.{ℕ, ◌+◌, Bool, true, false, List, [], ◌∷◌, length, if◌then◌else◌}
 use Rattle.commands.specs.declared.command.Command.{Command}
 use Rattle.commands.specs.declared.given.Given.{Given}
 use Rattle.commands.specs.declared.given.Given.TheVariants as given
-use Rattle.replay_core.specs.declared.form.Form.{Form}
-use Rattle.replay_core.specs.declared.form.Form.TheVariants as form
 
--- the commands that it is, each of which a job does, or the form that isn't supported yet
-abbrev pub members : Given → Result (List Command) Form
-members (given.One command) = Ok (command ∷ [])
-members (given.Together commands) = Ok commands
-members (given.Prepare pod) = Err form.Prepare
-members (given.Unprepare pod) = Err form.Unprepare
-members given.Reopen = Err form.Reopen
+-- the commands that it is, each of which a job does; one of the kubelet has no entries, and no job does it
+abbrev pub members : Given → List Command
+members (given.One command) = command ∷ []
+members (given.Together commands) = commands
+members (given.Prepare pod) = []
+members (given.Unprepare pod) = []
+members given.Reopen = []
+
+-- it is a command of the kubelet
+abbrev pub is_of_kubelet : Given → Bool
+is_of_kubelet (given.One command) = false
+is_of_kubelet (given.Together commands) = false
+is_of_kubelet (given.Prepare pod) = true
+is_of_kubelet (given.Unprepare pod) = true
+is_of_kubelet given.Reopen = true
 
 -- how many commands it is, each of which has a number; a Together is its members
 abbrev pub width : Given → ℕ
@@ -26,3 +32,8 @@ width given.Reopen = 1
 abbrev pub count_of : List Given → ℕ
 count_of [] = 0
 count_of (g ∷ gs) = width g + count_of gs
+
+-- how many of them are of the kubelet, and have no entries
+abbrev pub kubelet_count : List Given → ℕ
+kubelet_count [] = 0
+kubelet_count (g ∷ gs) = (if is_of_kubelet g then 1 else 0) + kubelet_count gs

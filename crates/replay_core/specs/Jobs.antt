@@ -1,5 +1,5 @@
 -- What the entries of jobs are.
-use Rattle.std.specs.Prelude.{ℕ, ◌≡◌, ◌+◌, ◌<◌, ◌≤◌, ◌⊎◌, List, [], ◌∷◌, ◌++◌, Ok, length}
+use Rattle.std.specs.Prelude.{ℕ, ◌≡◌, ◌+◌, ◌<◌, ◌≤◌, ◌⊎◌, List, [], ◌∷◌, ◌++◌, length}
 use Rattle.cluster.specs.declared.entry.Entry.{Entry}
 use Rattle.commands.specs.declared.command.Command.{Command}
 use Rattle.commands.specs.declared.given.Given.{Given}
@@ -32,20 +32,17 @@ SomeBegun budget n before [] h = ⊥
 SomeBegun budget n before (c ∷ cs) h = JobBegun (run_after (n + 1) c budget before) h ⊎ SomeBegun budget (n + 1) before cs h
 
 -- What is asked for is commands, each of which is a job, numbered on from n. The entries after those before it are all
--- of these jobs, however they interleave, and hold each job's whole run of its command.
+-- of these jobs, however they interleave, and hold each job's whole run of its command. A command of the kubelet has no
+-- job, so no entries.
 pub record SegmentRun (n : ℕ) (g : Given) (budget : ℕ) (before segment : List Entry) : Type 0 where
-  pub commands : List Command
-  pub commands_are : members g ≡ Ok commands
-  pub own : AllOwn n (length commands) segment
-  pub run : AllRun budget n before commands (before ++ segment)
+  pub own : AllOwn n (length (members g)) segment
+  pub run : AllRun budget n before (members g) (before ++ segment)
 
 -- the same, but of each job they hold its whole run or a part of it, and one of them isn't ended
 pub record SegmentBegun (n : ℕ) (g : Given) (budget : ℕ) (before segment : List Entry) : Type 0 where
-  pub commands : List Command
-  pub commands_are : members g ≡ Ok commands
-  pub own : AllOwn n (length commands) segment
-  pub each : AllBegun budget n before commands (before ++ segment)
-  pub some : SomeBegun budget n before commands (before ++ segment)
+  pub own : AllOwn n (length (members g)) segment
+  pub each : AllBegun budget n before (members g) (before ++ segment)
+  pub some : SomeBegun budget n before (members g) (before ++ segment)
 
 -- the jobs of the commands, numbered on from n, lead from one history to the next
 unfoldable pub RunFrom : ℕ → ℕ → List Entry → List Given → List Entry → Type 0

@@ -1,6 +1,8 @@
 pub mod Forms
 pub mod Script
 pub mod Jobs
+pub mod Kubelet
+pub mod Kubelets
 pub mod Complete
 pub mod Attempts
 pub mod Doing

@@ -10,28 +10,30 @@ use Rattle.replay_core.specs.declared.status.Status.{Status}
 use Rattle.replay_core.specs.declared.status.Status.TheVariants as status
 use Rattle.replay_core.specs.declared.work.Work.{Work}
 use Rattle.replay_core.specs.Script.{at_each, rejection_of}
+use Rattle.replay_core.specs.Kubelet.{Node}
 use Rattle.replay_core.specs.Lines.{Stops}
 use Rattle.replay_core.specs.Progress.{Standing}
 
 -- these commands were done: whatever was done before them, they were done after it
-pub record StandsOn (options : ReplayOptions) (commands : List (ℕ × Given)) (old new : Work) (before after : Option (List ℕ)) : Type 0 where
-  pub standing : (start : Option (List ℕ)) (done : List (ℕ × Given)) → Standing options start before done old → Standing options start after (done ++ commands) new
+pub record StandsOn (options : ReplayOptions) (commands : List (ℕ × Given)) (old new : Work) (x y : Node) (before after : Option (List ℕ)) : Type 0 where
+  pub standing : (found : Node) (start : Option (List ℕ)) (done : List (ℕ × Given)) → Standing options found x start before done old → Standing options found y start after (done ++ commands) new
 
 -- of the commands at an offset those before one were done, and why that one wasn't
-pub record StoppedAmong (options : ReplayOptions) (at : ℕ) (commands : List Given) (old new : Work) (before after : Option (List ℕ)) (s : Status) : Type 0 where
+pub record StoppedAmong (options : ReplayOptions) (at : ℕ) (commands : List Given) (old new : Work) (x y : Node) (before after : Option (List ℕ)) (s : Status) : Type 0 where
   pub prefix : List Given
   pub command : Given
   pub back : List Given
   pub are : commands ≡ prefix ++ command ∷ back
   pub work : Work
+  pub node : Node
   pub between : Option (List ℕ)
-  pub done : StandsOn options (at_each at prefix) old work before between
-  pub stops : Stops options at command work new between after s
+  pub done : StandsOn options (at_each at prefix) old work x node before between
+  pub stops : Stops options command work new node y between after s
 
 -- all commands of a document were done
-abbrev pub DocumentDid : ReplayOptions → ℕ → List ℕ → Work → Work → Option (List ℕ) → Option (List ℕ) → Type 0
-DocumentDid o at document old new before after =
-    (cs : List Given) × (reading o.attempts document ≡ readings.Asks cs) × StandsOn o (at_each at cs) old new before after
+abbrev pub DocumentDid : ReplayOptions → ℕ → List ℕ → Work → Work → Node → Node → Option (List ℕ) → Option (List ℕ) → Type 0
+DocumentDid o at document old new x y before after =
+    (cs : List Given) × (reading o.attempts document ≡ readings.Asks cs) × StandsOn o (at_each at cs) old new x y before after
 
 -- the document isn't commands
 pub record IsRefused (attempts at index : ℕ) (why : Rejection) (document : List ℕ) (before after : Option (List ℕ)) : Type 0 where
@@ -47,11 +49,12 @@ Unread attempts at document before after (status.Document index why) = IsRefused
 Unread attempts at document before after status.Memory = Appends before after []
 Unread attempts at document before after status.Read = ⊥
 Unread attempts at document before after status.Write = ⊥
+Unread attempts at document before after status.Disk = ⊥
 Unread attempts at document before after (status.Limit n) = ⊥
-Unread attempts at document before after (status.NotYet index form) = ⊥
+Unread attempts at document before after (status.Checkpoint index) = ⊥
 
 -- why a document wasn't done
-abbrev pub DocumentStops : ReplayOptions → ℕ → List ℕ → Work → Work → Option (List ℕ) → Option (List ℕ) → Status → Type 0
-DocumentStops o at document old new before after s =
-    Unread o.attempts at document before after s
-    ⊎ ((cs : List Given) × (reading o.attempts document ≡ readings.Asks cs) × StoppedAmong o at cs old new before after s)
+abbrev pub DocumentStops : ReplayOptions → ℕ → List ℕ → Work → Work → Node → Node → Option (List ℕ) → Option (List ℕ) → Status → Type 0
+DocumentStops o at document old new x y before after s =
+    ((y ≡ x) × (new ≡ old) × Unread o.attempts at document before after s)
+    ⊎ ((cs : List Given) × (reading o.attempts document ≡ readings.Asks cs) × StoppedAmong o at cs old new x y before after s)

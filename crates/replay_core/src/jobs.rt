@@ -8,9 +8,8 @@ ghost use Rattle.job_crew.specs.Together.{AllEnded, RanTogether, SomeOpen};
 ghost use Rattle.replay_core.specs.Attempts.{AllTry, MayTry};
 ghost use Rattle.replay_core.specs.Doing.{Met, Ran, works_from};
 ghost use Rattle.replay_core.specs.Forms.{members, width};
-ghost use Rattle.replay_core.specs.declared.form.Form.{Form};
 
-use crate::{Form, ReplayOptions, Stop};
+use crate::{ReplayOptions, Stop};
 use commands::{Command, Given};
 use dra_ports::Gate;
 use job_crew::run_together;
@@ -34,7 +33,8 @@ use std::thread::Threads;
 /// i modulo the number of workers, each worker in a thread of its own as far as threads can be started, and
 /// in order. All of them are done when this returns. The gate is called as each of these jobs goes on.
 ///
-/// `Stop::NotYet` is returned if and only if the form isn't supported yet, and the ledger is unchanged.
+/// A command of the kubelet has no entry.
+///
 /// `Stop::Full` is returned if the history has as many entries as it may have and one more is expected, and
 /// `Stop::Memory` only if memory runs out: the entries that were made before stay.
 pub fn do_command<R: Threads + Wait + Sync, G: Gate + Sync>(
@@ -44,16 +44,15 @@ pub fn do_command<R: Threads + Wait + Sync, G: Gate + Sync>(
     ledger: &mut Ledger,
     before: u64,
     given: Given,
-    options: ReplayOptions,
+    options: &ReplayOptions,
 ) -> Result<u64, Stop>
-    requires workers { (0 < options.workers) × (options.workers ≤ 64) }
+    requires workers { (0 < options.now.workers) × (options.now.workers ≤ 64) }
     requires fresh { (job : ℕ) → before < job → job_state_of ledger.old.entries job ≡ Fresh }
-    requires small { before < 2 ^ 48 }
+    requires small { before < 2 ^ 49 }
     requires attempts { MayTry given }
     ensures last { IfOk result (λ last. last ≡ before + width given) }
-    ensures ran { OnOk result (Ran before given options.budget ledger.old ledger.new) }
-    ensures not_yet { (form : Form) → IsErrOf result (Stop.NotYet form) → (members given ≡ Err form) × (ledger.new ≡ ledger.old) }
-    ensures full { (n : ℕ) → IsErrOf result (Stop.Full n) → Met before given options.budget ledger.old ledger.new n }
+    ensures ran { OnOk result (Ran before given options.now.budget ledger.old ledger.new) }
+    ensures full { (n : ℕ) → IsErrOf result (Stop.Full n) → Met before given options.now.budget ledger.old ledger.new n }
 {
     match given {
         Given::One(command) => {
@@ -70,9 +69,9 @@ pub fn do_command<R: Threads + Wait + Sync, G: Gate + Sync>(
             commands.into_vec(),
             options,
         ),
-        Given::Prepare(_) => Err(Stop::NotYet(Form::Prepare)),
-        Given::Unprepare(_) => Err(Stop::NotYet(Form::Unprepare)),
-        Given::Reopen => Err(Stop::NotYet(Form::Reopen)),
+        Given::Prepare(_) => Ok(before + 1),
+        Given::Unprepare(_) => Ok(before + 1),
+        Given::Reopen => Ok(before + 1),
     }
 }
 
@@ -85,17 +84,16 @@ fn do_together<R: Threads + Wait + Sync, G: Gate + Sync>(
     ledger: &mut Ledger,
     before: u64,
     commands: Vec<Command>,
-    options: ReplayOptions,
+    options: &ReplayOptions,
 ) -> Result<u64, Stop>
-    requires workers { (0 < options.workers) × (options.workers ≤ 64) }
+    requires workers { (0 < options.now.workers) × (options.now.workers ≤ 64) }
     requires fresh { (job : ℕ) → before < job → job_state_of ledger.old.entries job ≡ Fresh }
-    requires small { before < 2 ^ 48 }
+    requires small { before < 2 ^ 49 }
     requires attempts { AllTry commands.items }
     requires most { length commands.items ≤ together_most }
     ensures last { IfOk result (λ last. last ≡ before + length commands.items) }
-    ensures ran { OnOk result (Ran before (Together commands.items) options.budget ledger.old ledger.new) }
-    ensures not_yet { (form : Form) → IsErrOf result (Stop.NotYet form) → ⊥ }
-    ensures full { (n : ℕ) → IsErrOf result (Stop.Full n) → Met before (Together commands.items) options.budget ledger.old ledger.new n }
+    ensures ran { OnOk result (Ran before (Together commands.items) options.now.budget ledger.old ledger.new) }
+    ensures full { (n : ℕ) → IsErrOf result (Stop.Full n) → Met before (Together commands.items) options.now.budget ledger.old ledger.new n }
 {
     let last = before + commands.len() as u64;
     let works = works_of(alloc, before, commands)?;
@@ -105,7 +103,7 @@ fn do_together<R: Threads + Wait + Sync, G: Gate + Sync>(
 
 /// The works of commands, each a job numbered on from `before`.
 fn works_of(alloc: Global, before: u64, commands: Vec<Command>) -> Result<Vec<Work>, AllocError>
-    requires small { before < 2 ^ 48 }
+    requires small { before < 2 ^ 49 }
     requires most { length commands.items ≤ together_most }
     ensures { IfOk result (λ works. works.items ≡ works_from before commands.items) }
 {
@@ -125,14 +123,14 @@ fn run_works<R: Threads + Wait + Sync, G: Gate + Sync>(
     gate: &G,
     ledger: &mut Ledger,
     works: Vec<Work>,
-    options: ReplayOptions,
+    options: &ReplayOptions,
 ) -> Result<(), LedgerError>
-    requires workers { (0 < options.workers) × (options.workers ≤ 64) }
+    requires workers { (0 < options.now.workers) × (options.now.workers ≤ 64) }
     requires fresh { AllNew ledger.old.entries works.items }
     requires differ { Differ (jobs_of works.items) }
-    ensures ran { OnOk result (RanTogether options.budget works.items ledger.old ledger.new) }
+    ensures ran { OnOk result (RanTogether options.now.budget works.items ledger.old ledger.new) }
     ensures done { OnOk result (AllEnded ledger.new.entries works.items) }
-    ensures met { (n : ℕ) → IsErrOf result (LedgerError.Full n) → RanTogether options.budget works.items ledger.old ledger.new }
+    ensures met { (n : ℕ) → IsErrOf result (LedgerError.Full n) → RanTogether options.now.budget works.items ledger.old ledger.new }
     ensures full { (n : ℕ) → IsErrOf result (LedgerError.Full n) → (length ledger.new.entries ≡ n) × (ledger.new.limit ≤ n) × SomeOpen ledger.new.entries works.items }
 {
     // A worker without a work isn't started; who does which work is the same.

@@ -1,5 +1,7 @@
+use dra_values::Text;
+
 /// How a script is replayed.
-#[derive(Clone, Copy, Debug, PartialEq, Eq, Drop)]
+#[derive(Debug, PartialEq, Eq, Drop)]
 pub struct ReplayOptions {
     /// How many workers do the commands of a Together, 1 to 64: each in a thread of its own as far as threads
     /// can be started.
@@ -10,4 +12,6 @@ pub struct ReplayOptions {
     pub attempts: u64,
     /// How many entries the history has, at most.
     pub entries: u64,
+    /// The name of the kubelet's node; the empty text, which no node has, if there is none.
+    pub node: Text,
 }

@@ -1,5 +1,3 @@
-use crate::Form;
-
 /// Why what is at an offset isn't a command.
 #[derive(Clone, Copy, Debug, PartialEq, Eq, Drop)]
 pub enum Rejection {
@@ -30,9 +28,11 @@ pub enum Status {
     Read,
     /// The output failed.
     Write,
+    /// The disk of the kubelet's checkpoint failed.
+    Disk,
     /// The history has so many entries and one more is expected, or the input is longer than so many
     /// bytes.
     Limit(u64),
-    /// The document at this offset has this form, which isn't supported yet.
-    NotYet(u64, Form),
+    /// The disk isn't empty, and its bytes are no checkpoint of a kubelet, from this offset on.
+    Checkpoint(u64),
 }

@@ -1,15 +1,12 @@
 ghost use Rattle.std.specs.Prelude.{◌≡◌};
 ghost use Rattle.replay_core.specs.declared.stop.Stop.TheVariants.{Memory};
 
-use crate::Form;
 use ledger_core::LedgerError;
 use std::alloc::{AllocError, AllocFailed};
 
 /// Why a command wasn't done.
 #[derive(Clone, Copy, Debug, PartialEq, Eq, Drop)]
 pub enum Stop {
-    /// It has this form, which isn't supported yet.
-    NotYet(Form),
     /// The history has so many entries, and one more is expected.
     Full(u64),
     /// Memory ran out.

@@ -1,22 +1,33 @@
-ghost use Rattle.std.specs.Prelude.{◌≡◌, ◌≤◌, ◌<◌, IfErr, OnOk, OnErr, drop};
+ghost use Rattle.std.specs.Prelude.{◌≡◌, ◌≤◌, ◌<◌, ◌∷◌, [], ℕ, List, IfErr, OnOk, OnErr, drop, false, true};
 ghost use Rattle.std.specs.Io.KnownBytes.{Appends};
+ghost use Rattle.cluster.specs.History.{state_of};
+ghost use Rattle.commands.specs.Readings.{Asks, reading};
+ghost use Rattle.commands.specs.declared.given.Given.{Given};
 ghost use Rattle.dra_ports.specs.Causes.{HasCause, Rose};
 ghost use Rattle.dra_ports.specs.Prefixes.{AppendsPrefix};
 ghost use Rattle.journal_text.specs.Journal.{lines_from};
+ghost use Rattle.pod_prepare.specs.ForNode.{ReadsBack};
+ghost use Rattle.pod_prepare.specs.Words.{IsGoing, disk_of, table_of};
 ghost use Rattle.replay_core.specs.Attempts.{AllMayTry, MayTry};
-ghost use Rattle.replay_core.specs.Lines.{output_status, Did, Stops, Summarized};
+ghost use Rattle.replay_core.specs.Forms.{is_of_kubelet, kubelet_count};
+ghost use Rattle.replay_core.specs.Kubelet.{node_with};
+ghost use Rattle.replay_core.specs.Lines.{output_status, Did, JobsStop, RanPrinted, Stops, Summarized};
 ghost use Rattle.replay_core.specs.Progress.{IsReady, IsSound};
 ghost use Rattle.replay_core.specs.Script.{at_each};
 ghost use Rattle.replay_core.specs.Turns.{DocumentDid, DocumentStops, StandsOn, StoppedAmong};
 
 use crate::jobs::do_command;
+use crate::kubelet::{is_of_kubelet, keeps, kubelet_status, kubelet_text};
+use crate::read_back::{documents_ask_a_kubelet_once, legal_states_read_back};
 use crate::{Rejection, ReplayOptions, Status, Stop};
 use commands::{Given, GivenError, commands};
 use doc_split::Doc;
-use dra_ports::{Gate, PortError, Sink, write_all};
+use dra_ports::{Disk, Gate, PortError, Sink, write_all};
 use histories::histories_grow;
-use journal_text::{lines, lines_of_more, summary};
+use journal_text::{lines, summary};
 use ledger_core::Ledger;
+use pod_prepare::LazyKubelet;
+use prepare_core::Driver;
 use std::alloc::Global;
 use std::sync::Wait;
 use std::thread::Threads;
@@ -54,23 +65,21 @@ pub fn print_from<K: Sink>(
 }
 
 /// Does what is asked for as the next jobs, and prints their lines once all are done.
-pub fn do_next<R: Threads + Wait + Sync, K: Sink, G: Gate + Sync>(
+fn do_jobs<R: Threads + Wait + Sync, K: Sink, G: Gate + Sync>(
     rt: &R,
     alloc: Global,
     gate: &G,
     work: &mut Work,
-    at: u64,
     command: Given,
-    options: ReplayOptions,
+    options: &ReplayOptions,
     output: &mut K,
 ) -> Result<(), Status>
-    requires ready { IsReady work.old }
-    requires workers { (0 < options.workers) × (options.workers ≤ 64) }
+    requires ready { IsReady work.old 0 }
+    requires workers { (0 < options.now.workers) × (options.now.workers ≤ 64) }
     requires attempts { MayTry command }
-    ensures did { OnOk result (Did options command work.old work.new (K.written output.old) (K.written output.new)) }
-    ensures stops { IfErr result (Stops options at command work.old work.new (K.written output.old) (K.written output.new)) }
+    ensures did { OnOk result (RanPrinted options.now command work.old work.new (K.written output.old) (K.written output.new)) }
+    ensures stops { IfErr result (JobsStop options.now command work.old work.new (K.written output.old) (K.written output.new)) }
     ensures write { IfErr result (λ s. s ≡ Status.Write → Rose (K.faults output.old) (K.faults output.new)) }
-    ensures later { K.faults output.old ≤ K.faults output.new }
     ensures ok_faultless { OnOk result (K.faults output.new ≡ K.faults output.old) }
     ensures err_faultless { IfErr result (λ s. (s ≡ Status.Write → ⊥) → K.faults output.new ≡ K.faults output.old) }
     ensures sound { IsSound work.new.ledger }
@@ -98,69 +107,182 @@ pub fn do_next<R: Threads + Wait + Sync, K: Sink, G: Gate + Sync>(
             Ok(()) => Err(Status::Limit(count)),
             Err(error) => Err(write_status(error)),
         },
-        Err(Stop::NotYet(form)) => Err(Status::NotYet(at, form)),
         Err(Stop::Memory) => Err(Status::Memory),
     }
 }
 
-/// Does what is asked for one after another, each as the next jobs, and prints the lines of each.
-fn do_all<R: Threads + Wait + Sync, K: Sink, G: Gate + Sync>(
+/// Does a command of the kubelet, and prints its lines once it is done.
+fn do_kubelet<K: Sink, D: Disk, V: Driver>(
+    alloc: Global,
+    work: &mut Work,
+    kubelet: LazyKubelet<D>,
+    command: &Given,
+    options: &ReplayOptions,
+    output: &mut K,
+    driver: &mut V,
+) -> (LazyKubelet<D>, Result<(), Status>)
+    requires ready { IsReady work.old 1 }
+    requires readable { ReadsBack (state_of work.old.ledger.entries) }
+    requires going { IsGoing options.now.node kubelet }
+    requires kubelet { is_of_kubelet command.now ≡ true }
+    ensures did { OnOk result.1 (Did options.now command.now work.old work.new (node_with (table_of kubelet) (D.content (disk_of kubelet)) (V.calls driver.old) (V.faults driver.old)) (node_with (table_of result.0) (D.content (disk_of result.0)) (V.calls driver.new) (V.faults driver.new)) (K.written output.old) (K.written output.new)) }
+    ensures stops { IfErr result.1 (Stops options.now command.now work.old work.new (node_with (table_of kubelet) (D.content (disk_of kubelet)) (V.calls driver.old) (V.faults driver.old)) (node_with (table_of result.0) (D.content (disk_of result.0)) (V.calls driver.new) (V.faults driver.new)) (K.written output.old) (K.written output.new)) }
+    ensures going { OnOk result.1 (IsGoing options.now.node result.0) }
+    ensures write { IfErr result.1 (λ s. s ≡ Status.Write → Rose (K.faults output.old) (K.faults output.new)) }
+    ensures ok_faultless { OnOk result.1 (K.faults output.new ≡ K.faults output.old) }
+    ensures err_faultless { IfErr result.1 (λ s. (s ≡ Status.Write → ⊥) → K.faults output.new ≡ K.faults output.old) }
+    ensures disk { IfErr result.1 (λ s. s ≡ Status.Disk → Rose (D.faults (disk_of kubelet)) (D.faults (disk_of result.0))) }
+    ensures ok_faultless_disk { OnOk result.1 (D.faults (disk_of result.0) ≡ D.faults (disk_of kubelet)) }
+    ensures err_faultless_disk { IfErr result.1 (λ s. (s ≡ Status.Disk → ⊥) → D.faults (disk_of result.0) ≡ D.faults (disk_of kubelet)) }
+    ensures same { work.new.ledger ≡ work.old.ledger }
+{
+    let before = work.commands;
+    let (kubelet, text) = kubelet_text(
+        alloc,
+        kubelet,
+        options,
+        &work.ledger,
+        before,
+        command,
+        driver,
+    );
+    match text {
+        Ok(text) => {
+            work.commands = before + 1;
+            match write_all(output, &text) {
+                Ok(()) => (kubelet, Ok(())),
+                Err(error) => (kubelet, Err(write_status(error))),
+            }
+        }
+        Err(why) => (kubelet, Err(kubelet_status(why))),
+    }
+}
+
+/// Does what is asked for as the next commands, and prints their lines once all are done.
+pub fn do_next<R: Threads + Wait + Sync, K: Sink, D: Disk, V: Driver, G: Gate + Sync>(
     rt: &R,
     alloc: Global,
     gate: &G,
     work: &mut Work,
-    at: u64,
-    commands: Vec<Given>,
-    options: ReplayOptions,
+    kubelet: LazyKubelet<D>,
+    command: Given,
+    options: &ReplayOptions,
     output: &mut K,
-) -> Result<(), Status>
-    requires ready { IsReady work.old }
-    requires workers { (0 < options.workers) × (options.workers ≤ 64) }
+    driver: &mut V,
+) -> (LazyKubelet<D>, Result<(), Status>)
+    requires ready { IsReady work.old (kubelet_count (command ∷ [])) }
+    requires going { IsGoing options.now.node kubelet }
+    requires workers { (0 < options.now.workers) × (options.now.workers ≤ 64) }
+    requires attempts { MayTry command }
+    ensures did { OnOk result.1 (Did options.now command work.old work.new (node_with (table_of kubelet) (D.content (disk_of kubelet)) (V.calls driver.old) (V.faults driver.old)) (node_with (table_of result.0) (D.content (disk_of result.0)) (V.calls driver.new) (V.faults driver.new)) (K.written output.old) (K.written output.new)) }
+    ensures stops { IfErr result.1 (Stops options.now command work.old work.new (node_with (table_of kubelet) (D.content (disk_of kubelet)) (V.calls driver.old) (V.faults driver.old)) (node_with (table_of result.0) (D.content (disk_of result.0)) (V.calls driver.new) (V.faults driver.new)) (K.written output.old) (K.written output.new)) }
+    ensures quiet { is_of_kubelet command ≡ false → result.0 ≡ kubelet }
+    ensures going { OnOk result.1 (IsGoing options.now.node result.0) }
+    ensures write { IfErr result.1 (λ s. s ≡ Status.Write → Rose (K.faults output.old) (K.faults output.new)) }
+    ensures ok_faultless { OnOk result.1 (K.faults output.new ≡ K.faults output.old) }
+    ensures err_faultless { IfErr result.1 (λ s. (s ≡ Status.Write → ⊥) → K.faults output.new ≡ K.faults output.old) }
+    ensures disk { IfErr result.1 (λ s. s ≡ Status.Disk → Rose (D.faults (disk_of kubelet)) (D.faults (disk_of result.0))) }
+    ensures ok_faultless_disk { OnOk result.1 (D.faults (disk_of result.0) ≡ D.faults (disk_of kubelet)) }
+    ensures err_faultless_disk { IfErr result.1 (λ s. (s ≡ Status.Disk → ⊥) → D.faults (disk_of result.0) ≡ D.faults (disk_of kubelet)) }
+    ensures sound { IsSound work.new.ledger }
+{
+    if is_of_kubelet(&command) {
+        let _entries = work.ledger.len();
+        legal_states_read_back();
+        do_kubelet(alloc, work, kubelet, &command, options, output, driver)
+    } else {
+        keeps(&kubelet);
+        let done = do_jobs(rt, alloc, gate, work, command, options, output);
+        (kubelet, done)
+    }
+}
+
+/// Does what is asked for one after another, each as the next commands, and prints the lines of each.
+fn do_all<R: Threads + Wait + Sync, K: Sink, D: Disk, V: Driver, G: Gate + Sync>(
+    rt: &R,
+    alloc: Global,
+    gate: &G,
+    work: &mut Work,
+    kubelet: LazyKubelet<D>,
+    commands: Vec<Given>,
+    options: &ReplayOptions,
+    output: &mut K,
+    driver: &mut V,
+) -> (LazyKubelet<D>, Result<(), Status>)
+    requires ready { IsReady work.old (kubelet_count commands.items) }
+    requires going { IsGoing options.now.node kubelet }
+    requires workers { (0 < options.now.workers) × (options.now.workers ≤ 64) }
     requires attempts { AllMayTry commands.items }
-    ensures did { OnOk result (StandsOn options (at_each at commands.items) work.old work.new (K.written output.old) (K.written output.new)) }
-    ensures stops { IfErr result (StoppedAmong options at commands.items work.old work.new (K.written output.old) (K.written output.new)) }
-    ensures write { IfErr result (λ s. s ≡ Status.Write → Rose (K.faults output.old) (K.faults output.new)) }
-    ensures later { K.faults output.old ≤ K.faults output.new }
-    ensures ok_faultless { OnOk result (K.faults output.new ≡ K.faults output.old) }
-    ensures err_faultless { IfErr result (λ s. (s ≡ Status.Write → ⊥) → K.faults output.new ≡ K.faults output.old) }
+    ensures did { OnOk result.1 ((at : ℕ) → StandsOn options.now (at_each at commands.items) work.old work.new (node_with (table_of kubelet) (D.content (disk_of kubelet)) (V.calls driver.old) (V.faults driver.old)) (node_with (table_of result.0) (D.content (disk_of result.0)) (V.calls driver.new) (V.faults driver.new)) (K.written output.old) (K.written output.new)) }
+    ensures stops { IfErr result.1 (λ s. (at : ℕ) → StoppedAmong options.now at commands.items work.old work.new (node_with (table_of kubelet) (D.content (disk_of kubelet)) (V.calls driver.old) (V.faults driver.old)) (node_with (table_of result.0) (D.content (disk_of result.0)) (V.calls driver.new) (V.faults driver.new)) (K.written output.old) (K.written output.new) s) }
+    ensures quiet { kubelet_count commands.items ≡ 0 → result.0 ≡ kubelet }
+    ensures going { OnOk result.1 (IsGoing options.now.node result.0) }
+    ensures write { IfErr result.1 (λ s. s ≡ Status.Write → Rose (K.faults output.old) (K.faults output.new)) }
+    ensures ok_faultless { OnOk result.1 (K.faults output.new ≡ K.faults output.old) }
+    ensures err_faultless { IfErr result.1 (λ s. (s ≡ Status.Write → ⊥) → K.faults output.new ≡ K.faults output.old) }
+    ensures disk { IfErr result.1 (λ s. s ≡ Status.Disk → Rose (D.faults (disk_of kubelet)) (D.faults (disk_of result.0))) }
+    ensures ok_faultless_disk { OnOk result.1 (D.faults (disk_of result.0) ≡ D.faults (disk_of kubelet)) }
+    ensures err_faultless_disk { IfErr result.1 (λ s. (s ≡ Status.Disk → ⊥) → D.faults (disk_of result.0) ≡ D.faults (disk_of kubelet)) }
     ensures sound { IsSound work.new.ledger }
 {
     histories_grow();
-    lines_of_more();
     let _entries = work.ledger.len();
+    let mut kubelet = kubelet;
     for command in commands {
-        do_next(rt, alloc, gate, work, at, command, options, output)?;
+        let (next, done) = do_next(
+            rt, alloc, gate, work, kubelet, command, options, output, driver,
+        );
+        kubelet = next;
+        match done {
+            Ok(()) => {}
+            Err(status) => return (kubelet, Err(status)),
+        }
     }
-    Ok(())
+    (kubelet, Ok(()))
 }
 
-/// Does what a document asks for, each as the next jobs, and prints the lines of each.
-pub fn do_document<R: Threads + Wait + Sync, K: Sink, G: Gate + Sync>(
+/// Does what a document asks for, each as the next commands, and prints the lines of each.
+pub fn do_document<R: Threads + Wait + Sync, K: Sink, D: Disk, V: Driver, G: Gate + Sync>(
     rt: &R,
     alloc: Global,
     gate: &G,
     work: &mut Work,
+    kubelet: LazyKubelet<D>,
     doc: &Doc,
-    options: ReplayOptions,
+    options: &ReplayOptions,
     output: &mut K,
-) -> Result<(), Status>
-    requires ready { IsReady work.old }
-    requires workers { (0 < options.workers) × (options.workers ≤ 64) }
-    requires attempts { 0 < options.attempts }
-    ensures did { OnOk result (DocumentDid options doc.now.at doc.now.bytes.items work.old work.new (K.written output.old) (K.written output.new)) }
-    ensures stops { IfErr result (DocumentStops options doc.now.at doc.now.bytes.items work.old work.new (K.written output.old) (K.written output.new)) }
-    ensures write { IfErr result (λ s. s ≡ Status.Write → Rose (K.faults output.old) (K.faults output.new)) }
-    ensures later { K.faults output.old ≤ K.faults output.new }
-    ensures ok_faultless { OnOk result (K.faults output.new ≡ K.faults output.old) }
-    ensures err_faultless { IfErr result (λ s. (s ≡ Status.Write → ⊥) → K.faults output.new ≡ K.faults output.old) }
+    driver: &mut V,
+) -> (LazyKubelet<D>, Result<(), Status>)
+    requires ready { IsReady work.old 1 }
+    requires going { IsGoing options.now.node kubelet }
+    requires workers { (0 < options.now.workers) × (options.now.workers ≤ 64) }
+    requires attempts { 0 < options.now.attempts }
+    ensures did { OnOk result.1 (DocumentDid options.now doc.now.at doc.now.bytes.items work.old work.new (node_with (table_of kubelet) (D.content (disk_of kubelet)) (V.calls driver.old) (V.faults driver.old)) (node_with (table_of result.0) (D.content (disk_of result.0)) (V.calls driver.new) (V.faults driver.new)) (K.written output.old) (K.written output.new)) }
+    ensures stops { IfErr result.1 (DocumentStops options.now doc.now.at doc.now.bytes.items work.old work.new (node_with (table_of kubelet) (D.content (disk_of kubelet)) (V.calls driver.old) (V.faults driver.old)) (node_with (table_of result.0) (D.content (disk_of result.0)) (V.calls driver.new) (V.faults driver.new)) (K.written output.old) (K.written output.new)) }
+    ensures quiet { ((cs : List Given) → reading options.now.attempts doc.now.bytes.items ≡ Asks cs → kubelet_count cs ≡ 0) → result.0 ≡ kubelet }
+    ensures going { OnOk result.1 (IsGoing options.now.node result.0) }
+    ensures write { IfErr result.1 (λ s. s ≡ Status.Write → Rose (K.faults output.old) (K.faults output.new)) }
+    ensures ok_faultless { OnOk result.1 (K.faults output.new ≡ K.faults output.old) }
+    ensures err_faultless { IfErr result.1 (λ s. (s ≡ Status.Write → ⊥) → K.faults output.new ≡ K.faults output.old) }
+    ensures disk { IfErr result.1 (λ s. s ≡ Status.Disk → Rose (D.faults (disk_of kubelet)) (D.faults (disk_of result.0))) }
+    ensures ok_faultless_disk { OnOk result.1 (D.faults (disk_of result.0) ≡ D.faults (disk_of kubelet)) }
+    ensures err_faultless_disk { IfErr result.1 (λ s. (s ≡ Status.Disk → ⊥) → D.faults (disk_of result.0) ≡ D.faults (disk_of kubelet)) }
     ensures sound { IsSound work.new.ledger }
 {
+    documents_ask_a_kubelet_once();
     let _entries = work.ledger.len();
     match commands(alloc, doc, options.attempts) {
-        Ok(given) => do_all(rt, alloc, gate, work, doc.at, given, options, output),
-        Err(GivenError::NotJson) => Err(Status::Document(doc.at, Rejection::NotJson)),
-        Err(GivenError::NotACommand) => Err(Status::Document(doc.at, Rejection::NotACommand)),
-        Err(GivenError::Memory) => Err(Status::Memory),
+        Ok(given) => do_all(
+            rt, alloc, gate, work, kubelet, given, options, output, driver,
+        ),
+        Err(GivenError::NotJson) => { (kubelet, Err(Status::Document(doc.at, Rejection::NotJson))) }
+        Err(GivenError::NotACommand) => {
+            (
+                kubelet,
+                Err(Status::Document(doc.at, Rejection::NotACommand)),
+            )
+        }
+        Err(GivenError::Memory) => (kubelet, Err(Status::Memory)),
     }
 }
 

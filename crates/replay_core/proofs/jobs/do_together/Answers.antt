@@ -12,13 +12,13 @@ run_works-requires-clause-differ g c κs within = all_differ c.args.before c.arg
 
 pub returns-in_err-run_works-clause-full : goal.returns-in_err-run_works-clause-full
 returns-in_err-run_works-clause-full g c = λ n e.
-    let met : RanTogether c.args.options.budget c.in_ok-works.works.items c.args.ledger.now c.run_works.new.ledger = search (rules, e) in
+    let met : RanTogether c.args.options.now.budget c.in_ok-works.works.items c.args.ledger.now c.run_works.new.ledger = search (rules, e) in
     let count : length c.run_works.new.ledger.entries ≡ n = search (rules, e) in
     let full : c.run_works.new.ledger.limit ≤ n = search (rules, e) in
     let some : SomeOpen c.run_works.new.ledger.entries c.in_ok-works.works.items = search (rules, e) in
-    met_together c.args.before c.args.commands.items c.in_ok-works.works.items c.args.options.budget c.args.ledger.now c.run_works.new.ledger n c.in_ok-works.ensures met count full some
+    met_together c.args.before c.args.commands.items c.in_ok-works.works.items c.args.options.now.budget c.args.ledger.now c.run_works.new.ledger n c.in_ok-works.ensures met count full some
 
 pub returns-clause-ran : goal.returns-clause-ran
 returns-clause-ran g c =
-    ran_together c.args.before c.args.commands.items c.in_ok-works.works.items c.args.options.budget c.args.ledger.now c.run_works.new.ledger c.in_ok-works.ensures
+    ran_together c.args.before c.args.commands.items c.in_ok-works.works.items c.args.options.now.budget c.args.ledger.now c.run_works.new.ledger c.in_ok-works.ensures
     c.in_ok-run_works.ensures.ran c.in_ok-run_works.ensures.done

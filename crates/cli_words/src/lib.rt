@@ -1,0 +1,12 @@
+//! The arguments of `dra`: which of them are a command, and what they ask for.
+#![tactic(auto)]
+
+mod asked;
+mod command;
+mod given;
+mod numbers;
+#[cfg(test)]
+mod tests;
+
+pub use asked::words;
+pub use command::{Command, ExerciseWords, ReplayWords, RunOptions, ServeWords};
