@@ -5,6 +5,7 @@ crash leaves can be tried at each call.
 """
 
 from collections import namedtuple
+from functools import lru_cache
 
 OPEN = 0x5A
 MAGIC = b"DRAKCKPT\0\0\0"
@@ -13,7 +14,7 @@ LAST_GATE = 67_108_863
 MOST = 65_535
 BEGUN, PREPARED, LEAVING, GONE = 1, 2, 3, 4
 
-# A key and a device id are kept in their printed form.
+# A key and a device id are kept in their printed form, and those of a list in a tuple.
 Record = namedtuple("Record", "kind uid key pods devices")
 Row = namedtuple("Row", "state uid key pods devices")
 Found = namedtuple("Found", "version base half second records closed")
@@ -103,11 +104,11 @@ def record_of(data):
     kind = body.take(1)[0]
     if kind in (BEGUN, PREPARED):
         uid, key = body.text(), body.key()
-        pods = [body.key() for _ in range(body.number())]
-        devices = [body.device() for _ in range(body.number())]
+        pods = tuple(body.key() for _ in range(body.number()))
+        devices = tuple(body.device() for _ in range(body.number()))
         record = Record(kind, uid, key, pods, devices)
     elif kind in (LEAVING, GONE):
-        record = Record(kind, body.text(), "", [], [])
+        record = Record(kind, body.text(), "", (), ())
     else:
         raise NoRecord
     if body.data:
@@ -118,26 +119,29 @@ def record_of(data):
 # ---- tables
 
 
+def add(table, record):
+    """Does a record to a table, which has its rows by uid, in the order in which they were made."""
+    if record.kind in (BEGUN, PREPARED):
+        table[record.uid] = Row(record.kind, *record[1:])
+    elif record.uid in table and record.kind == LEAVING:
+        table[record.uid] = table[record.uid]._replace(state=LEAVING)
+    elif record.kind == GONE:
+        table.pop(record.uid, None)
+
+
 def table_of(records):
-    """The rows that records make, in the order in which they were made."""
-    rows = {}
+    """The table that records make."""
+    table = {}
     for record in records:
-        if record.kind in (BEGUN, PREPARED):
-            rows[record.uid] = Row(record.kind, *record[1:])
-        elif record.uid in rows and record.kind == LEAVING:
-            rows[record.uid] = rows[record.uid]._replace(state=LEAVING)
-        elif record.kind == GONE:
-            rows.pop(record.uid, None)
-    return list(rows.values())
+        add(table, record)
+    return table
 
 
-def records_of(rows):
-    """The records of a compacted table."""
-    records = []
-    for row in rows:
-        records.append(Record(BEGUN if row.state == BEGUN else PREPARED, *row[1:]))
-        if row.state == LEAVING:
-            records.append(Record(LEAVING, row.uid, "", [], []))
+def records_of(row):
+    """The records of a row in a compacted table."""
+    records = [Record(BEGUN if row.state == BEGUN else PREPARED, *row[1:])]
+    if row.state == LEAVING:
+        records.append(Record(LEAVING, row.uid, "", (), ()))
     return records
 
 
@@ -145,9 +149,15 @@ def framed(body):
     return len(body).to_bytes(4, "big") + body
 
 
+@lru_cache(maxsize=None)
+def row_bytes(row):
+    """The bytes of a row in a compacted table."""
+    return b"".join(bytes([OPEN]) + framed(body_of(record)) for record in records_of(row))
+
+
 def compacted(rows):
     """The bytes of a compacted table, with the closed gate."""
-    return b"".join(bytes([OPEN]) + framed(body_of(record)) for record in records_of(rows)) + b"\0"
+    return b"".join(map(row_bytes, rows)) + b"\0"
 
 
 # ---- files
@@ -310,11 +320,15 @@ class Journal:
         self.disk = disk
         disk.sync()
         found = read_file(disk.read())
-        self.records, self.rows = found.records, table_of(found.records)
+        self.records, self.table = found.records, table_of(found.records)
         if found.version == 1:
             self.move_over(found.closed + 1, half)
         else:
             self.base, self.half, self.second, self.closed = found.base, found.half, found.second, found.closed
+
+    @property
+    def rows(self):
+        return list(self.table.values())
 
     def move_over(self, base, asked):
         table = compacted(self.rows)
@@ -344,7 +358,7 @@ class Journal:
         self.disk.put(self.closed + 1, framed(body) + b"\0")
         self.disk.put(self.closed, bytes([OPEN]))
         self.closed += 5 + len(body)
-        self.rows = table_of(records_of(self.rows) + [record])
+        add(self.table, record)
 
     def used(self):
         return self.closed - self.start(self.second) + 1

@@ -130,7 +130,7 @@ def changed_case(half, first, last, data):
 def long_case(half, length):
     journal = begin(None, half)
     try:
-        journal.append(Record(GONE, "u" * int(length), "", [], []))
+        journal.append(Record(GONE, "u" * int(length), "", (), ()))
     except Full:
         return "Full"
     return f"{len(journal.disk.data)} {len(begin(journal.disk.data, half).records)}"
@@ -188,8 +188,8 @@ class Tables:
             records = begin(data, self.half).records
         except NotAJournal as error:
             return f"NotAJournal({error.offset})"
-        table = table_of(records)
-        return f"{len(records)}{chr(97 + self.tables.index(table)) if table in self.tables else '!'}"
+        rows = list(table_of(records).values())
+        return f"{len(records)}{chr(97 + self.tables.index(rows)) if rows in self.tables else '!'}"
 
 
 def crashes_case(half, start, records):

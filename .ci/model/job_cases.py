@@ -1,5 +1,5 @@
-"""Reads the cases of jobs whose steps are made in the order that a case lists, and prints the lines that they append.
-The head of crates/job_cases/stdin says what a case may be.
+"""Reads the cases of jobs whose steps are made in the order that a case lists, and prints the lines that they append;
+and then the cases of states. The file crates/job_cases/stdin says what a case may be.
 
 usage: python3 .ci/model/job_cases.py < crates/job_cases/stdin
 """
@@ -12,7 +12,9 @@ import fields
 from containers import Container, print_case
 from documents import commands_of, object_command, read_json, read_or_invalid
 from jobs import History, HistoryFull, Job, WriteStatus
+from state_cases import text_of_states
 
+BORDER = b"\nstates\n"
 PLAIN = {"entries": 10**6, "budget": 100_000, "attempts": 32}
 
 
@@ -83,10 +85,18 @@ def case(line, lists):
     return "".join(f"-- {number}\n" + one_case(lists[front], one, steps, options) for number, one in each).encode()
 
 
+def jobs_of(content):
+    """The part of a file that has the cases of jobs."""
+    return Container(content.partition(BORDER)[0], "list")
+
+
 def main():
-    container = Container(sys.stdin.buffer.read(), "list")
+    content = sys.stdin.buffer.read()
+    container = jobs_of(content)
     for line in container.cases():
         print_case(line, case, container.parts)
+    states = content.partition(BORDER)[2].decode()
+    sys.stdout.buffer.write(f"== states\n{text_of_states(states)}".encode())
 
 
 if __name__ == "__main__":

@@ -9,10 +9,11 @@ from pathlib import Path
 
 import journal
 from containers import Container
-from job_cases import PLAIN, commands_of_list, run_front
+from job_cases import PLAIN, commands_of_list, jobs_of, run_front
 from jobs import History, Job
 from judge import Judge, Limits, Wrong, judged
-from replay_cases import PLAIN as PLAIN_REPLAY
+from kubelet import Driver, NodeDisk
+from replay_cases import PLAIN as PLAIN_REPLAY, found_bytes
 
 ROOT = Path(__file__).resolve().parent.parent.parent
 
@@ -35,8 +36,8 @@ def options_of(words, plain):
     return {**plain, **{name: int(number) for name, number in (word.split("=") for word in words)}}
 
 
-def limits_of(options):
-    return Limits(budget=options["budget"], attempts=options["attempts"], entries=options["entries"])
+def limits_of(options, node=""):
+    return Limits(budget=options["budget"], attempts=options["attempts"], entries=options["entries"], node=node)
 
 
 def examples():
@@ -64,15 +65,17 @@ def replay_cases():
         status = int(head.split(" ")[0])
         if status in (0, 3, 8):
             text = text.encode(errors="surrogateescape")
-            limits = limits_of(options_of(words, PLAIN_REPLAY))
-            yield line, lambda: expect(judged(container.parts[name], text, limits), status)
+            options = options_of(words, PLAIN_REPLAY)
+            limits = limits_of(options, f"n{options['node']}" if options["node"] else "")
+            disk, driver = NodeDisk(found_bytes(options)), Driver(options["fail-driver"])
+            yield line, lambda: expect(judged(container.parts[name], text, limits, disk, driver), status)
 
 
 def job_cases():
     """Steps of several jobs, some of which haven't ended."""
     folder = ROOT / "crates/job_cases"
     blocks = blocks_of((folder / "stdout").read_bytes())
-    container = Container((folder / "stdin").read_bytes(), "list")
+    container = jobs_of((folder / "stdin").read_bytes())
     for line in container.cases():
         verb, front, works, *words = line.partition(": ")[0].split(" ")
         options = options_of(words, PLAIN)

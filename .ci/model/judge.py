@@ -116,7 +116,7 @@ class Judge:
     """The lines of a journal, the state after those that were judged, and within the entries of a Together the states
     before, by place."""
 
-    def __init__(self, text, limits=Limits()):
+    def __init__(self, text, limits=Limits(), disk=None, driver=None):
         self.lines = text.split("\n")
         self.has_end = self.lines[-1] == ""
         if self.has_end:
@@ -127,7 +127,7 @@ class Judge:
         self.state = State()
         self.states = {}
         self.searches = {}
-        self.kubelet = Kubelet(limits.node)
+        self.kubelet = Kubelet(limits.node, disk, driver)
 
     # Lines
 
@@ -413,9 +413,10 @@ def asked_in(script):
     return found, 0
 
 
-def judged(script, text, limits=Limits()):
-    """Judges a journal, given as bytes, and returns the status with which the replay of the script ends."""
-    return Judge(text.decode(errors="surrogateescape"), limits).run(script)
+def judged(script, text, limits=Limits(), disk=None, driver=None):
+    """Judges a journal, given as bytes, and returns the status with which the replay of the script ends. The kubelet finds
+    the disk so, or an empty one, and asks the driver, or one that never fails."""
+    return Judge(text.decode(errors="surrogateescape"), limits, disk, driver).run(script)
 
 
 def main():

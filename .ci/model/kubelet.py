@@ -14,7 +14,7 @@ each once, and the first refusal ends the command; if the pod isn't there, that 
 The checkpoint is opened at the first of these commands, and made if it is empty.
 """
 
-from checkpoint import BEGUN, GONE, LEAVING, PREPARED, Full, Journal, PlainDisk, Record, make_file
+from checkpoint import BEGUN, GONE, LEAVING, PREPARED, Disk, Full, Journal, PlainDisk, Record, make_file
 from documents import Prepare, Reopen
 from state import WRITTEN
 
@@ -41,20 +41,28 @@ class Driver:
             raise Refused("DriverFault")
 
 
+class KeptDisk(Disk):
+    """A disk that keeps what a crash may leave at each moment."""
+
+    def length(self):
+        self.call()
+        return len(self.data)
+
+
 class NodeDisk(PlainDisk):
     """A disk whose call of a number fails and does nothing."""
 
     def __init__(self, data=b"", failing=0):
-        super().__init__(data)
+        super().__init__(bytearray(data))
         self.failing = failing
 
     def write(self, at, more):
         self.call()
-        super().write(at, more)
+        self.data[at : at + len(more)] = more
 
     def cut(self, length):
         self.call()
-        super().cut(length)
+        del self.data[length:]
 
     def sync(self):
         self.call()
@@ -113,7 +121,7 @@ class Kubelet:
 
     def record(self, kind, uid, key="", pods=(), devices=()):
         try:
-            self.journal.append(Record(kind, uid, key, list(pods), list(devices)))
+            self.journal.append(Record(kind, uid, key, tuple(pods), tuple(devices)))
         except Full:
             raise Refused("Full") from None
 

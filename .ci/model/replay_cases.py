@@ -6,9 +6,10 @@ usage: python3 .ci/model/replay_cases.py < crates/replay_cases/stdin
 
 import sys
 
-from checkpoint import BEGUN, MAGIC, OPEN, Record, body_of, framed
+from checkpoint import BEGUN, MAGIC, OPEN, Journal, NotAJournal, PlainDisk, Record, body_of, framed, new_file
+from checkpoint_cases import PICKS, listed
 from containers import Container, print_case
-from kubelet import Driver, Kubelet, NodeDisk, uid_text
+from kubelet import HALF, Driver, KeptDisk, Kubelet, NodeDisk, uid_text
 from script import Input, Output, ReadFailed, Workers, replay
 
 PLAIN = {
@@ -24,6 +25,7 @@ PLAIN = {
     "fail-disk": 0,
     "fail-driver": 0,
     "found": 0,
+    "half": 0,
     "held": 0,
     "reserved": 0,
     "until": 0,
@@ -35,13 +37,16 @@ PLAIN = {
 # another program. The version is 0, and a gate is open before a record and closed behind the last.
 HEADER = MAGIC + bytes(5)
 OLD_EMPTY = HEADER + b"\0"
-BEGINS = Record(BEGUN, uid_text(5), "default/c", ["default/p"], ["gpu.example.com/n2/gpu-0"])
+BEGINS = Record(BEGUN, uid_text(5), "default/c", ("default/p",), ("gpu.example.com/n2/gpu-0",))
 OLD = HEADER + bytes([OPEN]) + framed(body_of(BEGINS)) + b"\0"
 OTHER = b"SQLite format 3\0"
 
 
-def found_bytes(found):
+def found_bytes(options):
     """The bytes of the checkpoint as it is found."""
+    if options["half"]:
+        return new_file(options["half"])
+    found = options["found"]
     if found == 1:
         return OLD_EMPTY
     return OLD[:found] if found <= len(OLD) else OTHER
@@ -57,12 +62,13 @@ def node_text(status, disk, driver, found):
 class Outcome:
     """How a replay ended."""
 
-    def __init__(self, script, options):
+    def __init__(self, script, options, kept=False):
         source = Input(script, options["pieces"], options["fail-read"])
         output = Output(options["takes"], options["fail-write"])
         workers = Workers(options["workers"], options["held"], options["reserved"] != 0, options["until"])
-        found = found_bytes(options["found"])
-        disk, driver = NodeDisk(found, options["fail-disk"]), Driver(options["fail-driver"])
+        found = found_bytes(options)
+        disk = self.disk = (KeptDisk if kept else NodeDisk)(found, options["fail-disk"])
+        driver = Driver(options["fail-driver"])
         kubelet = Kubelet(f"n{options['node']}" if options["node"] else "", disk, driver)
         status = replay(source, output, options["budget"], options["attempts"], options["entries"], workers, kubelet)
         self.reads = source.reads
@@ -123,6 +129,21 @@ def varied(verb, script, options):
     return [(number, script, {**options, name: number}) for number in numbers]
 
 
+def table_in(data):
+    """The table of a checkpoint, or that there is none."""
+    try:
+        return listed(Journal(PlainDisk(data), HALF).rows).encode()
+    except NotAJournal:
+        return b"no checkpoint"
+
+
+def crashes(script, options):
+    """The tables that a crash leaves at each moment of a run, each in eight ways, which are numbered."""
+    moments = Outcome(script, options, kept=True).disk.moments
+    images = (moment.image(pick) for moment in moments for pick in range(PICKS))
+    return [(number, table_in(image)) for number, image in enumerate(images)]
+
+
 def case(line, scripts):
     """What a case prints."""
     verb, *words = line.split(" ")
@@ -131,6 +152,8 @@ def case(line, scripts):
     options = {**PLAIN, **{name: int(number) for name, number in (word.split("=") for word in words[count:])}}
     if verb == "run":
         return Outcome(named[0], options).whole()
+    if verb == "crashes":
+        return report(crashes(named[0], options))
     other = Outcome(named[0], {**options, "fail-disk": 0}).content
     if verb == "each":
         lines = named[1].removesuffix(b"\n").split(b"\n") if named[1] else []

@@ -14,7 +14,8 @@ class SelectorError(Exception):
     """The word of an evaluation's error."""
 
 
-# Why a text is no selector: it is no expression, it has no type or another than bool, or its estimate is too large.
+# Why a text is no selector: it is no expression or more than 64 levels deep, it has no type or another than bool, or its
+# estimate is too large.
 TENFOLD = "[0,1,2,3,4,5,6,7,8,9].all(x, "
 REFUSED = {
     "1 +": "Parse",
@@ -23,12 +24,15 @@ REFUSED = {
     "1": "Check",
     "device.name == 'a'": "Check",
     TENFOLD * 6 + "true" + ")" * 6: "Cost",
+    "+".join("1" * 64) + " == 64": "Parse",
+    "+".join("1" * 71) + " == 71": "Parse",
 }
 
 # What texts evaluate to that don't depend on the device: a truth value, or the word of an error.
 CONSTANTS = {
     "true": True,
     "false": False,
+    "+".join("1" * 63) + " == 63": True,
     "1 / 0 == 1": "DivByZero",
     "9223372036854775807 + 1 == 0": "Overflow",
     "[1, 2][2] == 1": "OutOfRange",

@@ -13,7 +13,7 @@ use Rattle.api_claim.specs.declared.types.AllocationMode.{AllocationMode}
 use Rattle.api_claim.specs.declared.types.AllocationMode.TheVariants.{ExactCount, All}
 use Rattle.api_claim.specs.declared.types.DeviceAsk.{DeviceAsk}
 use Rattle.api_claim.specs.declared.types.ResourceClaim.{ResourceClaim}
-use Rattle.selector_meaning.specs.declared.matching.Match.{Match}
+use Rattle.pool_view.specs.declared.matching.Match.{Match}
 use Rattle.pool_view.specs.Names.{key_eq}
 use Rattle.pool_view.specs.Pools.{Offered}
 use Rattle.pool_view.specs.Usable.{usable_slices}

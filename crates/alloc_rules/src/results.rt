@@ -8,9 +8,8 @@ ghost use Rattle.plan_rules.specs.Standing as spec;
 
 use crate::due::Due;
 use cluster::{DeviceResult, Failure, Grant};
-use pool_view::PoolView;
+use pool_view::{Match, PoolView};
 use request_rows::Rows;
-use selector_meaning::Match;
 use std::alloc::{AllocError, Global};
 
 /// The first of the results whose device isn't in the view.

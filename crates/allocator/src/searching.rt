@@ -26,6 +26,7 @@ use pool_view::DeviceRef;
 use request_rows::{Rows, Wants};
 use std::alloc::{AllocError, Global};
 use std::mem;
+use verdict_memo::Verdicts;
 use walk::{outcome_is_exact, walk_has_each_item};
 
 /// What the search of a board came to.
@@ -139,7 +140,8 @@ fn search_rows<'a>(
 /// least allocation as a grant for each claim, a selector error that comes before each allocation, that there
 /// is neither, or that the budget is spent before one of these is known. `holders` are the devices
 /// that claims hold; `totals` has the counters of the devices' pools, with what the held devices draw,
-/// and has the same after the search, whatever the result. `AllocError` only if memory runs out.
+/// and has the same after the search, whatever the result. `verdicts` remember what selectors evaluate to on devices.
+/// `AllocError` only if memory runs out.
 pub fn search_devices(
     alloc: Global,
     devices: &[DeviceRef],
@@ -148,12 +150,13 @@ pub fn search_devices(
     holders: &Held,
     totals: &mut Totals,
     budget: u64,
+    verdicts: &mut Verdicts,
 ) -> Result<Outcome, AllocError>
     requires apart { AreApart devices.now }
     ensures answer { IfOk result (λ found. (pairs : List (DeviceId × Key)) → AreHeld holders.now pairs → answer_of (with_counters (asking wants.now devices.now broken) pairs (value_of totals.old) (drawn_in totals.old)) budget ≡ Some found) }
     ensures value { (k : CounterId) → value_of totals.new k ≡ value_of totals.old k }
     ensures drawn { (k : CounterId) → drawn_in totals.new k ≡ drawn_in totals.old k }
 {
-    let rows = Rows::of(alloc, wants, devices, broken)?;
+    let rows = Rows::with(alloc, wants, devices, broken, verdicts)?;
     search_rows(alloc, &rows, wants, holders, totals, budget)
 }

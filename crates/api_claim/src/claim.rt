@@ -1,6 +1,7 @@
-ghost use Rattle.std.specs.Prelude.{◌≡◌, []};
+ghost use Rattle.std.specs.Prelude.{◌≡◌, ◌++◌, [], ◌∷◌, codes};
 ghost use Rattle.serde_json.specs.View.{view};
-ghost use Rattle.object_fields.specs.Fields.{Gives, Reads};
+ghost use Rattle.object_fields.specs.Fields.{Reads, object_at, ◌>>=◌ as ◌and_then◌};
+ghost use Rattle.object_fields.specs.declared.path.Step.TheVariants.{Member};
 ghost use Rattle.api_claim.specs.Claims as fields;
 
 use crate::constraints::read_constraints;
@@ -66,7 +67,14 @@ fn read_devices(alloc: Global, document: &Value) -> Result<Devices, FieldError>
     let top = Path::top(alloc);
     let spec = object(alloc, document, &top, "spec")?;
     let path = top.member(alloc, "spec")?;
-    let devices = object(alloc, spec, &path, "devices")?;
+    read_spec(alloc, spec, &path)
+}
+
+fn read_spec(alloc: Global, spec: &Value, path: &Path) -> Result<Devices, FieldError>
+    ensures { Reads result (object_at path.now (codes "devices") (view spec.now)
+        and_then fields.devices_in (path.now ++ Member (codes "devices") ∷ [])) }
+{
+    let devices = object(alloc, spec, path, "devices")?;
     let path = path.member(alloc, "devices")?;
     read_lists(alloc, devices, &path)
 }

@@ -1,7 +1,8 @@
-ghost use Rattle.std.specs.Prelude.{◌≡◌};
+ghost use Rattle.std.specs.Prelude.{◌≡◌, ◌++◌, [], ◌∷◌};
 ghost use Rattle.serde_json.specs.View.{items_view, view};
 ghost use Rattle.object_fields.specs.Fields.{Reads};
 ghost use Rattle.object_fields.specs.Lists.{each};
+ghost use Rattle.object_fields.specs.declared.path.Step.TheVariants.{Place};
 ghost use Rattle.api_claim.specs.Constraints as fields;
 
 use crate::lists::has_text;
@@ -47,11 +48,25 @@ fn read_each(
 {
     let mut constraints = Seq::empty(alloc);
     for place in 0..values.len() {
-        let at = path.place(alloc, place)?;
-        let constraint = read_constraint(alloc, &values[place], &at, names)?;
+        let constraint = read_constraint_in(alloc, &values[place], path, place, names)?;
         or_memory(alloc, constraints.push(constraint))?;
     }
     Ok(constraints)
+}
+
+/// The constraint at an index of the list.
+fn read_constraint_in(
+    alloc: Global,
+    value: &Value,
+    path: &Path,
+    place: usize,
+    names: &[Text],
+) -> Result<DeviceConstraint, FieldError>
+    ensures { Reads result
+        (fields.constraint_at names.now (path.now ++ Place place ∷ []) (view value.now)) }
+{
+    let at = path.place(alloc, place)?;
+    read_constraint(alloc, value, &at, names)
 }
 
 fn read_constraint(
@@ -100,11 +115,25 @@ fn read_each_request(
 {
     let mut requests = Seq::empty(alloc);
     for place in 0..values.len() {
-        let at = path.place(alloc, place)?;
-        let request = read_known(alloc, &values[place], &at, names)?;
+        let request = read_known_in(alloc, &values[place], path, place, names)?;
         or_memory(alloc, requests.push(request))?;
     }
     Ok(requests)
+}
+
+/// The name at an index of the list.
+fn read_known_in(
+    alloc: Global,
+    value: &Value,
+    path: &Path,
+    place: usize,
+    names: &[Text],
+) -> Result<Text, FieldError>
+    ensures { Reads result
+        (fields.known_at names.now (path.now ++ Place place ∷ []) (view value.now)) }
+{
+    let at = path.place(alloc, place)?;
+    read_known(alloc, value, &at, names)
 }
 
 fn read_known(alloc: Global, value: &Value, path: &Path, names: &[Text]) -> Result<Text, FieldError>

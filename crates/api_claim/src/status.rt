@@ -1,7 +1,10 @@
-ghost use Rattle.std.specs.Prelude.{◌≡◌, [], option_map};
+ghost use Rattle.std.specs.Prelude.{◌≡◌, ◌++◌, [], ◌∷◌, codes, option_map};
 ghost use Rattle.serde_json.specs.Find.{as_str};
 ghost use Rattle.serde_json.specs.View.{items_view, view};
-ghost use Rattle.object_fields.specs.Fields.{Reads};
+ghost use Rattle.object_fields.specs.Fields.{Reads, ◌>>=◌ as ◌and_then◌};
+ghost use Rattle.object_fields.specs.Lists.{each};
+ghost use Rattle.object_fields.specs.declared.path.Step.TheVariants.{Member};
+ghost use Rattle.api_claim.specs.Lists.{some_items_at};
 ghost use Rattle.api_claim.specs.Status as fields;
 
 use crate::asks::read_admin;
@@ -97,7 +100,19 @@ fn read_results(
 {
     let devices = object(alloc, allocation, path, "devices")?;
     let path = path.member(alloc, "devices")?;
-    let results = some_items(alloc, devices, &path, "results", RESULTS_MOST)?;
+    read_result_list(alloc, devices, &path)
+}
+
+fn read_result_list(
+    alloc: Global,
+    devices: &Value,
+    path: &Path,
+) -> Result<Seq<StatusResult>, FieldError>
+    ensures { Reads result
+        (some_items_at fields.results_most path.now (codes "results") (view devices.now)
+        and_then each fields.result_at (path.now ++ Member (codes "results") ∷ [])) }
+{
+    let results = some_items(alloc, devices, path, "results", RESULTS_MOST)?;
     let path = path.member(alloc, "results")?;
     read_items(alloc, results, &path)
 }

@@ -60,6 +60,9 @@ use Rattle.api_print.specs.Shapes.{own_text}
 use Rattle.api_print.specs.Slices.{slice_all_nodes, slice_json, slice_node_name, slice_node_selector, slice_per_device, slice_spec_json}
 use Rattle.api_print.specs.Status.{allocation_json, claim_json, items_if, result_json, status_if, status_json, user_by, user_of, written_users}
 use Rattle.api_print.specs.Taints.{effect_if, taint_json, toleration_json, value_if}
+use Rattle.api_print.specs.Parts.{part_json}
+use Rattle.api_print.specs.declared.part.Part.{Part}
+use Rattle.api_print.specs.declared.part.Part.TheVariants as part
 use Rattle.api_print.proofs.Plain.{HavePlain, Plain, PlainIf, and_then_plain, appended, are_plain, flag_plain, in_object, list_if_plain, list_plain, missing, none, option_plain, plain_depth, plain_floats, some, table_if_plain, table_plain, text, text_if_plain, with_if, with_one}
 
 -- ---- metadata and the object around
@@ -327,6 +330,14 @@ json_plain s (target.Slice name) = option_plain 21 slice_json _ slice_plain
 json_plain s (target.Class name) = option_plain 21 class_json _ class_plain
 json_plain s (target.Claim key) = option_plain 21 (claim_json s.pods) _ (claim_plain s.pods)
 json_plain s (target.Pod key) = option_plain 21 (λ (p : PodState). pod_json p.pod) _ (λ p. pod_plain p.pod)
+
+pub part_plain : (p : Part) → PlainIf 21 (part_json p)
+part_plain part.Absent = missing
+part_plain (part.Node node) = some (node_plain node)
+part_plain (part.Slice slice) = some (slice_plain slice)
+part_plain (part.Class class) = some (class_plain class)
+part_plain (part.Claim claim pods) = some (claim_plain pods claim)
+part_plain (part.Pod pod) = some (pod_plain pod)
 
 -- the text of a value that is `Plain`
 pub text_from : (v : Data) (o : Option Data) (bytes : List ℕ) → Some v ≡ o → PlainIf 21 o → (has_float v ≡ false → bytes ≡ compact_text v) → Some bytes ≡ option_map compact_text o

@@ -19,3 +19,4 @@ mod SliceBack
 mod Statuses
 mod Tables
 mod TaintsBack
+mod UserPods

@@ -10,6 +10,7 @@ pub mod Slices
 pub mod Claims
 pub mod Status
 pub mod Objects
+pub mod Parts
 pub mod ReadBack
 pub mod Ranges
 pub mod LeftOut

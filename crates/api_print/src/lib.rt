@@ -28,6 +28,7 @@ mod laws;
 mod listing;
 mod metadata;
 mod node;
+mod part;
 mod pod;
 mod printing;
 mod properties;
@@ -47,6 +48,7 @@ pub use laws::{
 };
 pub use metadata::uid_text;
 pub use node::node_value;
+pub use part::{Part, part_of};
 pub use pod::pod_value;
-pub use printing::{print, value_of};
+pub use printing::{part_value, print, print_part, value_of};
 pub use slice::slice_value;

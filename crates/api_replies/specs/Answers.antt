@@ -120,6 +120,22 @@ made_code Apply = 200
 
 -- ---- the last entry of a job
 
+-- the object of a state that the answer shows, if it shows one and it exists
+abbrev pub json_after : State → Event → Option Data
+json_after s (Applied made mode) = json_of s (target_for made)
+json_after s (Deleted t) = None
+json_after s (Reserved pod plan) = None
+json_after s (Refused pod plan why) = None
+json_after s (Wrote pod claim seen) = None
+json_after s (Conflict pod claim had now) = None
+json_after s (Unreserved pod) = None
+json_after s (Bound pod node) = None
+json_after s (VerdictGiven pod verdict) = None
+json_after s (Contended pod attempts) = None
+json_after s (Released pod) = None
+json_after s (Adopted claim status) = json_of s (target.Claim claim)
+json_after s (Denied command refusal) = None
+
 abbrev pub ended_by : State → ℕ → Entry → Event → Answer
 ended_by s place e (Applied made mode) = object_answer (made_code mode) s (target_for made)
 ended_by s place e (Deleted t) = success
@@ -138,6 +154,22 @@ ended_by s place e (Denied command refusal) = denied (Denied command refusal) re
 -- the answer to a command whose job ended with this entry at this index, which left this state
 abbrev pub ended : State → ℕ → Entry → Answer
 ended s place e = ended_by s place e e.event
+
+-- the same, by the object that it shows
+abbrev pub ended_with : Option Data → ℕ → Entry → Event → Answer
+ended_with shown place e (Applied made mode) = object_by (made_code mode) (target_for made) shown
+ended_with shown place e (Deleted t) = success
+ended_with shown place e (Reserved pod plan) = done place e
+ended_with shown place e (Refused pod plan why) = done place e
+ended_with shown place e (Wrote pod claim seen) = done place e
+ended_with shown place e (Conflict pod claim had now) = done place e
+ended_with shown place e (Unreserved pod) = done place e
+ended_with shown place e (Bound pod node) = done place e
+ended_with shown place e (VerdictGiven pod verdict) = done place e
+ended_with shown place e (Contended pod attempts) = done place e
+ended_with shown place e (Released pod) = done place e
+ended_with shown place e (Adopted claim status) = object_by 200 (target.Claim claim) shown
+ended_with shown place e (Denied command refusal) = denied (Denied command refusal) refusal
 
 -- ---- the journal
 

@@ -2,6 +2,7 @@
 //! is to be shown.
 #![tactic(auto)]
 
+mod after;
 mod ending;
 mod failures;
 mod lists;
@@ -12,6 +13,7 @@ mod quoted;
 mod reason;
 mod showing;
 
+pub use after::part_after;
 pub use ending::ended;
 pub use failures::{absent, refused};
 pub use lists::listed;

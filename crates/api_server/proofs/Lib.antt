@@ -6,3 +6,10 @@ pub mod Making
 pub mod Placing
 pub mod Sent
 pub mod Talk
+pub mod Serving
+pub mod Turning
+pub mod Single
+pub mod Made
+pub mod Replies
+pub mod Attempts
+pub mod Sends

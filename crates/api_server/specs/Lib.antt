@@ -2,3 +2,8 @@ pub mod Connections
 pub mod EndCauses
 pub mod Entries
 pub mod Standing
+pub mod Talks
+pub mod Once
+pub mod Served
+pub mod Requests
+pub mod Ledgers

@@ -13,7 +13,7 @@ use Rattle.api_requests.specs.Tasks.{task_of}
 use Rattle.api_requests.specs.declared.task.Task.{Task}
 use Rattle.api_requests.specs.declared.task.Task.TheVariants.{Run as Carry, Show, List as Listing, History}
 use Rattle.api_replies.specs.Answers.{Answer, answer_of, refused}
-use Rattle.api_tasks.specs.Served.{IsTaskReply}
+use Rattle.api_server.specs.Served.{IsTaskReply}
 use Rattle.api_server.specs.Connections.{job_of}
 use Rattle.api_server.specs.declared.service.Service.{Service}
 

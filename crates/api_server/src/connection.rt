@@ -9,12 +9,12 @@ ghost use Rattle.http_wire.specs.Requests.{IsRequest};
 
 use crate::end::ConnEnd;
 use crate::service::Service;
+use crate::{Unreplied, serve_request};
 use api_replies::refused;
 use api_routes::Unserved;
-use api_tasks::{Unreplied, serve_request};
 use dra_ports::{Conn, Gate};
 use http_wire::{Reply, Request, RequestReader, WireError, requests_lie_in_order, write_reply};
-use ledger_core::Ledger;
+use sched_job::Ledger;
 use std::alloc::Global;
 use std::sync::Wait;
 use turn_lock::{Pass, TurnLock};

@@ -6,9 +6,10 @@ ghost use Rattle.sched_job.specs.Owned.{AllIn};
 ghost use Rattle.http_wire.specs.Replies.{reply_bytes};
 ghost use Rattle.http_wire.specs.Requests.{Message};
 ghost use Rattle.http_wire.specs.declared.reply.Reply.{Reply};
-ghost use Rattle.api_tasks.specs.declared.serve.Unreplied.TheVariants as why;
+ghost use Rattle.api_server.specs.declared.serve.Unreplied.{Unreplied};
+ghost use Rattle.api_server.specs.declared.serve.Unreplied.TheVariants as why;
 ghost use Rattle.api_server.specs.Connections.{Connected, IsReplied, IsUnreplied, Replies, job_of};
-ghost use Rattle.api_server.specs.Entries.{HasMade};
+ghost use Rattle.api_server.specs.Entries.{Grew, HasMade};
 ghost use Rattle.api_server.specs.Standing.{AllStand, AllTheirs, IsFullFor};
 
 use crate::{ConnEnd, Service};
@@ -16,9 +17,13 @@ use http_wire::requests_lie_in_order;
 use sched_job::runs_go_past;
 
 /// However a connection ended, the entries that were made with its pass meanwhile come after all that the pass had
-/// seen before, and each is of the job of one of the connection's requests, and of that request's command.
+/// seen before, and each is of the job of one of the connection's requests, and of that request's command (`made`). So
+/// are those that were made for some of the requests, which are replied to (`replied`), and for one that isn't
+/// (`unreplied`).
 pub fn connections_make_entries()
     ensures made { (s : Service) (began now : Known Entry) (l l' w w' : Option (List ℕ)) (e : ConnEnd) → IsFree began → Connected s began now l l' w w' e → HasMade s began now l l' }
+    ensures replied { (s : Service) (index : ℕ) (old new : Known Entry) (ms : List Message) (out : List ℕ) → IsFree old → Replies s index old ms new out → Grew s index ms old new }
+    ensures unreplied { (s : Service) (index : ℕ) (m : Message) (old new : Known Entry) (reason : Unreplied) → IsFree old → IsUnreplied s index m old new reason → Grew s index (m ∷ []) old new }
 {
     requests_lie_in_order();
 }

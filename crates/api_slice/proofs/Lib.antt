@@ -5,3 +5,4 @@ pub mod Parts
 pub mod Placement
 pub mod Limits
 pub mod Listed
+pub mod Entries

@@ -9,6 +9,7 @@ pub mod Consumption
 pub mod Attributes
 pub mod Capacity
 pub mod Properties
+pub mod Entries
 pub mod Devices
 pub mod Slices
 pub mod Limits

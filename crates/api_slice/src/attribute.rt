@@ -3,6 +3,7 @@ ghost use Rattle.std.specs.Str.{chars};
 ghost use Rattle.serde_json.specs.View.{members_view, view};
 ghost use Rattle.object_fields.specs.Fields.{Gives, Reads, optional_at};
 ghost use Rattle.api_slice.specs.Attributes as fields;
+ghost use Rattle.api_slice.specs.Entries.{attribute_entry, attributes_by};
 
 use crate::qualified::new_name;
 use crate::types::Attribute;
@@ -32,6 +33,7 @@ pub(crate) fn read_attributes(
     attributes_in(alloc, members, &path, driver)
 }
 
+#[tactic(auto, using(crate::proofs::Entries::attributes_are))]
 fn attributes_in(
     alloc: Global,
     members: Option<&Map<String, Value>>,
@@ -54,16 +56,32 @@ fn attributes_of(
     driver: &str,
 ) -> Result<Table<QualName, Attribute>, FieldError>
     ensures { Reads result
-        (fields.attributes_with driver.now path.now [] (members_view members.now.entries)) }
+        (attributes_by driver.now path.now [] (members_view members.now.entries)) }
 {
     let mut attributes = Table::new(alloc);
     for (key, value) in members {
-        let at = path.key(alloc, key.as_str())?;
-        let name = new_name(alloc, key.as_str(), &at, driver, &attributes)?;
-        let attribute = read_attribute(alloc, value, &at)?;
+        let (name, attribute) = read_entry(alloc, key.as_str(), value, path, driver, &attributes)?;
         or_memory(alloc, attributes.insert(name, attribute))?;
     }
     Ok(attributes)
+}
+
+/// The full name of a member, which none before has, and its value.
+fn read_entry(
+    alloc: Global,
+    key: &str,
+    value: &Value,
+    path: &Path,
+    driver: &str,
+    before: &Table<QualName, Attribute>,
+) -> Result<(QualName, Attribute), FieldError>
+    ensures { Reads result
+        (attribute_entry driver.now path.now before.now key.now (view value.now)) }
+{
+    let at = path.key(alloc, key)?;
+    let name = new_name(alloc, key, &at, driver, before)?;
+    let attribute = read_attribute(alloc, value, &at)?;
+    Ok((name, attribute))
 }
 
 /// The one value of an attribute, at its own path.

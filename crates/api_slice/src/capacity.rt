@@ -2,6 +2,7 @@ ghost use Rattle.std.specs.Prelude.{◌≡◌, []};
 ghost use Rattle.serde_json.specs.View.{members_view, view};
 ghost use Rattle.object_fields.specs.Fields.{Reads};
 ghost use Rattle.api_slice.specs.Capacity as fields;
+ghost use Rattle.api_slice.specs.Entries.{capacity_by, capacity_entry};
 
 use crate::amount::read_quantity;
 use crate::lists::{count_in, exceed};
@@ -19,6 +20,7 @@ const TOGETHER_MOST: usize = 32;
 
 /// The capacities of a device by their full names; none where they are missing. It is TooMany at
 /// `capacity` where these and the attributes are too many together.
+#[tactic(auto, using(crate::proofs::Entries::capacity_is))]
 pub(crate) fn read_capacity(
     alloc: Global,
     device: &Value,
@@ -56,16 +58,32 @@ fn capacity_with(
     driver: &str,
 ) -> Result<Table<QualName, Quantity>, FieldError>
     ensures { Reads result
-        (fields.capacity_with driver.now path.now [] (members_view members.now.entries)) }
+        (capacity_by driver.now path.now [] (members_view members.now.entries)) }
 {
     let mut capacity = Table::new(alloc);
     for (key, value) in members {
-        let at = path.key(alloc, key.as_str())?;
-        let name = new_name(alloc, key.as_str(), &at, driver, &capacity)?;
-        let amount = read_one(alloc, value, &at)?;
+        let (name, amount) = read_entry(alloc, key.as_str(), value, path, driver, &capacity)?;
         or_memory(alloc, capacity.insert(name, amount))?;
     }
     Ok(capacity)
+}
+
+/// The full name of a member, which none before has, and its value.
+fn read_entry(
+    alloc: Global,
+    key: &str,
+    value: &Value,
+    path: &Path,
+    driver: &str,
+    before: &Table<QualName, Quantity>,
+) -> Result<(QualName, Quantity), FieldError>
+    ensures { Reads result
+        (capacity_entry driver.now path.now before.now key.now (view value.now)) }
+{
+    let at = path.key(alloc, key)?;
+    let name = new_name(alloc, key, &at, driver, before)?;
+    let amount = read_one(alloc, value, &at)?;
+    Ok((name, amount))
 }
 
 /// A capacity's value, at its own path.

@@ -2,6 +2,7 @@ ghost use Rattle.std.specs.Prelude.{◌≡◌, []};
 ghost use Rattle.serde_json.specs.View.{items_view, members_view, view};
 ghost use Rattle.object_fields.specs.Fields.{Reads};
 ghost use Rattle.api_slice.specs.Consumption as fields;
+ghost use Rattle.api_slice.specs.Entries.{draw_entry, draws_by};
 
 use crate::amount::read_amount;
 use crate::lists::{count_on, items_or_none};
@@ -19,6 +20,7 @@ use std::alloc::Global;
 const AMOUNTS_MOST: usize = 32;
 
 /// What a device draws from counter sets of its pool; nothing where it is missing.
+#[tactic(auto, using(crate::proofs::Entries::draws_are))]
 pub(crate) fn read_consumption(
     alloc: Global,
     device: &Value,
@@ -45,21 +47,33 @@ fn each_draw(
     values: &[Value],
     path: &Path,
 ) -> Result<Seq<CounterConsumption>, FieldError>
-    ensures { Reads result (fields.draws_from path.now 0 0 [] (items_view values.now)) }
+    ensures { Reads result (draws_by path.now 0 0 [] (items_view values.now)) }
 {
     let mut draws = ByName::empty(alloc);
     let mut met = 0;
     for place in 0..values.len() {
-        let at = path.place(alloc, place)?;
-        let set = new_drawn_set(alloc, &values[place], &at, &draws)?;
-        let (amounts, more) = read_amounts(alloc, &values[place], path, &at, met)?;
-        draws = or_memory(
-            alloc,
-            draws.with(alloc, CounterConsumption { set, amounts }),
-        )?;
+        let (draw, more) = read_draw(alloc, &values[place], path, place, met, &draws)?;
+        draws = or_memory(alloc, draws.with(alloc, draw))?;
         met = more;
     }
     Ok(draws.into_seq())
+}
+
+/// What is drawn at an index of the list, and how many amounts there are so far with its own.
+fn read_draw(
+    alloc: Global,
+    value: &Value,
+    list: &Path,
+    place: usize,
+    met: usize,
+    draws: &ByName<CounterConsumption>,
+) -> Result<(CounterConsumption, usize), FieldError>
+    ensures { Reads result (draw_entry list.now place met draws.now (view value.now)) }
+{
+    let at = list.place(alloc, place)?;
+    let set = new_drawn_set(alloc, value, &at, draws)?;
+    let (amounts, more) = read_amounts(alloc, value, list, &at, met)?;
+    Ok((CounterConsumption { set, amounts }, more))
 }
 
 /// The name of the set from which is drawn, and nothing was before. Missing, then WrongType, then

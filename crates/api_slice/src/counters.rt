@@ -2,6 +2,7 @@ ghost use Rattle.std.specs.Prelude.{◌≡◌, ◌&&◌, [], codes, not};
 ghost use Rattle.serde_json.specs.View.{items_view, members_view, view};
 ghost use Rattle.object_fields.specs.Fields.{Reads, has_no_items, member_of};
 ghost use Rattle.api_slice.specs.Counters as fields;
+ghost use Rattle.api_slice.specs.Entries.{counter_entry, counters_by};
 ghost use Rattle.api_slice.specs.Lists.{is_empty_or_none};
 
 use crate::amount::read_amount;
@@ -114,6 +115,7 @@ fn new_set_name(
 
 /// The counters of a set, and how many there are so far with them. It is TooMany at the list's path where
 /// these are too many.
+#[tactic(auto, using(crate::proofs::Entries::counters_are))]
 fn read_counters(
     alloc: Global,
     object: &Value,
@@ -135,16 +137,29 @@ fn counters_of(
     members: &Map<String, Value>,
     path: &Path,
 ) -> Result<Table<Text, Quantity>, FieldError>
-    ensures { Reads result (fields.counters_with path.now [] (members_view members.now.entries)) }
+    ensures { Reads result (counters_by path.now [] (members_view members.now.entries)) }
 {
     let mut counters = Table::new(alloc);
     for (key, value) in members {
-        let at = path.key(alloc, key.as_str())?;
-        let name = counter_name(alloc, key.as_str(), &at)?;
-        let amount = read_amount(alloc, value, &at)?;
+        let (name, amount) = read_entry(alloc, key.as_str(), value, path)?;
         or_memory(alloc, counters.insert(name, amount))?;
     }
     Ok(counters)
+}
+
+/// The name and the amount of a counter.
+fn read_entry(
+    alloc: Global,
+    key: &str,
+    value: &Value,
+    path: &Path,
+) -> Result<(Text, Quantity), FieldError>
+    ensures { Reads result (counter_entry path.now key.now (view value.now)) }
+{
+    let at = path.key(alloc, key)?;
+    let name = counter_name(alloc, key, &at)?;
+    let amount = read_amount(alloc, value, &at)?;
+    Ok((name, amount))
 }
 
 /// A counter's name, a DNS label. TooLong, then BadName.

@@ -1,24 +1,16 @@
 ghost use Rattle.std.specs.Prelude.{◌≡◌, IfOk};
 ghost use Rattle.serde_json.specs.View.{items_view, view};
 ghost use Rattle.object_fields.specs.Fields.{Reads};
-ghost use Rattle.object_fields.specs.Lists.{each, each_beside};
-ghost use Rattle.device_taints.specs.Reading.{taints_at};
+ghost use Rattle.object_fields.specs.Lists.{each_beside};
 ghost use Rattle.api_slice.specs.Devices as fields;
-ghost use Rattle.api_slice.specs.Attributes.{attributes_of};
-ghost use Rattle.api_slice.specs.Capacity.{capacity_of};
-ghost use Rattle.api_slice.specs.Consumption.{consumes_of};
-ghost use Rattle.api_slice.specs.Nodes.{device_nodes_of};
 ghost use Rattle.api_slice.specs.Properties.{ArePaired};
 
-use crate::attribute::read_attributes;
-use crate::capacity::read_capacity;
-use crate::consumption::read_consumption;
+use crate::column::read_column;
 use crate::driver::DriverName;
 use crate::lists::items_or_none;
-use crate::nodes::read_device_nodes;
 use crate::properties::Properties;
 use crate::types::{Attribute, CounterConsumption, Device, Nodes};
-use device_taints::{Taint, read_taints};
+use device_taints::Taint;
 use dra_values::{Seq, Table, Text};
 use object_fields::{
     ByName, FieldError, FieldErrorKind, Path, QualName, optional_short_list, or_memory,
@@ -88,11 +80,11 @@ fn read_columns(
         (fields.columns_of driver.now per_device path.now (items_view values.now)) }
 {
     let names = each_name(alloc, values, path)?;
-    let attributes = each_attributes(alloc, values, path, driver)?;
-    let capacity = each_capacity(alloc, values, path, driver)?;
-    let consumes = each_consumption(alloc, values, path)?;
-    let nodes = each_nodes(alloc, values, path, per_device)?;
-    let taints = each_taints(alloc, values, path)?;
+    let attributes = read_column(alloc, values, path, driver, per_device)?;
+    let capacity = read_column(alloc, values, path, driver, per_device)?;
+    let consumes = read_column(alloc, values, path, driver, per_device)?;
+    let nodes = read_column(alloc, values, path, driver, per_device)?;
+    let taints = read_column(alloc, values, path, driver, per_device)?;
     Ok(Columns {
         names,
         attributes,
@@ -131,85 +123,6 @@ fn new_device_name(
     } else {
         Ok(name)
     }
-}
-
-fn each_attributes(
-    alloc: Global,
-    values: &[Value],
-    path: &Path,
-    driver: &str,
-) -> Result<Seq<Table<QualName, Attribute>>, FieldError>
-    ensures { Reads result (each (attributes_of driver.now) path.now (items_view values.now)) }
-{
-    let mut column = Seq::empty(alloc);
-    for place in 0..values.len() {
-        let at = path.place(alloc, place)?;
-        let attributes = read_attributes(alloc, &values[place], &at, driver)?;
-        or_memory(alloc, column.push(attributes))?;
-    }
-    Ok(column)
-}
-
-fn each_capacity(
-    alloc: Global,
-    values: &[Value],
-    path: &Path,
-    driver: &str,
-) -> Result<Seq<Table<QualName, Quantity>>, FieldError>
-    ensures { Reads result (each (capacity_of driver.now) path.now (items_view values.now)) }
-{
-    let mut column = Seq::empty(alloc);
-    for place in 0..values.len() {
-        let at = path.place(alloc, place)?;
-        let capacity = read_capacity(alloc, &values[place], &at, driver)?;
-        or_memory(alloc, column.push(capacity))?;
-    }
-    Ok(column)
-}
-
-fn each_consumption(
-    alloc: Global,
-    values: &[Value],
-    path: &Path,
-) -> Result<Seq<Seq<CounterConsumption>>, FieldError>
-    ensures { Reads result (each consumes_of path.now (items_view values.now)) }
-{
-    let mut column = Seq::empty(alloc);
-    for place in 0..values.len() {
-        let at = path.place(alloc, place)?;
-        let consumes = read_consumption(alloc, &values[place], &at)?;
-        or_memory(alloc, column.push(consumes))?;
-    }
-    Ok(column)
-}
-
-fn each_nodes(
-    alloc: Global,
-    values: &[Value],
-    path: &Path,
-    per_device: bool,
-) -> Result<Seq<Option<Nodes>>, FieldError>
-    ensures { Reads result (each (device_nodes_of per_device) path.now (items_view values.now)) }
-{
-    let mut column = Seq::empty(alloc);
-    for place in 0..values.len() {
-        let at = path.place(alloc, place)?;
-        let nodes = read_device_nodes(alloc, &values[place], &at, per_device)?;
-        or_memory(alloc, column.push(nodes))?;
-    }
-    Ok(column)
-}
-
-fn each_taints(alloc: Global, values: &[Value], path: &Path) -> Result<Seq<Seq<Taint>>, FieldError>
-    ensures { Reads result (each taints_at path.now (items_view values.now)) }
-{
-    let mut column = Seq::empty(alloc);
-    for place in 0..values.len() {
-        let at = path.place(alloc, place)?;
-        let taints = read_taints(alloc, &values[place], &at)?;
-        or_memory(alloc, column.push(taints))?;
-    }
-    Ok(column)
 }
 
 /// Nothing where no device sets a member that this project leaves out, else NotSupported at the

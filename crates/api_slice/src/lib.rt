@@ -4,6 +4,7 @@
 mod amount;
 mod attribute;
 mod capacity;
+mod column;
 mod consumption;
 mod counters;
 mod device;

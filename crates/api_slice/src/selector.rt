@@ -1,6 +1,6 @@
 ghost use Rattle.std.specs.Prelude.{◌≡◌};
 ghost use Rattle.serde_json.specs.View.{items_view, view};
-ghost use Rattle.object_fields.specs.Fields.{Gives, Reads, text_value};
+ghost use Rattle.object_fields.specs.Fields.{Gives, Reads};
 ghost use Rattle.object_fields.specs.Lists.{each};
 ghost use Rattle.api_slice.specs.Selectors as fields;
 
@@ -9,8 +9,8 @@ use crate::operator::{Operator, read_field_operator, read_operator};
 use dra_values::{Seq, Text};
 use node_select::{Requirement, Selector, Test, whole};
 use object_fields::{
-    FieldError, FieldErrorKind, Path, borrowed, list, optional_list, or_memory, value_object,
-    value_text,
+    FieldError, FieldErrorKind, Path, borrowed, list, optional_list, or_memory, read_items,
+    value_object, value_text,
 };
 use serde_json::Value;
 use std::alloc::Global;
@@ -187,20 +187,8 @@ fn some_texts(alloc: Global, values: &[Value], path: &Path) -> Result<Seq<Text>,
 {
     match values.split_first() {
         None => Err(FieldError::at(alloc, path, FieldErrorKind::NotOne)),
-        Some(_) => each_text(alloc, values, path),
+        Some(_) => read_items(alloc, values, path),
     }
-}
-
-fn each_text(alloc: Global, values: &[Value], path: &Path) -> Result<Seq<Text>, FieldError>
-    ensures { Reads result (each text_value path.now (items_view values.now)) }
-{
-    let mut texts = Seq::empty(alloc);
-    for place in 0..values.len() {
-        let at = path.place(alloc, place)?;
-        let text = value_text(alloc, &values[place], &at)?;
-        or_memory(alloc, texts.push(text))?;
-    }
-    Ok(texts)
 }
 
 fn no_texts(alloc: Global, values: &[Value], path: &Path) -> Result<(), FieldError>

@@ -134,11 +134,13 @@ impl ResourceSlice {
     pub fn copy(&self, alloc: Global) -> Result<ResourceSlice, AllocError>
         ensures { IfOk result (λ copy. copy ≡ self.now) }
     {
-        let name = self.name.copy(alloc)?;
-        let driver = self.driver.copy(alloc)?;
-        let pool = self.pool.copy(alloc)?;
-        let nodes = self.nodes.duplicate(alloc)?;
-        let counters = self.counters.copy(alloc)?;
+        let (name, driver, pool) = copy_names(alloc, &self.name, &self.driver, &self.pool)?;
+        let (nodes, counters, devices) = copy_contents(
+            alloc,
+            &self.nodes,
+            &self.counters,
+            &self.devices,
+        )?;
         Ok(ResourceSlice {
             name,
             version: self.version,
@@ -146,9 +148,37 @@ impl ResourceSlice {
             pool,
             nodes,
             counters,
-            devices: self.devices.copy(alloc)?,
+            devices,
         })
     }
+}
+
+/// An equal name, driver and pool.
+fn copy_names(
+    alloc: Global,
+    name: &Text,
+    driver: &DriverName,
+    pool: &Pool,
+) -> Result<(Text, DriverName, Pool), AllocError>
+    ensures { IfOk result (λ copy. copy ≡ (name.now, driver.now, pool.now)) }
+{
+    let name = name.copy(alloc)?;
+    let driver = driver.copy(alloc)?;
+    Ok((name, driver, pool.copy(alloc)?))
+}
+
+/// Equal places, counter sets and devices.
+fn copy_contents(
+    alloc: Global,
+    nodes: &SliceNodes,
+    counters: &Seq<CounterSet>,
+    devices: &Seq<Device>,
+) -> Result<(SliceNodes, Seq<CounterSet>, Seq<Device>), AllocError>
+    ensures { IfOk result (λ copy. copy ≡ (nodes.now, counters.now, devices.now)) }
+{
+    let nodes = nodes.duplicate(alloc)?;
+    let counters = counters.copy(alloc)?;
+    Ok((nodes, counters, devices.copy(alloc)?))
 }
 
 impl Duplicate for ResourceSlice {
@@ -200,14 +230,47 @@ impl Duplicate for CounterSet {
 
 impl Duplicate for Device {
     fn duplicate(&self, alloc: Global) -> Result<Device, AllocError> {
+        let (name, properties) = copy_kind(alloc, &self.name, &self.properties)?;
+        let (consumes, nodes, taints) = copy_terms(
+            alloc,
+            &self.consumes,
+            &self.nodes,
+            &self.taints,
+        )?;
         Ok(Device {
-            name: self.name.copy(alloc)?,
-            properties: self.properties.copy(alloc)?,
-            consumes: self.consumes.copy(alloc)?,
-            nodes: self.nodes.duplicate(alloc)?,
-            taints: self.taints.copy(alloc)?,
+            name,
+            properties,
+            consumes,
+            nodes,
+            taints,
         })
     }
+}
+
+/// An equal name and equal properties.
+fn copy_kind(
+    alloc: Global,
+    name: &Text,
+    properties: &Properties,
+) -> Result<(Text, Properties), AllocError>
+    ensures { IfOk result (λ copy. copy ≡ (name.now, properties.now)) }
+{
+    let name = name.copy(alloc)?;
+    Ok((name, properties.copy(alloc)?))
+}
+
+/// What a device draws, where it is, and its taints, all of them equal.
+fn copy_terms(
+    alloc: Global,
+    consumes: &Seq<CounterConsumption>,
+    nodes: &Option<Nodes>,
+    taints: &Seq<Taint>,
+) -> Result<(Seq<CounterConsumption>, Option<Nodes>, Seq<Taint>), AllocError>
+    ensures { IfOk result (λ copy. copy ≡ (consumes.now, nodes.now, taints.now)) }
+{
+    let consumes = consumes.copy(alloc)?;
+    let nodes = nodes.duplicate(alloc)?;
+    Ok((consumes, nodes, taints.copy(alloc)?))
 }
 
 impl Duplicate for Attribute {

@@ -1,5 +1,6 @@
 mod Again
 mod Appends
+mod EachName
 mod Fits
 mod Halved
 mod Header

@@ -19,11 +19,9 @@ no_text bytes not = by_case (is_utf8 bytes) refl
 pub utf8_of : (text bytes : List ℕ) → IsUtf8 bytes → bytes ≡ text → is_utf8 text ≡ true
 utf8_of text bytes is same = ap is_utf8 (sym same) ∙ is_utf8-from_IsUtf8 bytes is
 
-pub both_utf8 : (a b c d : List ℕ) → IsUtf8 c → c ≡ a → IsUtf8 d → d ≡ b → (is_utf8 a && is_utf8 b) ≡ true
-both_utf8 a b c d p q r s = λ i. utf8_of a c p q i && utf8_of b d r s i
-
-pub all_utf8 : (a b e c d f : List ℕ) → IsUtf8 c → c ≡ a → IsUtf8 d → d ≡ b → IsUtf8 f → f ≡ e → (is_utf8 a && is_utf8 b && is_utf8 e) ≡ true
-all_utf8 a b e c d f p q r s t u = λ i. utf8_of a c p q i && utf8_of b d r s i && utf8_of e f t u i
+-- a key whose namespace is the text of these bytes
+pub key_utf8 : (a b c : List ℕ) → IsUtf8 c → c ≡ a → is_utf8 b ≡ true → (is_utf8 a && is_utf8 b) ≡ true
+key_utf8 a b c p q r = λ i. utf8_of a c p q i && r i
 
 -- one name more in a list of them
 module _ {A : Type 0} (reading : List ℕ → Option A) (names : List A) (rest : List ℕ) where

@@ -1,5 +1,7 @@
-ghost use Rattle.std.specs.Prelude.{[]};
-ghost use Rattle.ckpt_journal.specs.Reading.{Gives, Reads, claim_alone, claim_at, count_at, name_at, names_at, names_from, raw_at, record_of, uid_alone};
+ghost use Rattle.std.specs.Prelude.{[], List, option_and_then, ℕ};
+ghost use Rattle.object_fields.specs.declared.key.Key.{Key as KeyValue};
+ghost use Rattle.ckpt_journal.specs.Names.{key_read};
+ghost use Rattle.ckpt_journal.specs.Reading.{Gives, Reads, claim_alone, claim_at, claim_with, count_at, name_at, names_at, names_from, raw_at, record_of, uid_alone};
 
 use crate::error::Unread;
 use crate::named::Named;
@@ -67,6 +69,15 @@ fn take_each<T: Named + Drop>(
     Ok((names, rest))
 }
 
+/// The pods and the devices of a claim at the start, and what follows them.
+fn take_lists(alloc: Global, bytes: &[u8]) -> Result<(Seq<Key>, Seq<DeviceId>, &[u8]), Unread>
+    ensures { (uid : List ℕ) (key : KeyValue) → Gives (λ x. (record { uid = uid; key = key; pods = x.0; devices = x.1 }, x.2.now)) result (option_and_then (claim_with uid key) (names_at key_read bytes.now)) }
+{
+    let (pods, rest) = take_names::<Key>(alloc, bytes)?;
+    let (devices, rest) = take_names::<DeviceId>(alloc, rest)?;
+    Ok((pods, devices, rest))
+}
+
 /// The fields of a claim at the start, and what follows them.
 #[tactic(auto, unfolding(crate::specs::Reading::claim_at))]
 fn take_claim(alloc: Global, bytes: &[u8]) -> Result<(Claim, &[u8]), Unread>
@@ -74,8 +85,7 @@ fn take_claim(alloc: Global, bytes: &[u8]) -> Result<(Claim, &[u8]), Unread>
 {
     let (uid, rest) = take_name::<Text>(alloc, bytes)?;
     let (key, rest) = take_name::<Key>(alloc, rest)?;
-    let (pods, rest) = take_names::<Key>(alloc, rest)?;
-    let (devices, rest) = take_names::<DeviceId>(alloc, rest)?;
+    let (pods, devices, rest) = take_lists(alloc, rest)?;
     Ok((
         Claim {
             uid,

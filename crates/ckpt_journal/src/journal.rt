@@ -1,21 +1,22 @@
-ghost use Rattle.std.specs.Prelude.{◌≡◌, ◌↔◌, ◌⊎◌, ◌+◌, ◌<◌, ◌≤◌, ◌^◌, ℕ, IfSome, IsErrOf, IsOk, OnErr, OnOk, false, length, true};
+ghost use Rattle.std.specs.Prelude.{◌≡◌, ◌↔◌, ◌⊎◌, ◌+◌, ◌<◌, ◌≤◌, ◌^◌, ℕ, IfSome, IfErr, IfOk, IsErrOf, IsOk, OnErr, OnOk, false, length, true, vec_capacity, vec_len};
 ghost use Rattle.std.specs.List.{AllByRecursion};
 ghost use Rattle.std.specs.Option.{option_map};
 ghost use Rattle.dra_ports.specs.Causes.{HasCause, Rose};
 ghost use Rattle.dra_ports.specs.DiskImages.{AtEachMoment};
 ghost use Rattle.dra_ports.specs.declared.error.PortError.TheVariants as port;
-ghost use Rattle.ckpt_journal.specs.Format.{ReadsBack};
-ghost use Rattle.ckpt_journal.specs.Layout.{IsSized};
+ghost use Rattle.ckpt_journal.specs.Format.{Fits, ReadsBack, blocks};
+ghost use Rattle.ckpt_journal.specs.Layout.{IsSized, start_of};
 ghost use Rattle.ckpt_journal.specs.Plan.{is_full};
-ghost use Rattle.ckpt_journal.specs.Planned.{IsReached, steps_of};
+ghost use Rattle.ckpt_journal.specs.Planned.{IsPlan, IsReached, steps_of};
 ghost use Rattle.ckpt_journal.specs.Standing.{HasHalves, IsBeforeOrAfter, Keeps};
 ghost use Rattle.ckpt_journal.specs.Steps.{StoppedIn, all_done};
-ghost use Rattle.ckpt_journal.specs.Table.{compact, row_after};
-ghost use Rattle.ckpt_journal.specs.Words.{IsSame, disk_of, half_of, has_ended, rows_of};
+ghost use Rattle.ckpt_journal.specs.Table.{IsTable, compact, row_after};
+ghost use Rattle.ckpt_journal.specs.Words.{IsSame, disk_of, half_of, halves_of, has_ended, place_of, rows_of};
+ghost use Rattle.ckpt_journal.specs.declared.error.JournalError.TheVariants.{Full, Memory};
 
 use crate::layout::Halves;
 use crate::plan::{Plan, plan_append};
-use crate::rows::take_in;
+use crate::rows::{copy_with_room, take_in};
 use crate::writing::{append_at, switch_half};
 use crate::{Journal, JournalError, Record, Row};
 use dra_ports::{Disk, PortError};
@@ -39,6 +40,33 @@ fn carry_out<D: Disk>(disk: &mut D, halves: Halves, plan: &Plan) -> Result<(), P
             append_at(disk, plan.gate, &plan.bytes)
         }
     }
+}
+
+/// The plan that adds a record, the record for the rows, and room for it there.
+fn make_ready(
+    alloc: Global,
+    halves: Halves,
+    end: u64,
+    rows: &mut Vec<Row>,
+    item: &Record,
+) -> Result<(Plan, Record), JournalError>
+    requires sized { IsSized halves }
+    requires rows { IsTable rows.old.items }
+    requires used { start_of halves + length (blocks (compact rows.old.items)) ≤ end }
+    requires within { end < start_of halves + halves.half }
+    requires reads { ReadsBack item.now }
+    ensures plan { IfOk result (λ x. IsPlan halves end rows.old.items item.now x.0) }
+    ensures kept { IfOk result (λ x. x.1 ≡ item.now) }
+    ensures fits { OnOk result (Fits item.now) }
+    ensures room { OnOk result (is_full halves.half rows.old.items item.now ≡ false) }
+    ensures full { IsErrOf result Full → is_full halves.half rows.old.items item.now ≡ true }
+    ensures only { IfErr result (λ e. (e ≡ Full) ⊎ (e ≡ Memory)) }
+    ensures items { rows.new.items ≡ rows.old.items }
+    ensures space { OnOk result (vec_len rows.new < vec_capacity rows.new) }
+{
+    let plan = plan_append(alloc, halves, end, rows, item)?;
+    let kept = copy_with_room(alloc, rows, item)?;
+    Ok((plan, kept))
 }
 
 impl<D: Disk> Journal<D> {
@@ -87,10 +115,27 @@ impl<D: Disk> Journal<D> {
         if self.ended {
             return Err(JournalError::Closed);
         }
-        let plan = plan_append(alloc, self.halves, self.end, &self.rows, item)?;
-        let kept = item.copy(alloc)?;
-        self.rows.reserve(1)?;
-        match carry_out(&mut self.disk, self.halves, &plan) {
+        let (plan, kept) = make_ready(alloc, self.halves, self.end, &mut self.rows, item)?;
+        self.add(item, &plan, kept)
+    }
+
+    /// Carries out the plan that adds a record, and changes the rows as the record says.
+    fn add(&mut self, item: &Record, plan: &Plan, kept: Record) -> Result<(), JournalError>
+        requires going { has_ended self.old ≡ false }
+        requires plan { IsPlan (halves_of self.old) (place_of self.old) (rows_of self.old) item.now plan.now }
+        requires fits { Fits item.now }
+        requires kept { kept ≡ item.now }
+        requires space { vec_len self.old.rows < vec_capacity self.old.rows }
+        ensures any_moment { AtEachMoment (IsBeforeOrAfter (rows_of self.old) item.now) (D.content (disk_of self.old)) (D.content (disk_of self.new)) }
+        ensures acknowledged { OnOk result (IfSome (D.content (disk_of self.new)) (Keeps (row_after (rows_of self.old) item.now))) }
+        ensures rows { OnOk result (rows_of self.new ≡ row_after (rows_of self.old) item.now) }
+        ensures half { half_of self.new ≡ half_of self.old }
+        ensures going { OnOk result (has_ended self.new ≡ false) }
+        ensures no_fault { OnOk result (D.faults (disk_of self.new) ≡ D.faults (disk_of self.old)) }
+        ensures fault { OnErr result (Rose (D.faults (disk_of self.old)) (D.faults (disk_of self.new)) × (has_ended self.new ≡ true)) }
+        ensures only { IfErr result (λ e. e ≡ JournalError.DiskFault) }
+    {
+        match carry_out(&mut self.disk, self.halves, plan) {
             Ok(()) => {
                 self.halves = plan.halves;
                 self.end = plan.gate + plan.bytes.len() as u64;
@@ -99,6 +144,7 @@ impl<D: Disk> Journal<D> {
             }
             Err(_) => {
                 self.ended = true;
+                drop(kept);
                 Err(JournalError::DiskFault)
             }
         }

@@ -1,4 +1,4 @@
-ghost use Rattle.std.specs.Prelude.{◌≡◌, ◌++◌, ◌-◌, ◌<◌, ◌^◌, Bool, IfSome, List, None, OnOk, Option, length, min, true, ℕ};
+ghost use Rattle.std.specs.Prelude.{◌≡◌, ◌++◌, ◌-◌, [], ◌∷◌, ◌<◌, ◌^◌, Bool, IfSome, List, None, OnOk, Option, length, min, true, ℕ};
 ghost use Rattle.object_fields.specs.Keys.{device_text, key_text};
 ghost use Rattle.ckpt_journal.specs.Names.{device_is_text, device_made, device_read, first_slash_from, key_is_text, key_made, key_read, last_slash_from, text_read};
 ghost use Rattle.ckpt_journal.specs.Format.{same_text};
@@ -101,6 +101,25 @@ fn device_of_parts(
     })
 }
 
+/// Puts a text at the end.
+#[tactic(auto, using(crate::proofs::Names::utf8_of))]
+fn put_text(into: &mut Vec<u8>, text: &Text) -> Result<(), AllocError>
+    ensures put { OnOk result (into.new.items ≡ into.old.items ++ text.now) }
+    ensures is_text { is_utf8 text.now ≡ true }
+{
+    into.extend_from_slice(text.as_str().as_bytes())
+}
+
+/// Puts a text and a slash at the end.
+fn put_before_slash(into: &mut Vec<u8>, text: &Text) -> Result<(), AllocError>
+    ensures put { OnOk result (into.new.items ≡ into.old.items ++ text.now ++ 47 ∷ []) }
+    ensures is_text { is_utf8 text.now ≡ true }
+{
+    put_text(into, text)?;
+    into.push(b'/')?;
+    Ok(())
+}
+
 impl Named for Text {
     ghost use Rattle.std.specs.Str.{is_utf8};
     ghost use Rattle.ckpt_journal.specs.Names.{text_read};
@@ -120,9 +139,8 @@ impl Named for Text {
         self.as_str().len()
     }
 
-    #[tactic(auto, using(crate::proofs::Names::utf8_of, crate::proofs::Names::both_utf8, crate::proofs::Names::all_utf8))]
     fn put(&self, into: &mut Vec<u8>) -> Result<(), AllocError> {
-        Ok(into.extend_from_slice(self.as_str().as_bytes())?)
+        put_text(into, self)
     }
 }
 
@@ -154,15 +172,14 @@ impl Named for Key {
         }
     }
 
-    #[tactic(auto, using(crate::proofs::Names::utf8_of, crate::proofs::Names::both_utf8, crate::proofs::Names::all_utf8))]
+    #[tactic(auto, using(crate::proofs::Names::key_utf8))]
     fn put(&self, into: &mut Vec<u8>) -> Result<(), AllocError> {
-        let namespace = self.namespace.as_str();
-        let name = self.name.as_str();
-        if !namespace.is_empty() {
-            into.extend_from_slice(namespace.as_bytes())?;
-            into.push(b'/')?;
+        if self.namespace.as_str().is_empty() {
+            put_text(into, &self.name)
+        } else {
+            put_before_slash(into, &self.namespace)?;
+            put_text(into, &self.name)
         }
-        Ok(into.extend_from_slice(name.as_bytes())?)
     }
 }
 
@@ -202,15 +219,9 @@ impl Named for DeviceId {
         ends.saturating_add(pool.len()).saturating_add(2)
     }
 
-    #[tactic(auto, using(crate::proofs::Names::utf8_of, crate::proofs::Names::both_utf8, crate::proofs::Names::all_utf8))]
     fn put(&self, into: &mut Vec<u8>) -> Result<(), AllocError> {
-        let driver = self.driver.as_str();
-        let pool = self.pool.as_str();
-        let device = self.device.as_str();
-        into.extend_from_slice(driver.as_bytes())?;
-        into.push(b'/')?;
-        into.extend_from_slice(pool.as_bytes())?;
-        into.push(b'/')?;
-        Ok(into.extend_from_slice(device.as_bytes())?)
+        put_before_slash(into, &self.driver)?;
+        put_before_slash(into, &self.pool)?;
+        put_text(into, &self.device)
     }
 }

@@ -53,6 +53,21 @@ pub struct Unopened<D, E> {
     pub why: E,
 }
 
+/// Reads all of a disk.
+fn read_bytes<D: Disk>(alloc: Global, disk: &mut D) -> Result<Vec<u8>, JournalError>
+    ensures told { IfOk result (λ v. IfSome (D.content disk.old) (λ c. c.bytes ≡ v.items)) }
+    ensures same { D.content disk.new ≡ D.content disk.old }
+    ensures no_fault { (IsErrOf result JournalError.DiskFault → ⊥) → D.faults disk.new ≡ D.faults disk.old }
+    ensures fault { IsErrOf result JournalError.DiskFault → Rose (D.faults disk.old) (D.faults disk.new) }
+    ensures only { IfErr result (λ e. (e ≡ JournalError.DiskFault) ⊎ (e ≡ JournalError.Memory)) }
+{
+    let len = disk.len()?;
+    let mut bytes = Vec::new(alloc);
+    bytes.resize(len as usize, 0)?;
+    disk.read_at(0, &mut bytes)?;
+    Ok(bytes)
+}
+
 /// Syncs a disk and reads all of it.
 fn read_all<D: Disk>(alloc: Global, disk: &mut D) -> Result<Vec<u8>, JournalError>
     ensures told { IfOk result (λ v. IfSome (D.content disk.old) (λ c. c.bytes ≡ v.items)) }
@@ -63,10 +78,7 @@ fn read_all<D: Disk>(alloc: Global, disk: &mut D) -> Result<Vec<u8>, JournalErro
     ensures only { IfErr result (λ e. (e ≡ JournalError.DiskFault) ⊎ (e ≡ JournalError.Memory)) }
 {
     disk.sync()?;
-    let len = disk.len()?;
-    let mut bytes = vec![in alloc; 0u8; len as usize]?;
-    disk.read_at(0, &mut bytes)?;
-    Ok(bytes)
+    read_bytes(alloc, disk)
 }
 
 /// The records of a file, and what is known of them whatever a disk tells.

@@ -22,13 +22,35 @@ impl Claim {
     pub fn copy(&self, alloc: Global) -> Result<Claim, AllocError>
         ensures { IfOk result (λ copied. copied ≡ self.now) }
     {
+        let (uid, key) = copied_name(alloc, &self.uid, &self.key)?;
+        let (pods, devices) = copied_lists(alloc, &self.pods, &self.devices)?;
         Ok(Claim {
-            uid: self.uid.copy(alloc)?,
-            key: self.key.copy(alloc)?,
-            pods: self.pods.copy(alloc)?,
-            devices: self.devices.copy(alloc)?,
+            uid,
+            key,
+            pods,
+            devices,
         })
     }
+}
+
+/// An equal uid and an equal key.
+fn copied_name(alloc: Global, uid: &Text, key: &Key) -> Result<(Text, Key), AllocError>
+    ensures { IfOk result (λ x. (x.0 ≡ uid.now) × (x.1 ≡ key.now)) }
+{
+    let uid = uid.copy(alloc)?;
+    Ok((uid, key.copy(alloc)?))
+}
+
+/// Equal lists of pods and devices.
+fn copied_lists(
+    alloc: Global,
+    pods: &Seq<Key>,
+    devices: &Seq<DeviceId>,
+) -> Result<(Seq<Key>, Seq<DeviceId>), AllocError>
+    ensures { IfOk result (λ x. (x.0 ≡ pods.now) × (x.1 ≡ devices.now)) }
+{
+    let pods = pods.copy(alloc)?;
+    Ok((pods, devices.copy(alloc)?))
 }
 
 /// A step of a claim on the node. `Begun` and `Prepared` set the claim's row whole.

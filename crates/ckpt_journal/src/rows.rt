@@ -1,4 +1,4 @@
-ghost use Rattle.std.specs.Prelude.{◌≡◌, ◌<◌, [], IfOk, IfSome, length, vec_capacity, vec_len};
+ghost use Rattle.std.specs.Prelude.{◌≡◌, ◌<◌, [], IfOk, IfSome, OnOk, length, vec_capacity, vec_len};
 ghost use Rattle.ckpt_journal.specs.Table.{leave_row, place_from, remove_row, row_after, set_row, table};
 
 use crate::{Claim, Record, Row, RowState};
@@ -63,15 +63,36 @@ pub fn take_in(rows: &mut Vec<Row>, item: Record)
     }
 }
 
+/// An equal record, and room for its row. Returns `AllocError` only if out of memory.
+pub fn copy_with_room(
+    alloc: Global,
+    rows: &mut Vec<Row>,
+    item: &Record,
+) -> Result<Record, AllocError>
+    ensures copied { IfOk result (λ copied. copied ≡ item.now) }
+    ensures items { rows.new.items ≡ rows.old.items }
+    ensures space { OnOk result (vec_len rows.new < vec_capacity rows.new) }
+{
+    rows.reserve(1)?;
+    item.copy(alloc)
+}
+
+/// Changes the rows as a record says, which stays. Returns `AllocError` only if out of memory.
+fn add_copy(alloc: Global, rows: &mut Vec<Row>, item: &Record) -> Result<(), AllocError>
+    ensures { OnOk result (rows.new.items ≡ row_after rows.old.items item.now) }
+{
+    let copied = copy_with_room(alloc, rows, item)?;
+    take_in(rows, copied);
+    Ok(())
+}
+
 /// The table that records make. Returns `AllocError` only if out of memory.
 pub fn table_of(alloc: Global, records: &[Record]) -> Result<Vec<Row>, AllocError>
     ensures { IfOk result (λ rows. rows.items ≡ table records.now) }
 {
     let mut rows = Vec::new(alloc);
     for item in records {
-        let copied = item.copy(alloc)?;
-        rows.reserve(1)?;
-        take_in(&mut rows, copied);
+        add_copy(alloc, &mut rows, item)?;
     }
     Ok(rows)
 }

@@ -236,20 +236,36 @@ fn kind_of_row(state: RowState) -> u8
     }
 }
 
+/// Puts the record that sets a row after an open gate at the end.
+fn put_set(alloc: Global, into: &mut Vec<u8>, row: &Row) -> Result<(), AllocError>
+    requires long { is_long_claim row.now.claim ≡ false }
+    requires size { length (set_kind row.now.state ∷ claim_bytes row.now.claim) < 2 ^ 32 }
+    ensures { OnOk result (into.new.items ≡ into.old.items ++ 90 ∷ (to_be_bytes w32 (length (set_kind row.now.state ∷ claim_bytes row.now.claim)) ++ set_kind row.now.state ∷ claim_bytes row.now.claim)) }
+{
+    let body = claim_body(alloc, kind_of_row(row.state), &row.claim)?;
+    put_record(into, &body)
+}
+
+/// Puts the record that a claim is Leaving after an open gate at the end.
+fn put_leaving(alloc: Global, into: &mut Vec<u8>, uid: &Text) -> Result<(), AllocError>
+    requires long { is_long_text uid.now ≡ false }
+    requires size { length (3 ∷ text_bytes uid.now) < 2 ^ 32 }
+    ensures { OnOk result (into.new.items ≡ into.old.items ++ 90 ∷ (to_be_bytes w32 (length (3 ∷ text_bytes uid.now)) ++ 3 ∷ text_bytes uid.now)) }
+{
+    let body = leaving_body(alloc, uid)?;
+    put_record(into, &body)
+}
+
 /// Puts the records of a row after open gates at the end.
 #[tactic(auto, unfolding(crate::specs::Format::block))]
 fn put_row(alloc: Global, into: &mut Vec<u8>, row: &Row) -> Result<(), AllocError>
     requires { AllByRecursion Fits (records_of row.now.state row.now.claim) }
     ensures { OnOk result (into.new.items ≡ into.old.items ++ blocks (records_of row.now.state row.now.claim)) }
 {
-    let body = claim_body(alloc, kind_of_row(row.state), &row.claim)?;
-    put_record(into, &body)?;
+    put_set(alloc, into, row)?;
     match row.state {
         RowState::Begun | RowState::Prepared => Ok(()),
-        RowState::Leaving => {
-            let body = leaving_body(alloc, &row.claim.uid)?;
-            put_record(into, &body)
-        }
+        RowState::Leaving => put_leaving(alloc, into, &row.claim.uid),
     }
 }
 
@@ -315,8 +331,8 @@ pub fn halves_of(alloc: Global, half: u32, table: &[u8]) -> Result<Vec<u8>, Allo
     let mut bytes = half.to_be_bytes().to_vec(alloc)?;
     bytes.push(FIRST)?;
     bytes.extend_from_slice(table)?;
-    let rest = vec![in alloc; CLOSED; half as usize + 1 - table.len()]?;
-    bytes.extend_from_slice(&rest)?;
+    let rest = half as usize + 1 - table.len();
+    bytes.resize(bytes.len() + rest, CLOSED)?;
     Ok(bytes)
 }
 
@@ -328,7 +344,6 @@ pub fn empty_file(alloc: Global, half: u32) -> Result<Vec<u8>, AllocError>
     let mut bytes = HEADER.to_vec(alloc)?;
     bytes.extend_from_slice(&half.to_be_bytes())?;
     bytes.push(FIRST)?;
-    let rest = vec![in alloc; CLOSED; half as usize + 1]?;
-    bytes.extend_from_slice(&rest)?;
+    bytes.resize(bytes.len() + half as usize + 1, CLOSED)?;
     Ok(bytes)
 }

@@ -24,6 +24,6 @@ pub use plan::{
     Cause, DeviceResult, Grant, Known, KnownClaim, Passed, Plan, Reason, SelectorFault, Verdict,
 };
 pub use ready::{Ready, ReadyParts};
-pub use same::same_is_equal;
+pub use same::{same_is_equal, same_spec};
 pub use state::{ClaimState, Granted, MOST_USERS, Phase, PodState, State, Use};
 pub use users::Users;

@@ -32,7 +32,7 @@ pub struct SelectorFault {
     /// The selector's index among those of the class and then of the request, from 0.
     pub selector: usize,
     pub device: DeviceId,
-    pub cause: selector_meaning::Cause,
+    pub cause: pool_view::Cause,
 }
 
 /// Why a node wasn't taken.

@@ -1,5 +1,5 @@
 -- The counters of a pool, in place of those that are kept of it.
-use Rattle.std.proofs.Common.{◌≡◌, ℕ, List, [], ◌∷◌, Bool, true, false, ◌&&◌, ◌||◌, Option, None, Some, Result, Ok, Err, refl, sym, ap, ◌∙◌, if◌then◌else◌}
+use Rattle.std.proofs.Common.{◌≡◌, ℕ, List, [], Bool, true, false, ◌&&◌, ◌||◌, Option, None, Some, Result, Ok, Err, refl, sym, ap, ◌∙◌, if◌then◌else◌}
 use Rattle.std.specs.Prelude.{OnOk, OnErr}
 use Rattle.std.specs.Cmp.Lexicographic.{same_text}
 use Rattle.std.specs.Option.{is_some, option_map}
@@ -8,7 +8,7 @@ use Rattle.std.proofs.lemmas.Cmp.{nat_list_eq_equiv}
 use Rattle.api_slice.specs.declared.types.ResourceSlice.{ResourceSlice}
 use Rattle.pool_view.specs.Names.{at_name, text_eq}
 use Rattle.request_rules.specs.Draws.{CounterId, is_of_pool}
-use Rattle.counter_sets.specs.Totals.{KeptCounters, PoolCounters, Tabled, changed_at, counter_in, drawn_in, drawn_kept, has_pool, or_empty, HasPlace, pool_in, pools_with, replaced, sets_replaced, value_kept, value_of, with_pool, with_sets}
+use Rattle.counter_sets.specs.Totals.{KeptCounters, PoolCounters, Tabled, counter_in, drawn_in, drawn_kept, has_pool, or_empty, HasPlace, pool_in, pools_with, replaced, sets_replaced, value_kept, value_of, with_place, with_pool, with_sets}
 use Rattle.counter_sets.proofs.Names.{moved_if, moved_name}
 use Rattle.counter_sets.proofs.Putting.{found, put_at, put_name}
 
@@ -180,3 +180,30 @@ taken_others x y sets kept new e h =
     ∙ ap (λ (o : Option (Tabled PoolCounters)). is_some (at_name (or_empty o) y.pool.name)) (moved_name x.driver y.driver (λ pools. sets_replaced x.pool.name sets pools) kept)
     ∙ ap (λ (pools : Tabled PoolCounters). is_some (at_name pools y.pool.name)) (moved_pools (text_eq x.driver y.driver) x.pool.name sets (at_name kept y.driver))
     ∙ some_step (text_eq x.driver y.driver) x.pool.name y.pool.name sets (or_empty (at_name kept y.driver)) ∙ h
+
+-- ---- a copy of the counters of a pool
+
+placed_value : (b : Bool) (x : ResourceSlice) (old new : KeptCounters) (c : CounterId) → new ≡ (if b then with_pool x old else old) → value_of new c ≡ value_of old c
+placed_value true x old new c e = ap (λ (k : KeptCounters). value_of k c) e ∙ room_value x old c
+placed_value false x old new c e = ap (λ (k : KeptCounters). value_of k c) e
+
+placed_drawn : (b : Bool) (x : ResourceSlice) (old new : KeptCounters) (c : CounterId) → new ≡ (if b then with_pool x old else old) → drawn_in new c ≡ drawn_in old c
+placed_drawn true x old new c e = ap (λ (k : KeptCounters). drawn_in k c) e ∙ room_drawn x old c
+placed_drawn false x old new c e = ap (λ (k : KeptCounters). drawn_in k c) e
+
+else_same : {X : Type 0} (b : Bool) (v p q : X) → p ≡ q → (if b then v else p) ≡ (if b then v else q)
+else_same true v p q e = refl
+else_same false v p q e = e
+
+-- the counters of a slice's pool that other totals have, in place of its own
+pub copied_value : (x : ResourceSlice) (from old placed new : KeptCounters) (sets : PoolCounters) (c : CounterId) → sets ≡ pool_in from x.driver x.pool.name → placed ≡ with_place x from old → new ≡ replaced x sets placed
+    → value_of new c ≡ (if is_of_pool x c then value_of from c else value_of old c)
+copied_value x from old placed new sets c e f g =
+    taken_value x from placed new c (g ∙ ap (λ (s : PoolCounters). replaced x s placed) e) (room_own (has_pool x from) x from old placed refl f)
+    ∙ else_same (is_of_pool x c) (value_of from c) (value_of placed c) (value_of old c) (placed_value (has_pool x from) x old placed c f)
+
+pub copied_drawn : (x : ResourceSlice) (from old placed new : KeptCounters) (sets : PoolCounters) (c : CounterId) → sets ≡ pool_in from x.driver x.pool.name → placed ≡ with_place x from old → new ≡ replaced x sets placed
+    → drawn_in new c ≡ (if is_of_pool x c then drawn_in from c else drawn_in old c)
+copied_drawn x from old placed new sets c e f g =
+    taken_drawn x from placed new c (g ∙ ap (λ (s : PoolCounters). replaced x s placed) e) (room_own (has_pool x from) x from old placed refl f)
+    ∙ else_same (is_of_pool x c) (drawn_in from c) (drawn_in placed c) (drawn_in old c) (placed_drawn (has_pool x from) x old placed c f)

@@ -1,6 +1,6 @@
 //! The counters of a pool, in place of those that are kept of it.
 
-ghost use Rattle.std.specs.Prelude.{◌≡◌, OnOk, OnErr};
+ghost use Rattle.std.specs.Prelude.{◌≡◌, IfOk, OnOk, OnErr};
 ghost use Rattle.pool_view.specs.Names.{at_name};
 ghost use Rattle.counter_sets.specs.Totals as spec;
 
@@ -74,6 +74,20 @@ pub fn taken_pool(
 {
     let pools = drivers.remove(driver);
     of_pool(pools, pool, alloc)
+}
+
+/// A copy of the counters of the slice's pool.
+pub fn copied_pool(
+    drivers: &Table<Text, DriverCounters>,
+    slice: &ResourceSlice,
+    alloc: Global,
+) -> Result<PoolCounters, AllocError>
+    ensures { IfOk result (λ sets. sets ≡ spec.pool_in drivers.now slice.now.driver slice.now.pool.name) }
+{
+    match pool_of(drivers, slice) {
+        None => Ok(Table::new(alloc)),
+        Some(sets) => sets.copy(alloc),
+    }
 }
 
 fn put_sets(pools: &mut DriverCounters, pool: &Text, sets: PoolCounters)

@@ -9,10 +9,10 @@ ghost use Rattle.api_slice.specs.declared.types.ResourceSlice.{ResourceSlice};
 
 use crate::added::add_slice;
 use crate::change::{Change, move_device};
-use crate::counter::DriverCounters;
+use crate::counter::{DriverCounters, PoolCounters};
 use crate::covered::{covers, pool_of};
 use crate::held::{Held, draw_devices};
-use crate::pools::{keep_pool, put_pool, taken_pool};
+use crate::pools::{copied_pool, keep_pool, put_pool, taken_pool};
 use crate::short::{Shortage, first_short, missing_from};
 use api_slice::ResourceSlice;
 use dra_values::{Duplicate, Table, Text};
@@ -194,6 +194,30 @@ impl Totals {
     {
         let driver = slice.driver.as_text();
         let sets = taken_pool(from.drivers, driver, &slice.pool.name, alloc);
+        put_pool(&mut self.drivers, slice, sets);
+    }
+
+    /// Copies the counters that other totals have of a slice's pool, with what is drawn from them, in place of its own.
+    /// `AllocError` is returned only if memory runs out, and then nothing changes.
+    pub fn copy_pool(
+        &mut self,
+        slice: &ResourceSlice,
+        from: &Totals,
+        alloc: Global,
+    ) -> Result<(), AllocError>
+        ensures value { OnOk result ((c : CounterId) → value_of self.new c ≡ (if is_of_pool slice.now c then value_of from.now c else value_of self.old c)) }
+        ensures drawn { OnOk result ((c : CounterId) → drawn_in self.new c ≡ (if is_of_pool slice.now c then drawn_in from.now c else drawn_in self.old c)) }
+        ensures err { OnErr result (self.new ≡ self.old) }
+    {
+        let sets = copied_pool(&from.drivers, slice, alloc)?;
+        self.room_for(slice, from, alloc)?;
+        self.put_sets(slice, sets);
+        Ok(())
+    }
+
+    fn put_sets(&mut self, slice: &ResourceSlice, sets: PoolCounters)
+        ensures { self.new ≡ spec.replaced slice.now sets self.old }
+    {
         put_pool(&mut self.drivers, slice, sets);
     }
 

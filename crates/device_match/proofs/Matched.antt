@@ -1,11 +1,11 @@
 -- What selectors evaluate to before others.
 use Rattle.std.proofs.Common.{◌≡◌, ◌+◌, ◌++◌, ◌∷◌, [], ℕ, List, length, refl, ap, ◌∙◌, arith}
 use Rattle.cel_value.specs.Device.{Device}
-use Rattle.selector_meaning.specs.declared.matching.Match.{Match}
-use Rattle.selector_meaning.specs.declared.matching.Match.TheVariants.{Yes, No, Fault}
-use Rattle.selector_meaning.specs.declared.verdict.Verdict.{Verdict}
-use Rattle.selector_meaning.specs.declared.verdict.Verdict.TheVariants as verdict
-use Rattle.selector_meaning.specs.Match.{match_from, match_next, text_verdict}
+use Rattle.pool_view.specs.declared.matching.Match.{Match}
+use Rattle.pool_view.specs.declared.matching.Match.TheVariants.{Yes, No, Fault}
+use Rattle.pool_view.specs.declared.verdict.Verdict.{Verdict}
+use Rattle.pool_view.specs.declared.verdict.Verdict.TheVariants as verdict
+use Rattle.pool_view.specs.Match.{match_from, match_next, text_verdict}
 
 -- what later ones evaluate to decides if these are all true
 abbrev pub match_then : Match → Match → Match

@@ -19,7 +19,7 @@ use Rattle.api_slice.specs.Drivers.{IsDriver}
 use Rattle.api_slice.specs.Properties.{AreProperties, IsFullName, IsValue, PropertyTables}
 use Rattle.cel_value.specs.declared.value.Single.{Single}
 use Rattle.cel_value.specs.Device.{IsWithinLimits, is_short_name, is_short_text, is_short_value}
-use Rattle.selector_meaning.specs.Devices.{value_of, valued}
+use Rattle.pool_view.specs.Devices.{value_of, valued}
 
 -- a text of at most 64 characters that is UTF-8 is short
 pub short_by : (s t : List ℕ) → t ≡ s → is_utf8 s ≡ true → length (chars s) ≤ 64 → is_short_text t ≡ true

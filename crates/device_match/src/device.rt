@@ -7,7 +7,7 @@ ghost use Rattle.api_slice.specs.Attributes.{is_version};
 ghost use Rattle.api_slice.specs.Properties.{IsValue};
 ghost use Rattle.cel_value.specs.declared.value.Single.TheVariants as single;
 ghost use Rattle.cel_value.specs.Device.{is_short_value};
-ghost use Rattle.selector_meaning.specs.Devices.{device_of, value_of, valued, version_value};
+ghost use Rattle.pool_view.specs.Devices.{device_of, value_of, valued, version_value};
 
 use api_slice::{Attribute, DriverName, Properties};
 use cel_value::{DeviceEnv, Single, Version};

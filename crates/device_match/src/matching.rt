@@ -1,13 +1,13 @@
 ghost use Rattle.std.specs.Prelude.{◌≡◌, ◌≢◌, ◌++◌, ℕ, IfOk};
 ghost use Rattle.cel_value.specs.declared.error.EvalError.TheVariants.{Memory};
-ghost use Rattle.selector_meaning.specs.declared.matching.Match.TheVariants.{Fault};
-ghost use Rattle.selector_meaning.specs.declared.verdict.Cause.TheVariants.{Error};
-ghost use Rattle.selector_meaning.specs.Match.{match_from};
+ghost use Rattle.pool_view.specs.declared.matching.Match.TheVariants.{Fault};
+ghost use Rattle.pool_view.specs.declared.verdict.Cause.TheVariants.{Error};
+ghost use Rattle.pool_view.specs.Match.{match_from};
 
 use crate::verdict::matches;
 use cel_value::DeviceEnv;
 use device_selector::DeviceSelector;
-use selector_meaning::{Match, Verdict};
+use pool_view::{Match, Verdict};
 use std::alloc::{AllocError, Global};
 
 /// What a class's selectors and then a request's evaluate to on a device: the first that isn't true decides.

@@ -1,15 +1,15 @@
 ghost use Rattle.std.specs.Prelude.{◌≡◌, ◌≢◌, ◌≤◌, [], IfOk, Ok};
 ghost use Rattle.cel_meaning.specs.Cost.{cost};
 ghost use Rattle.cel_value.specs.declared.error.EvalError.TheVariants.{Memory};
-ghost use Rattle.selector_meaning.specs.declared.verdict.Cause.TheVariants.{Error};
-ghost use Rattle.selector_meaning.specs.declared.verdict.Verdict.TheVariants.{Fault};
-ghost use Rattle.selector_meaning.specs.Match.{text_verdict};
-ghost use Rattle.selector_meaning.specs.Matches as spec;
+ghost use Rattle.pool_view.specs.declared.verdict.Cause.TheVariants.{Error};
+ghost use Rattle.pool_view.specs.declared.verdict.Verdict.TheVariants.{Fault};
+ghost use Rattle.pool_view.specs.Match.{text_verdict};
+ghost use Rattle.pool_view.specs.Matches as spec;
 
 use cel_eval::{Steps, eval};
 use cel_value::{DeviceEnv, EvalError, Single, Value};
 use device_selector::{Compiled, DeviceSelector};
-use selector_meaning::{Cause, Verdict};
+use pool_view::{Cause, Verdict};
 use std::alloc::{AllocError, Global};
 
 /// What a compiled selector evaluates to on a device: Yes if and only if it is true, No if and only if it is

@@ -7,12 +7,11 @@ ghost use Rattle.door_ports.specs.Visits.{Ended, ending, with_ended};
 use crate::Accepted;
 use dra_ports::{Conn, PortError};
 
-/// What accepts connections, one after another, and takes each back once it was served. It can be
-/// moved to another thread.
+/// What accepts connections, one after another, and takes each back once it was served.
 ///
 /// The connections of all doors that are opened together are numbered from 1, and each door has a share
 /// of the numbers: see [`Doors::open`](crate::Doors::open).
-pub trait Door: Drop + Send {
+pub trait Door: Drop {
     /// A connection.
     type Conn: Conn + Drop;
 

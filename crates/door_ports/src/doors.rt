@@ -11,8 +11,8 @@ use dra_ports::PortError;
 
 /// Where the doors of a server are opened, and closed again.
 pub trait Doors {
-    /// A door.
-    type Door: Door;
+    /// A door. It can be moved to another thread, and so can its connections.
+    type Door: Door<Conn: Send> + Send;
 
     /// How many connections have ended at doors that were closed. This stays at 2^64-1 once it is there.
     ghost served: { Self → ℕ };

@@ -4,12 +4,13 @@ use Rattle.std.specs.Prelude.{◌&&◌, IfSome, bytes_eq, codes, nat_le, option_
 use Rattle.std.specs.Option.{option_and_then}
 use Rattle.std.specs.Str.Parse.{digits_value}
 use Rattle.cli_words.specs.Given.{Bytes, options_in, value_of}
-use Rattle.cli_words.specs.Words.{Values, command_of, exercise_names, exercise_of, exercise_words, in_range, is_number, node_of, number_in, number_or, replay_names, replay_of, replay_words, run_options_of, serve_words}
+use Rattle.cli_words.specs.Words.{Values, address_of, command_of, exercise_names, exercise_of, exercise_words, in_range, is_number, node_of, number_in, number_or, replay_names, replay_of, replay_words, run_options_of, serve_names, serve_of, serve_words}
 use Rattle.cli_words.specs.declared.command.Command.{Command}
 use Rattle.cli_words.specs.declared.command.Command.TheVariants.{Replay, Serve, Exercise}
 use Rattle.cli_words.specs.declared.command.ExerciseWords.{ExerciseWords}
 use Rattle.cli_words.specs.declared.command.ReplayWords.{ReplayWords}
 use Rattle.cli_words.specs.declared.command.RunOptions.{RunOptions}
+use Rattle.cli_words.specs.declared.command.ServeWords.{ServeWords}
 use Rattle.dra_cli.specs.Task.{Fits, task_of}
 use Rattle.dra_cli.specs.declared.task.Task.{Task}
 
@@ -64,13 +65,21 @@ run_fits values =
 
 abbrev FitsSo : Command → Type 0
 FitsSo (Replay words) = AreWithin words.options
-FitsSo (Serve words) = Unit {0}
+FitsSo (Serve words) = AreWithin words.options × Within 1 65535 words.connections
 FitsSo (Exercise words) = words.pods ≤ 100000
 
 replay_fits : (values : Values) → IfSome (replay_of values) (λ (w : ReplayWords). AreWithin w.options)
 replay_fits values =
     and_then_each _ (run_options_of values) AreWithin (λ (w : ReplayWords). AreWithin w.options) (run_fits values) (λ options o.
     map_each _ (node_of (values (codes "node"))) (λ node. Unit {0}) (λ (w : ReplayWords). AreWithin w.options) (trivially _) (λ node t. o))
+
+serve_fits : (values : Values) → IfSome (serve_of values) (λ (w : ServeWords). AreWithin w.options × Within 1 65535 w.connections)
+serve_fits values =
+    and_then_each _ (run_options_of values) AreWithin (λ (w : ServeWords). AreWithin w.options × Within 1 65535 w.connections) (run_fits values) (λ options o.
+    and_then_each _ (option_and_then address_of (values (codes "address"))) (λ address. Unit {0}) (λ (w : ServeWords). AreWithin w.options × Within 1 65535 w.connections) (trivially _) (λ address t.
+    map_each _ (option_and_then (number_in 8 1 65535) (values (codes "connections"))) (Within 1 65535) (λ (w : ServeWords). AreWithin w.options × Within 1 65535 w.connections)
+    (and_then_each (number_in 8 1 65535) (values (codes "connections")) (λ word. Unit {0}) (Within 1 65535) (trivially _) (λ word u. number_within 8 1 65535 word))
+    (λ connections c. (o, c))))
 
 exercise_fits : (values : Values) → IfSome (exercise_of values) (λ (w : ExerciseWords). w.pods ≤ 100000)
 exercise_fits values =
@@ -87,14 +96,16 @@ commands_fit (word ∷ words) =
     (and_then_each _ (options_in replay_names words) (λ given. Unit {0}) (λ (w : ReplayWords). AreWithin w.options) (trivially _) (λ given t. replay_fits (λ name. value_of name given)))
     (λ w h. h))
     (if_each (bytes_eq word (codes "serve")) _ _ FitsSo
-    (λ test. map_each Serve (serve_words words) (λ w. Unit {0}) FitsSo (trivially _) (λ w t. tt))
+    (λ test. map_each Serve (serve_words words) (λ (w : ServeWords). AreWithin w.options × Within 1 65535 w.connections) FitsSo
+    (and_then_each _ (options_in serve_names words) (λ given. Unit {0}) (λ (w : ServeWords). AreWithin w.options × Within 1 65535 w.connections) (trivially _) (λ given t. serve_fits (λ name. value_of name given)))
+    (λ w h. h))
     (if_each (bytes_eq word (codes "exercise")) _ _ FitsSo
     (λ test. map_each Exercise (exercise_words words) (λ (w : ExerciseWords). w.pods ≤ 100000) FitsSo
     (and_then_each _ (options_in exercise_names words) (λ given. Unit {0}) (λ (w : ExerciseWords). w.pods ≤ 100000) (trivially _) (λ given t. exercise_fits (λ name. value_of name given)))
     (λ w h. h))
     tt))
 
-task_fits : (c : Command) → FitsSo c → IfSome (task_of c) Fits
+task_fits : (c : Command) → FitsSo c → Fits (task_of c)
 task_fits (Replay words) fit = record {
   least_workers = fit.workers.0;
   most_workers = fit.workers.1;
@@ -105,14 +116,23 @@ task_fits (Replay words) fit = record {
   least_entries = fit.entries.0;
   most_entries = fit.entries.1;
 }
-task_fits (Serve words) fit = tt
+task_fits (Serve words) fit = record {
+  least_workers = fit.0.workers.0;
+  most_workers = fit.0.workers.1;
+  least_budget = fit.0.budget.0;
+  most_budget = fit.0.budget.1;
+  least_attempts = fit.0.attempts.0;
+  most_attempts = fit.0.attempts.1;
+  least_entries = fit.0.entries.0;
+  most_entries = fit.0.entries.1;
+  least_connections = fit.1.0;
+  most_connections = fit.1.1;
+}
 task_fits (Exercise words) fit = fit
 
 some_of : {X : Type 0} (r : Option X) (P : X → Type 0) (x : X) → IfSome r P → r ≡ Some x → P x
 some_of {X} r P x h is = subst (λ (o : Option X). IfSome o P) is h
 
 -- the options of the task that arguments ask for are in their ranges
-pub fits_by : (words : List Bytes) (r : Option Command) (c : Command) (t : Option Task) → r ≡ command_of words → r ≡ Some c → t ≡ task_of c → IfSome t Fits
-fits_by words r c t is some task =
-    subst (λ (x : Option Task). IfSome x Fits) (sym task)
-    (task_fits c (some_of (command_of words) FitsSo c (commands_fit words) (sym is ∙ some)))
+pub fits_by : (words : List Bytes) (r : Option Command) (c : Command) (t : Task) → r ≡ command_of words → r ≡ Some c → t ≡ task_of c → Fits t
+fits_by words r c t is some task = subst Fits (sym task) (task_fits c (some_of (command_of words) FitsSo c (commands_fit words) (sym is ∙ some)))

@@ -3,3 +3,6 @@ pub mod Tasks
 pub mod Told
 pub mod Truths
 pub mod Nothing
+pub mod Causing
+pub mod Serves
+pub mod Served

@@ -80,28 +80,32 @@ PrefixLaw = (prefix back : List Entry) → Legal (prefix ++ back) → Legal pref
 abbrev UndisturbedLaw : Type 0
 UndisturbedLaw = (n : ℕ) (command : Command) (budget : ℕ) (before segment : List Entry) → Legal (before ++ segment) → SegmentBegun n (One command) budget before segment → NeverSetBack (n + 1) (before ++ segment)
 
--- what is used of the lower crates
-pub record Laws : Type 0 where
+-- what is used of the lower crates, of each history
+pub record HistoryLaws : Type 0 where
   pub grants : GrantLaw
   pub verdicts : VerdictLaw
-  pub budgets : BudgetLaw
-  pub part_budgets : PartLaw
   pub steps : StepLaw
-  pub prefix : PrefixLaw
   pub adoptions : AdoptionLaw
   pub denials : DenialLaw
   pub holders : HolderLaw
   pub limits : LimitLaw
   pub users : UserLaw
   pub uses : UseLaw
+
+-- and of runs
+pub record Laws : Type 0 where
+  pub history : HistoryLaws
+  pub budgets : BudgetLaw
+  pub part_budgets : PartLaw
+  pub prefix : PrefixLaw
   pub complete : CompleteLaw
   pub undisturbed : UndisturbedLaw
 
 -- each verdict of the history is what searches within the budget return
-abbrev SearchedBy : ℕ → List Entry → Type 0
+abbrev pub SearchedBy : ℕ → List Entry → Type 0
 SearchedBy budget h = (prefix back : List Entry) (job : ℕ) (pod : Key) (verdict : Verdict) → h ≡ prefix ++ record { job = job; event = VerdictGiven pod verdict } ∷ back → VerdictBy (state_at prefix verdict.at) pod budget verdict
 
-true_history : Laws → (budget : ℕ) (h : List Entry) → Legal h → SearchedBy budget h → IsTrueHistory budget h
+pub true_history : HistoryLaws → (budget : ℕ) (h : List Entry) → Legal h → SearchedBy budget h → IsTrueHistory budget h
 true_history laws budget h legal searched = record {
   grants = λ prefix back job pod plan e. laws.grants prefix back job pod plan (subst (λ (x : List Entry). Legal x) e legal);
   verdicts = λ prefix back job pod verdict e. laws.verdicts prefix back job pod verdict (subst (λ (x : List Entry). Legal x) e legal);
@@ -118,7 +122,7 @@ true_history laws budget h legal searched = record {
 -- the run of commands
 pub true_run : Laws → (options : ReplayOptions) (done : List (ℕ × Given)) (h : List Entry) → IsRun options done h → IsTrueRun options done h
 true_run laws options done h r = record {
-  history = true_history laws options.budget h r.legal
+  history = true_history laws.history options.budget h r.legal
       (λ prefix back job pod verdict e. laws.budgets options.budget (commands_of done) prefix back job pod verdict (subst (λ (x : List Entry). RunOf options.budget (commands_of done) x) e r.run));
   schedules = λ prefix back pod attempts e. laws.complete options.budget prefix back pod attempts h r.legal (subst (λ (cs : List Given). RunOf options.budget cs h) e r.run);
 }
@@ -143,7 +147,7 @@ true_part laws options done c h p =
     let legal : Legal (p.before ++ p.segment) = subst (λ (x : List Entry). Legal x) p.is p.legal in
     record {
       run = record {
-        history = true_history laws options.budget h p.legal
+        history = true_history laws.history options.budget h p.legal
             (λ prefix back job pod verdict e. laws.part_budgets options.budget n (commands_of done) c p.before p.segment prefix back job pod verdict p.run p.begun (sym p.is ∙ e));
         schedules = λ prefix back pod attempts e.
             scheduled_past options.budget prefix pod attempts p.before p.segment h p.is
@@ -187,6 +191,7 @@ module _ (truth : RunTruth) (part : PartTruth) (options : ReplayOptions) (left l
   replays status.Disk e = record { ends = e; run = truth options e.done e.history e.so.run }
   replays (status.Limit count) e = limit count e
   replays (status.Checkpoint at) e = record { ends = e; run = truth options e.ends.done e.ends.history e.ends.so.run }
+  replays status.Door e = e
 
 pub replays_so : RunTruth → PartTruth → (options : ReplayOptions) (left left_now before after : Option (List ℕ)) (disk disk_now : Option Content) (calls calls_now : Option (List DriverCall)) (faults faults_now : ℕ) (s : Status)
     → EndsSo options left left_now before after disk disk_now calls calls_now faults faults_now s → ReplaysSo options left left_now before after disk disk_now calls calls_now faults faults_now s

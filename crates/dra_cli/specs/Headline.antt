@@ -137,6 +137,7 @@ Replays options left left_now before after found now status.Write = ReplayedShor
 Replays options left left_now before after found now status.Disk = ReplayedToDisk options left before after found now
 Replays options left left_now before after found now (status.Limit count) = ReplayedFull options count left before after found now ⊎ ((count ≡ most_input) × ReplayedTo options Long left before after found now)
 Replays options left left_now before after found now (status.Checkpoint at) = ReplayedToCheckpoint options at left before after found now
+Replays options left left_now before after found now status.Door = ⊥
 
 -- The same of a disk and a driver: as they were found the kubelet isn't open, and it is open or not when the run ends.
 pub record ReplaysSo (options : ReplayOptions) (left left_now before after : Option (List ℕ)) (disk disk_now : Option Content) (calls calls_now : Option (List DriverCall)) (faults faults_now : ℕ) (s : Status) : Type 0 where

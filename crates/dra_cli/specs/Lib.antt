@@ -1,3 +1,5 @@
 pub mod Task
 pub mod Program
 pub mod Headline
+pub mod Causes
+pub mod Serving

@@ -14,3 +14,4 @@ exit_number status.Write = 6
 exit_number status.Disk = 7
 exit_number (status.Limit count) = 8
 exit_number (status.Checkpoint at) = 10
+exit_number status.Door = 9

@@ -1,6 +1,7 @@
-ghost use Rattle.std.specs.Prelude.{◌≡◌};
+ghost use Rattle.std.specs.Prelude.{◌≡◌, ◌<◌, IfSome, length};
 
 use dra_ports::{PortError, Sink};
+use memchr::memchr;
 use std::alloc::Global;
 use std::mem;
 
@@ -17,14 +18,22 @@ pub struct Denials {
     count: u64,
 }
 
+/// The first line, and what follows its end, if it has one.
+fn first_line(bytes: &[u8]) -> Option<(&[u8], &[u8])>
+    ensures { IfSome result (λ r. length r.1.now < length bytes.now) }
+{
+    match memchr(b'\n', bytes) {
+        Some(end) => Some((&bytes[..end], &bytes[end + 1..])),
+        None => None,
+    }
+}
+
 /// What follows the first space, or nothing.
 fn after_space(line: &[u8]) -> &[u8] {
-    for index in 0..line.len() {
-        if line[index] == b' ' {
-            return &line[index + 1..];
-        }
+    match memchr(b' ', line) {
+        Some(index) => &line[index + 1..],
+        None => &line[..0],
     }
-    &line[..0]
 }
 
 /// Whether the third field of a line is `denied`.
@@ -63,20 +72,22 @@ impl Denials {
         self.line.clear();
     }
 
-    fn pass(&mut self, byte: u8) {
-        if byte == b'\n' {
-            self.end_line();
-        } else if self.line.len() < LINE_MOST {
-            // Where memory runs out, the line lacks bytes.
-            let _ = self.line.push(byte);
-        }
+    /// Looks at a part of the present line.
+    fn pass_part(&mut self, part: &[u8]) {
+        let room = LINE_MOST.saturating_sub(self.line.len());
+        // Where memory runs out, the line lacks bytes.
+        let _ = self.line.extend_from_slice(&part[..part.len().min(room)]);
     }
 
     /// Looks at bytes that were written.
     fn pass_all(&mut self, bytes: &[u8]) {
-        for byte in bytes {
-            self.pass(*byte);
+        let mut rest = bytes;
+        'lines: while let Some((line, behind)) = first_line(rest) {
+            self.pass_part(line);
+            self.end_line();
+            rest = behind;
         }
+        self.pass_part(rest);
     }
 }
 

@@ -3,7 +3,10 @@ ghost use Rattle.cluster.specs.declared.entry.Entry.{Entry};
 ghost use Rattle.commands.specs.declared.given.Given.{Given};
 ghost use Rattle.replay_core.specs.declared.options.ReplayOptions.{ReplayOptions};
 ghost use Rattle.replay_core.specs.Replay.{IsPart, IsRun};
-ghost use Rattle.dra_cli.specs.Headline.{IsTruePart, IsTrueRun};
+ghost use Rattle.server_core.specs.Serving.{IsFull, IsServed};
+ghost use Rattle.server_core.specs.Visits.{Visit};
+ghost use Rattle.server_core.specs.declared.options.ServeOptions.{ServeOptions};
+ghost use Rattle.dra_cli.specs.Headline.{IsTrueHistory, IsTruePart, IsTrueRun};
 
 use histories::{
     adoptions_are_allocations, denials_change_nothing, grants_are_allocations, legal_steps,
@@ -30,4 +33,21 @@ pub fn runs_are_true()
     runs_are_complete();
     runs_search_within();
     single_commands_are_undisturbed();
+}
+
+/// The history that a server made of the requests of connections is true, whether all of them were served or it reached its
+/// limit.
+pub fn served_are_true()
+    ensures served { (options : ServeOptions) (h : List Entry) (visits : List Visit) → IsServed options h visits → IsTrueHistory options.budget h }
+    ensures full { (options : ServeOptions) (h : List Entry) (visits : List Visit) → IsFull options h visits → IsTrueHistory options.budget h }
+{
+    grants_are_allocations();
+    verdicts_are_true();
+    legal_steps();
+    adoptions_are_allocations();
+    denials_change_nothing();
+    one_holder();
+    objects_keep_limits();
+    users_are_busy();
+    pods_use_claims();
 }

@@ -1,15 +1,18 @@
 //! The program `dra`: `dra replay [--workers n] [--budget B] [--attempts A] [--entries E] [--node name]
 //! < script` replays a script of the Kubernetes API's objects and prints the journal of what was decided. The kubelet of
-//! the node keeps its checkpoint in the file `checkpoint.dra` of the current folder. `dra exercise --from s --pods p` replays
-//! a script that is generated, and prints its summary alone.
+//! the node keeps its checkpoint in the file `checkpoint.dra` of the current folder. `dra serve --address a --connections k`
+//! serves so many connections to an address, each of which speaks HTTP, and prints the journal of what was decided. `dra
+//! exercise --from s --pods p` replays a script that is generated, and prints its summary alone.
 #![tactic(auto)]
 
+mod announced;
 mod denials;
 mod file_disk;
 mod headline;
 mod message;
 mod position;
 mod program;
+mod serving;
 mod stdio;
 mod tail;
 mod task;
@@ -17,10 +20,12 @@ mod task;
 mod tests;
 mod yes_driver;
 
+use announced::AnnouncedDoors;
 use denials::{Denials, WatchedSink};
 use dra_ports::OpenGate;
 use file_disk::FileDisk;
 use message::Message;
+use net_doors::NetDoors;
 use program::{exit_number, run};
 use replay_core::Status;
 use std::io::{self, ErrorKind};
@@ -68,6 +73,7 @@ fn main(rt: HostRuntime) -> ExitCode {
         Ok(words) => {
             let disk = FileDisk::new(&rt);
             let mut driver = YesDriver::new();
+            let mut doors = AnnouncedDoors::new(&rt, NetDoors::new(&rt, rt.alloc()));
             let (_disk, status) = run(
                 &rt,
                 &words,
@@ -75,6 +81,7 @@ fn main(rt: HostRuntime) -> ExitCode {
                 &mut output,
                 disk,
                 &mut driver,
+                &mut doors,
                 &OpenGate,
             );
             status

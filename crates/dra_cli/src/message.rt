@@ -132,9 +132,11 @@ impl fmt::Display for Message {
         match self.status {
             Status::Done => f.write_str("all was done"),
             Status::Usage => f.write_str(
-                "these arguments are not supported; the commands are `replay` and `exercise`\n\
+                "these arguments are not supported; the commands are `replay`, `serve` and `exercise`\n\
                  usage: dra replay [--workers 1..64] [--budget 1..10000000] [--attempts 1..64] \
                  [--entries 1..1000000] [--node name] < script\n\
+                 usage: dra serve --address host:port --connections 1..65535 [--workers 1..64] \
+                 [--budget 1..10000000] [--attempts 1..64] [--entries 1..1000000]\n\
                  usage: dra exercise --from 0..9223372036854775807 --pods 0..100000",
             ),
             Status::Document(offset, why) => write!(
@@ -156,6 +158,9 @@ impl fmt::Display for Message {
             Status::Disk => f.write_str(
                 "the file checkpoint.dra could not be opened, read, written or synced; expected a folder and a file that \
                  may be written, with room for 9 MB",
+            ),
+            Status::Door => f.write_str(
+                "connections could not be accepted; expected an address as 127.0.0.1:8080 that no other program listens at",
             ),
             Status::Checkpoint(offset) => write!(
                 f,

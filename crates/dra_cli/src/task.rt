@@ -1,7 +1,7 @@
 ghost use Rattle.std.specs.Prelude.{◌≡◌, IfOk, IfSome, map, string_bytes};
 ghost use Rattle.dra_cli.specs.Task.{Fits, asked_of, options_of, task_of};
 
-use cli_words::{Command, ExerciseWords, ReplayWords};
+use cli_words::{Command, ExerciseWords, ReplayWords, ServeWords};
 use replay_core::ReplayOptions;
 use std::alloc::{AllocError, Global};
 
@@ -10,6 +10,8 @@ use std::alloc::{AllocError, Global};
 pub enum Task {
     /// To replay the script that the input is.
     Replay(ReplayOptions),
+    /// To serve connections to an address.
+    Serve(ServeWords),
     /// To replay a generated script.
     Exercise(ExerciseWords),
 }
@@ -27,14 +29,14 @@ fn options_of(words: ReplayWords) -> ReplayOptions
     }
 }
 
-/// The task of a command, or `None` if this program doesn't have the command.
-fn task_of(command: Command) -> Option<Task>
+/// The task of a command.
+fn task_of(command: Command) -> Task
     ensures { result ≡ task_of command }
 {
     match command {
-        Command::Replay(words) => Some(Task::Replay(options_of(words))),
-        Command::Serve(_) => None,
-        Command::Exercise(words) => Some(Task::Exercise(words)),
+        Command::Replay(words) => Task::Replay(options_of(words)),
+        Command::Serve(words) => Task::Serve(words),
+        Command::Exercise(words) => Task::Exercise(words),
     }
 }
 
@@ -45,7 +47,7 @@ pub fn asked(alloc: Global, words: &[String]) -> Result<Option<Task>, AllocError
     ensures fit { IfOk result (λ task. IfSome task Fits) }
 {
     match cli_words::words(alloc, words)? {
-        Some(command) => Ok(task_of(command)),
+        Some(command) => Ok(Some(task_of(command))),
         None => Ok(None),
     }
 }

@@ -99,6 +99,7 @@ Came from pods bytes status.Write = ⊥
 Came from pods bytes status.Disk = ⊥
 Came from pods bytes (status.Limit count) = ⊥
 Came from pods bytes (status.Checkpoint at) = ⊥
+Came from pods bytes status.Door = ⊥
 
 never_rises : Rose 0 0 → ⊥
 never_rises h = omega (arith, h)
@@ -148,6 +149,7 @@ came laws law from pods bytes left_now found now (status.Checkpoint at) few scri
     let told = e.ends.script (generated from pods) refl in
     let s = first_commands (script_of 32 (generated from pods)) told.0 e.ends.done e.ends.at e.ends.command (asked_of 32 from pods) told.1 script.commands in
     absurd (not_kubelet e.ends.command s.next s.command_is e.ends.is)
+came laws law from pods bytes left_now found now status.Door few script e read write disk = e
 
 pub only_memory : (from pods : ℕ) (bytes : List ℕ) (s : Status) → Came from pods bytes s → (s ≡ status.Done → ⊥) → s ≡ status.Memory
 only_memory from pods bytes status.Done c other = absurd (other refl)
@@ -159,3 +161,4 @@ only_memory from pods bytes status.Write c other = absurd c
 only_memory from pods bytes status.Disk c other = absurd c
 only_memory from pods bytes (status.Limit count) c other = absurd c
 only_memory from pods bytes (status.Checkpoint at) c other = absurd c
+only_memory from pods bytes status.Door c other = absurd c

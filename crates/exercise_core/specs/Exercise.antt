@@ -61,3 +61,4 @@ Prints from pods old new status.Write = PrintsPrefix from pods old new
 Prints from pods old new status.Disk = ⊥
 Prints from pods old new (status.Limit count) = ⊥
 Prints from pods old new (status.Checkpoint at) = ⊥
+Prints from pods old new status.Door = ⊥

@@ -6,7 +6,7 @@ ghost use Rattle.pool_view.specs.Known.{has_error, is_sure, is_sure_of};
 use api_slice::{Device, DriverName, ResourceSlice};
 use device_match::{device_env, match_both};
 use device_selector::DeviceSelector;
-use selector_meaning::Match;
+use pool_view::Match;
 use std::alloc::{AllocError, Global};
 
 fn has_error(found: &Match) -> bool

@@ -8,8 +8,7 @@ ghost use Rattle.sched_job.specs.declared.work.Stage.TheVariants.{Ready};
 
 use cluster::JobState;
 use commands::Command;
-use ledger_core::Ledger;
-use sched_job::{Stage, Work};
+use sched_job::{Ledger, Stage, Work};
 
 /// Whether a command has an attempt.
 fn has_attempt(command: &Command) -> bool

@@ -1,3 +1,5 @@
+use crate::input::{CaseError, cut_at, number};
+
 /// How jobs are run.
 #[derive(Clone, Copy, Drop)]
 pub struct Options {
@@ -11,28 +13,28 @@ pub struct Options {
 
 impl Options {
     /// The options with one changed by an argument such as `attempts=2`.
-    fn with_word(self, word: &str) -> Option<Self> {
-        let (key, number) = word.split_once('=')?;
-        let number = number.parse::<u64>().ok()?;
+    fn with_word(self, word: &str) -> Result<Self, CaseError> {
+        let (key, text) = cut_at(word, '=')?;
+        let number = number(text)?;
         match key {
-            "entries" => Some(Options {
+            "entries" => Ok(Options {
                 entries: number,
                 ..self
             }),
-            "budget" => Some(Options {
+            "budget" => Ok(Options {
                 budget: number,
                 ..self
             }),
-            "attempts" => Some(Options {
+            "attempts" => Ok(Options {
                 attempts: number,
                 ..self
             }),
-            _ => None,
+            _ => Err(CaseError::BadCase),
         }
     }
 
     /// Reads options, with a space between two. Those that are missing are the ones of the program `dra`.
-    pub fn read(words: &str) -> Option<Self> {
+    pub fn read(words: &str) -> Result<Self, CaseError> {
         let mut options = Options {
             entries: 1_000_000,
             budget: 100_000,
@@ -43,6 +45,6 @@ impl Options {
                 options = options.with_word(word)?;
             }
         }
-        Some(options)
+        Ok(options)
     }
 }

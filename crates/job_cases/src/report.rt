@@ -1,50 +1,36 @@
+use crate::out::Out;
 use cluster::JobState;
 use journal_text::{lines, summary};
-use ledger_core::{Ledger, LedgerError};
-use sched_job::Work;
+use sched_job::{Ledger, LedgerError, Work};
 use std::alloc::{AllocError, Global};
 
 /// Prints how many turns there were, or that the history was full.
-fn print_turns(
-    alloc: Global,
-    turns: Result<u64, LedgerError>,
-    out: &mut Vec<u8>,
-) -> Result<(), AllocError> {
-    let text = match turns {
-        Ok(turns) => format!(in alloc; "turns {turns}, ended")?,
-        Err(LedgerError::Full(count)) => format!(in alloc; "full {count}, ended")?,
+fn print_turns(turns: Result<u64, LedgerError>, out: &mut Out) -> Result<(), AllocError> {
+    match turns {
+        Ok(turns) => out.show_after("turns ", &turns),
+        Err(LedgerError::Full(count)) => out.show_after("full ", &count),
         Err(LedgerError::Memory) => return Err(AllocError),
-    };
-    out.extend_from_slice(text.as_bytes())
+    }
+    Ok(())
 }
 
 /// Prints the index of the last entry of a job that has ended, and `-` for one that hasn't.
-fn print_job_state(
-    alloc: Global,
-    job_state: JobState,
-    out: &mut Vec<u8>,
-) -> Result<(), AllocError> {
-    let text = match job_state {
-        JobState::Ended(index) => format!(in alloc; " {index}")?,
+fn print_job_state(job_state: JobState, out: &mut Out) {
+    match job_state {
+        JobState::Ended(index) => out.show_after(" ", &index),
         JobState::Fresh | JobState::Reserved(_) | JobState::Conflicted(_) | JobState::Failed(_) => {
-            format!(in alloc; " -")?
+            out.say(" -");
         }
-    };
-    out.extend_from_slice(text.as_bytes())
+    }
 }
 
 /// Prints where each of these works has ended.
-fn print_ends(
-    alloc: Global,
-    ledger: &Ledger,
-    works: &[Work],
-    out: &mut Vec<u8>,
-) -> Result<(), AllocError> {
+fn print_ends(ledger: &Ledger, works: &[Work], out: &mut Out) {
+    out.say(", ended");
     for work in works {
-        print_job_state(alloc, ledger.job_state(work.job), out)?;
+        print_job_state(ledger.job_state(work.job), out);
     }
-    out.push(b'\n')?;
-    Ok(())
+    out.say("\n");
 }
 
 /// Prints the lines of the entries after the first ones, how many turns were made, where each work has
@@ -56,10 +42,11 @@ pub fn print_case(
     turns: Result<u64, LedgerError>,
     works: &[Work],
     jobs: u64,
-    out: &mut Vec<u8>,
+    out: &mut Out,
 ) -> Result<(), AllocError> {
-    out.extend_from_slice(&lines(alloc, ledger.entries(), from)?)?;
-    print_turns(alloc, turns, out)?;
-    print_ends(alloc, ledger, works, out)?;
-    out.extend_from_slice(&summary(alloc, ledger.len(), ledger.state(), jobs)?)
+    out.lines(lines(alloc, ledger.entries(), from));
+    print_turns(turns, out)?;
+    print_ends(ledger, works, out);
+    out.lines(summary(alloc, ledger.len(), ledger.state(), jobs));
+    Ok(())
 }

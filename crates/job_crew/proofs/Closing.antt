@@ -3,8 +3,8 @@ use Rattle.std.proofs.Common.{ℕ, ◌≡◌, ◌∙◌, ◌≤◌, ◌++◌, Li
 use mathlib.Core.List.{IsPrefix}
 use Rattle.cluster.specs.declared.entry.Entry.{Entry}
 use Rattle.histories.specs.Legal.{Legal}
-use Rattle.ledger_core.specs.Ledger.{History}
-use Rattle.ledger_core.specs.declared.error.LedgerError.{LedgerError}
+use Rattle.sched_job.specs.Ledgers.{History}
+use Rattle.sched_job.specs.Ledgers.{LedgerError}
 use Rattle.turn_lock.specs.Known.{Known, Opened}
 use Rattle.turn_lock.specs.Places.{OwnsAll}
 use Rattle.sched_job.specs.declared.run.JobEnd.{JobEnd}

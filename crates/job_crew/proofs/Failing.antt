@@ -1,8 +1,8 @@
 -- The first failure among the ends of jobs.
 use Rattle.std.proofs.Common.{ℕ, zero, suc, ◌≡◌, ◌+◌, ◌<◌, inl, inr, List, [], ◌∷◌, drop, get_or, length, sym, subst, arith, Result, Ok, Err, OnOk, IsErrOf}
 use Rattle.std.proofs.lemmas.List.{drop_more}
-use Rattle.ledger_core.specs.declared.error.LedgerError.{LedgerError}
-use Rattle.ledger_core.specs.declared.error.LedgerError.TheVariants as error
+use Rattle.sched_job.specs.Ledgers.{LedgerError}
+use Rattle.sched_job.specs.Ledgers.ledger_error as error
 use Rattle.sched_job.specs.declared.run.JobEnd.{JobEnd}
 use Rattle.sched_job.specs.declared.run.JobEnd.TheVariants as job_end
 use Rattle.job_crew.specs.Together.{AllDone, IsDone, SomeFull}

@@ -3,3 +3,4 @@ pub mod Dealt
 pub mod Passes
 pub mod Parts
 pub mod Together
+pub mod Jobs

@@ -2,7 +2,7 @@
 use Rattle.std.specs.Prelude.{ℕ, ◌≡◌, ◌⊎◌, true, false, List, [], ◌∷◌, length}
 use Rattle.cluster.specs.declared.entry.Entry.{Entry}
 use Rattle.cluster.specs.History.{job_state_of}
-use Rattle.ledger_core.specs.Ledger.{History}
+use Rattle.sched_job.specs.Ledgers.{History}
 use Rattle.histories.specs.Legal.{Legal}
 use Rattle.turn_lock.specs.Known.{Known, Opened}
 use Rattle.turn_lock.specs.Places.{times}

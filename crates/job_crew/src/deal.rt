@@ -3,8 +3,7 @@ ghost use Rattle.job_crew.specs.Dealt.{AreMembers, AreReady, dealt, works_in};
 ghost use Rattle.job_crew.specs.declared.member.Member.{Member};
 
 use crate::member::Member;
-use ledger_core::Ledger;
-use sched_job::Work;
+use sched_job::{Ledger, Work};
 use std::alloc::{AllocError, Global};
 use turn_lock::TurnLock;
 

@@ -11,3 +11,6 @@ mod passes;
 mod run;
 
 pub use run::run_together;
+pub use sched_job::{
+    Ledger, LedgerError, Work, alone_is_undisturbed, run_alone, schedules_are_complete,
+};

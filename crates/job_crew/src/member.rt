@@ -1,7 +1,6 @@
 use crew::Job;
 use dra_ports::Gate;
-use ledger_core::Ledger;
-use sched_job::{JobEnd, Work, run_job};
+use sched_job::{JobEnd, Ledger, Work, run_job};
 use std::alloc::Global;
 use std::sync::Wait;
 use turn_lock::{Pass, TurnLock};

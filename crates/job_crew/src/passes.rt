@@ -3,7 +3,7 @@ ghost use mathlib.Core.List.{IsPrefix};
 ghost use Rattle.turn_lock.specs.Known.{IsFree, IsOf};
 ghost use Rattle.job_crew.specs.Passes.{AreFree, AreFresh, Joined, shares};
 
-use ledger_core::Ledger;
+use sched_job::Ledger;
 use std::alloc::Global;
 use turn_lock::{Pass, TurnLock};
 

@@ -5,14 +5,14 @@ use Rattle.cluster.specs.declared.entry.Entry.{Entry}
 use Rattle.journal_text.specs.Journal.{line_of, lines_from}
 
 -- one line more
-pub lines_step : (xs : List Entry) (out all line : List ℕ) (place : ℕ) (e : Entry) → place < length xs → e ≡ get_or xs place e
-    → out ++ lines_from place (drop place xs) ≡ all → line ≡ line_of (place + 1) e → (out ++ line) ++ lines_from (place + 1) (drop (place + 1) xs) ≡ all
+pub lines_step : (xs : List Entry) (out next all : List ℕ) (place : ℕ) (e : Entry) → place < length xs → e ≡ get_or xs place e
+    → out ++ lines_from place (drop place xs) ≡ all → next ≡ out ++ line_of (place + 1) e → next ++ lines_from (place + 1) (drop (place + 1) xs) ≡ all
 unfolding lines_from
-lines_step xs out all line place e lt is told same =
-    let next : drop place xs ≡ get_or xs place e ∷ drop (place + 1) xs = rw add-one (drop-cons xs place e lt) in
-    let here : drop place xs ≡ e ∷ drop (place + 1) xs = next ∙ ap (λ (x : Entry). x ∷ drop (place + 1) xs) (sym is) in
-    append_assoc out line (lines_from (place + 1) (drop (place + 1) xs))
-    ∙ ap (λ (l : List ℕ). out ++ (l ++ lines_from (place + 1) (drop (place + 1) xs))) same
+lines_step xs out next all place e lt is told same =
+    let after : drop place xs ≡ get_or xs place e ∷ drop (place + 1) xs = rw add-one (drop-cons xs place e lt) in
+    let here : drop place xs ≡ e ∷ drop (place + 1) xs = after ∙ ap (λ (x : Entry). x ∷ drop (place + 1) xs) (sym is) in
+    ap (λ (l : List ℕ). l ++ lines_from (place + 1) (drop (place + 1) xs)) same
+    ∙ append_assoc out (line_of (place + 1) e) (lines_from (place + 1) (drop (place + 1) xs))
     ∙ ap (λ (r : List Entry). out ++ lines_from place r) (sym here) ∙ told
 
 -- all lines are written

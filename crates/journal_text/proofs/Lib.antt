@@ -1,4 +1,3 @@
-pub mod FaultText
 mod Appended
 mod Printed
 mod Whole

@@ -13,8 +13,8 @@ use Rattle.cluster.specs.declared.plan.Cause.TheVariants.{Unsat, Fault, Budget, 
 use Rattle.cluster.specs.declared.plan.SelectorFault.{SelectorFault}
 use Rattle.cel_value.specs.declared.error.EvalError.{EvalError}
 use Rattle.cel_value.specs.declared.error.EvalError.TheVariants.{NoKey, NoOverload, Overflow, DivByZero, OutOfRange, BadConversion, Memory}
-use Rattle.selector_meaning.specs.declared.verdict.Cause as matched
-use Rattle.selector_meaning.specs.declared.verdict.Cause.TheVariants as why
+use Rattle.pool_view.specs.declared.verdict.Cause as matched
+use Rattle.pool_view.specs.declared.verdict.Cause.TheVariants as why
 use Rattle.cluster.specs.VerdictGiven.{has_budget, has_fault}
 use Rattle.cluster.specs.declared.plan.DeviceResult.{DeviceResult}
 use Rattle.cluster.specs.declared.plan.Grant.{Grant}

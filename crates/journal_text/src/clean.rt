@@ -1,7 +1,5 @@
-ghost use Rattle.std.specs.Prelude.{◌≡◌, IfOk, map};
+ghost use Rattle.std.specs.Prelude.{◌≡◌, ◌≤◌, ◌++◌, drop, length, map, take};
 ghost use Rattle.journal_text.specs.Journal.{clean};
-
-use std::alloc::{AllocError, Global};
 
 fn clean(byte: u8) -> u8
     ensures { result ≡ clean byte }
@@ -13,13 +11,19 @@ fn clean(byte: u8) -> u8
     }
 }
 
-/// The bytes with `?` for each control character.
-pub fn cleaned(alloc: Global, bytes: &[u8]) -> Result<Vec<u8>, AllocError>
-    ensures { IfOk result (λ v. v.items ≡ map clean bytes.now) }
+/// Puts `?` in place of each control character.
+fn clean_all(bytes: &mut [u8])
+    ensures { bytes.new ≡ map clean bytes.old }
 {
-    let mut out = Vec::new(alloc);
-    for byte in bytes {
-        out.push(clean(*byte))?;
+    for byte in bytes.iter_mut() {
+        *byte = clean(*byte);
     }
-    Ok(out)
+}
+
+/// Puts `?` in place of each control character from an index on.
+pub fn clean_from(out: &mut Vec<u8>, from: usize)
+    requires { from ≤ length out.old.items }
+    ensures { out.new.items ≡ take from out.old.items ++ map clean (drop from out.old.items) }
+{
+    clean_all(&mut out[from..]);
 }

@@ -1,7 +1,8 @@
-ghost use Rattle.std.specs.Prelude.{◌≡◌, ◌<◌, ◌^◌, IfOk, string_bytes};
+ghost use Rattle.std.specs.Prelude.{◌≡◌, ◌<◌, ◌++◌, ◌^◌, IfOk, OnOk, string_bytes};
 ghost use Rattle.quantity.specs.Printed.{fraction_text, magnitude_text};
 ghost use Rattle.journal_text.specs.Journal.{failure_text, shortfall_text, value_text};
 
+use crate::worded::{Worded, push_after, push_shown, push_text};
 use cluster::{Failure, Shortfall};
 use quantity::Nanos;
 use std::alloc::{AllocError, Global};
@@ -9,13 +10,14 @@ use std::alloc::{AllocError, Global};
 /// One, in 10^-9.
 const ONE: u128 = 1_000_000_000;
 
-/// A number of 10^-9, printed like a quantity.
-fn magnitude_text(alloc: Global, nanos: u128) -> Result<String, AllocError>
-    ensures { IfOk result (λ s. string_bytes s ≡ magnitude_text nanos) }
+/// Writes a number of 10^-9, as a quantity is printed.
+#[tactic(auto, unfolding(quantity::specs::Printed::magnitude_text))]
+fn push_magnitude(out: &mut Vec<u8>, nanos: u128) -> Result<(), AllocError>
+    ensures { OnOk result (out.new.items ≡ out.old.items ++ magnitude_text nanos) }
 {
-    let whole = nanos / ONE;
-    let fraction = fraction_text(alloc, nanos % ONE)?;
-    format!(in alloc; "{whole}{fraction}")
+    push_shown(out, nanos / ONE)?;
+    let fraction = fraction_text(*out.allocator(), nanos % ONE)?;
+    push_text(out, fraction.as_str())
 }
 
 /// The text after the whole part: empty, or a point and the decimal places.
@@ -30,39 +32,53 @@ fn fraction_text(alloc: Global, nanos: u128) -> Result<String, AllocError>
     }
 }
 
-fn value_text(alloc: Global, value: Option<u128>) -> Result<String, AllocError>
-    ensures { IfOk result (λ s. string_bytes s ≡ value_text value) }
+fn push_value(out: &mut Vec<u8>, value: Option<u128>) -> Result<(), AllocError>
+    ensures { OnOk result (out.new.items ≡ out.old.items ++ value_text value) }
 {
     match value {
-        None => String::from_str(alloc, "0"),
-        Some(value) => magnitude_text(alloc, value),
+        None => push_text(out, "0"),
+        Some(value) => push_magnitude(out, value),
     }
 }
 
-fn shortfall_text(alloc: Global, short: &Shortfall) -> Result<String, AllocError>
-    ensures { IfOk result (λ s. string_bytes s ≡ shortfall_text short.now) }
-{
-    let drawn = magnitude_text(alloc, short.drawn)?;
-    let value = value_text(alloc, short.value)?;
-    format!(in alloc; "Counter:{}/{}:{drawn}:{value}", short.set, short.counter)
+/// As `Counter:set/counter:drawn:value`.
+impl Worded for Shortfall {
+    ghost words = { shortfall_text };
+
+    fn push_to(&self, out: &mut Vec<u8>) -> Result<(), AllocError> {
+        push_after(out, "Counter:", &self.set)?;
+        push_after(out, "/", &self.counter)?;
+        push_text(out, ":")?;
+        push_magnitude(out, self.drawn)?;
+        push_text(out, ":")?;
+        push_value(out, self.value)
+    }
 }
 
 /// The printed word of a failure, and what it names.
-pub fn failure_text(alloc: Global, failure: &Failure) -> Result<String, AllocError>
-    ensures { IfOk result (λ s. string_bytes s ≡ failure_text failure.now) }
-{
-    match failure {
-        Failure::ClaimGone(claim) => format!(in alloc; "ClaimGone:{claim}"),
-        Failure::ClaimChanged(key) => format!(in alloc; "ClaimChanged:{key}"),
-        Failure::Users(claim) => format!(in alloc; "Users:{claim}"),
-        Failure::NodeGone(node) => format!(in alloc; "NodeGone:{node}"),
-        Failure::DeviceGone(device) => format!(in alloc; "DeviceGone:{device}"),
-        Failure::Shape(claim) => format!(in alloc; "Shape:{claim}"),
-        Failure::SelectorNo(device) => format!(in alloc; "SelectorNo:{device}"),
-        Failure::SelectorFault(device) => format!(in alloc; "SelectorFault:{device}"),
-        Failure::Tainted(device) => format!(in alloc; "Tainted:{device}"),
-        Failure::Held { device, claim } => format!(in alloc; "Held:{device}:{claim}"),
-        Failure::Counter(short) => shortfall_text(alloc, short),
-        Failure::Constraint { claim, index } => format!(in alloc; "Constraint:{claim}:{index}"),
+impl Worded for Failure {
+    ghost words = { failure_text };
+
+    fn push_to(&self, out: &mut Vec<u8>) -> Result<(), AllocError> {
+        match self {
+            Failure::ClaimGone(claim) => push_after(out, "ClaimGone:", claim),
+            Failure::ClaimChanged(key) => push_after(out, "ClaimChanged:", key),
+            Failure::Users(claim) => push_after(out, "Users:", claim),
+            Failure::NodeGone(node) => push_after(out, "NodeGone:", node),
+            Failure::DeviceGone(device) => push_after(out, "DeviceGone:", device),
+            Failure::Shape(claim) => push_after(out, "Shape:", claim),
+            Failure::SelectorNo(device) => push_after(out, "SelectorNo:", device),
+            Failure::SelectorFault(device) => push_after(out, "SelectorFault:", device),
+            Failure::Tainted(device) => push_after(out, "Tainted:", device),
+            Failure::Held { device, claim } => {
+                push_after(out, "Held:", device)?;
+                push_after(out, ":", claim)
+            }
+            Failure::Counter(short) => short.push_to(out),
+            Failure::Constraint { claim, index } => {
+                push_after(out, "Constraint:", claim)?;
+                push_after(out, ":", index)
+            }
+        }
     }
 }

@@ -1,7 +1,8 @@
 ghost use Rattle.std.specs.Prelude.{◌≡◌, IfOk};
 ghost use Rattle.journal_text.specs.Journal.{kubelet_line};
 
-use crate::clean::cleaned;
+use crate::clean::clean_from;
+use crate::worded::{push_after, push_text};
 use std::alloc::{AllocError, Global};
 
 /// A line of what the kubelet did for a command of this number, which is of no entry: `-` in place of an index, the
@@ -11,8 +12,11 @@ use std::alloc::{AllocError, Global};
 pub fn kubelet_line(alloc: Global, job: u64, text: &str) -> Result<Vec<u8>, AllocError>
     ensures { IfOk result (λ v. v.items ≡ kubelet_line job text.now) }
 {
-    let line = format!(in alloc; "- {job} {text}")?;
-    let mut line = cleaned(alloc, line.as_bytes())?;
+    let mut line = Vec::new(alloc);
+    push_after(&mut line, "- ", &job)?;
+    push_text(&mut line, " ")?;
+    push_text(&mut line, text)?;
+    clean_from(&mut line, 0);
     line.push(b'\n')?;
     Ok(line)
 }

@@ -10,7 +10,7 @@ mod laws;
 mod totals;
 mod worded;
 
-pub use journal::{line, lines};
+pub use journal::{line, lines, push_line, push_lines};
 pub use kubelet::kubelet_line;
 pub use laws::{line_is_one_line, lines_of_more};
 pub use totals::summary;

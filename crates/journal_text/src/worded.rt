@@ -1,33 +1,101 @@
-ghost use Rattle.std.specs.Prelude.{◌≡◌, ◌++◌, OnOk, IfOk, List, ℕ, option_copied, string_bytes, codes};
+ghost use Rattle.std.specs.Prelude.{◌≡◌, ◌++◌, OnOk, IfSome, List, ℕ, option_copied, codes, decimal};
 ghost use Rattle.std.specs.List.{flat_map, join_by};
 ghost use Rattle.cluster.specs.PassedOver.{cause_or_unsat, passed_from};
-ghost use Rattle.object_fields.specs.Keys.{key_text};
+ghost use Rattle.object_fields.specs.Keys.{device_text, key_text};
 ghost use Rattle.journal_text.specs.Journal.{admin_mark, cause_text, error_word, fault_text, grant_text, listed, passed_text, result_text, status_result_text, why_word};
 
-use api_claim::{ClaimStatus, StatusResult};
+use api_claim::StatusResult;
 use cel_value::EvalError;
 use cluster::{
     Cause, DeviceResult, Grant, NodeCause, PassedNodes, SelectorFault, later_causes, next_cause,
 };
-use dra_values::Text;
-use object_fields::Key;
-use std::alloc::{AllocError, Global};
-use std::fmt::Write;
+use dra_values::{Seq, Text};
+use object_fields::{DeviceId, Key};
+use std::alloc::AllocError;
+use std::fmt::Display;
+use std::io::Write;
 
-/// An item of a list in a line.
+/// A part of a line.
 pub trait Worded {
     ghost words: { Self → List ℕ };
 
-    /// Writes it at the end of a text. `AllocError` is returned only if memory runs out.
-    fn push_to(&self, out: &mut String) -> Result<(), AllocError>
-        ensures { OnOk result (string_bytes out.new ≡ string_bytes out.old ++ words self.now) };
+    /// Writes it at the end of a line. `AllocError` is returned only if memory runs out, and then a
+    /// part of it may be written.
+    fn push_to(&self, out: &mut Vec<u8>) -> Result<(), AllocError>
+        ensures { OnOk result (out.new.items ≡ out.old.items ++ words self.now) };
 }
 
+/// Writes a text.
+pub fn push_text(out: &mut Vec<u8>, text: &str) -> Result<(), AllocError>
+    ensures { OnOk result (out.new.items ≡ out.old.items ++ text.now) }
+{
+    out.extend_from_slice(text.as_bytes())
+}
+
+/// Writes a text, and then a part.
+pub fn push_after<T: Worded>(out: &mut Vec<u8>, text: &str, part: &T) -> Result<(), AllocError>
+    ensures { OnOk result (out.new.items ≡ out.old.items ++ (text.now ++ T.words part.now)) }
+{
+    push_text(out, text)?;
+    part.push_to(out)
+}
+
+/// Writes a value as it is displayed.
+pub fn push_shown<D: Display + Drop>(out: &mut Vec<u8>, value: D) -> Result<(), AllocError>
+    ensures { OnOk result (IfSome (D.output value) (λ bs. out.new.items ≡ out.old.items ++ bs)) }
+{
+    match out.write_fmt(value) {
+        Ok(()) => Ok(()),
+        Err(_) => Err(AllocError),
+    }
+}
+
+impl Worded for Text {
+    ghost words = { λ t. t };
+
+    fn push_to(&self, out: &mut Vec<u8>) -> Result<(), AllocError> {
+        push_text(out, self.as_str())
+    }
+}
+
+impl Worded for u64 {
+    ghost words = { decimal };
+
+    fn push_to(&self, out: &mut Vec<u8>) -> Result<(), AllocError> {
+        push_shown(out, *self)
+    }
+}
+
+impl Worded for usize {
+    ghost words = { decimal };
+
+    fn push_to(&self, out: &mut Vec<u8>) -> Result<(), AllocError> {
+        push_shown(out, *self)
+    }
+}
+
+/// As `namespace/name`, and the name alone if there is no namespace.
 impl Worded for Key {
     ghost words = { key_text };
 
-    fn push_to(&self, out: &mut String) -> Result<(), AllocError> {
-        write!(out, "{self}")
+    fn push_to(&self, out: &mut Vec<u8>) -> Result<(), AllocError> {
+        let namespace = self.namespace.as_str();
+        if !namespace.is_empty() {
+            push_text(out, namespace)?;
+            push_text(out, "/")?;
+        }
+        push_text(out, self.name.as_str())
+    }
+}
+
+/// As `driver/pool/device`.
+impl Worded for DeviceId {
+    ghost words = { device_text };
+
+    fn push_to(&self, out: &mut Vec<u8>) -> Result<(), AllocError> {
+        self.driver.push_to(out)?;
+        push_after(out, "/", &self.pool)?;
+        push_after(out, "/", &self.device)
     }
 }
 
@@ -45,12 +113,12 @@ fn error_word(error: EvalError) -> &'static str
     }
 }
 
-fn why_word(why: selector_meaning::Cause) -> &'static str
+fn why_word(why: pool_view::Cause) -> &'static str
     ensures { result.now ≡ why_word why }
 {
     match why {
-        selector_meaning::Cause::Error(error) => error_word(error),
-        selector_meaning::Cause::NotBool => "NotBool",
+        pool_view::Cause::Error(error) => error_word(error),
+        pool_view::Cause::NotBool => "NotBool",
     }
 }
 
@@ -58,16 +126,13 @@ fn why_word(why: selector_meaning::Cause) -> &'static str
 impl Worded for SelectorFault {
     ghost words = { fault_text };
 
-    fn push_to(&self, out: &mut String) -> Result<(), AllocError> {
-        write!(
-            out,
-            "fault:{}:{}:{}:{}:{}",
-            self.claim,
-            self.request,
-            self.selector,
-            self.device,
-            why_word(self.cause)
-        )
+    fn push_to(&self, out: &mut Vec<u8>) -> Result<(), AllocError> {
+        push_after(out, "fault:", &self.claim)?;
+        push_after(out, ":", &self.request)?;
+        push_after(out, ":", &self.selector)?;
+        push_after(out, ":", &self.device)?;
+        push_text(out, ":")?;
+        push_text(out, why_word(self.cause))
     }
 }
 
@@ -75,12 +140,12 @@ impl Worded for SelectorFault {
 impl Worded for Cause {
     ghost words = { cause_text };
 
-    fn push_to(&self, out: &mut String) -> Result<(), AllocError> {
+    fn push_to(&self, out: &mut Vec<u8>) -> Result<(), AllocError> {
         match self {
-            Cause::Unsat => Ok(out.push_str("unsat")?),
+            Cause::Unsat => push_text(out, "unsat"),
             Cause::Fault(fault) => fault.push_to(out),
-            Cause::Budget(_) => Ok(out.push_str("budget")?),
-            Cause::Other(claim) => write!(out, "other:{claim}"),
+            Cause::Budget(_) => push_text(out, "budget"),
+            Cause::Other(claim) => push_after(out, "other:", claim),
         }
     }
 }
@@ -95,14 +160,10 @@ fn admin_mark(admin: bool) -> &'static str
 impl Worded for DeviceResult {
     ghost words = { result_text };
 
-    fn push_to(&self, out: &mut String) -> Result<(), AllocError> {
-        write!(
-            out,
-            "{}@{}{}",
-            self.name,
-            self.device,
-            admin_mark(self.admin)
-        )
+    fn push_to(&self, out: &mut Vec<u8>) -> Result<(), AllocError> {
+        self.name.push_to(out)?;
+        push_after(out, "@", &self.device)?;
+        push_text(out, admin_mark(self.admin))
     }
 }
 
@@ -110,50 +171,41 @@ impl Worded for DeviceResult {
 impl Worded for StatusResult {
     ghost words = { status_result_text };
 
-    fn push_to(&self, out: &mut String) -> Result<(), AllocError> {
-        write!(
-            out,
-            "{}@{}{}",
-            self.request,
-            self.device,
-            admin_mark(self.admin)
-        )
+    fn push_to(&self, out: &mut Vec<u8>) -> Result<(), AllocError> {
+        self.request.push_to(out)?;
+        push_after(out, "@", &self.device)?;
+        push_text(out, admin_mark(self.admin))
     }
-}
-
-/// The results of a status write, joined by `+`.
-pub fn status_results(alloc: Global, status: &ClaimStatus) -> Result<String, AllocError>
-    ensures { IfOk result (λ s. string_bytes s ≡ join_by status_result_text (codes "+") status.now.results) }
-{
-    let mut out = String::new(alloc);
-    push_joined(&mut out, "+", status.results.as_slice())?;
-    Ok(out)
 }
 
 /// As the claim, `:` and its results, joined by `+`.
 impl Worded for Grant {
     ghost words = { grant_text };
 
-    fn push_to(&self, out: &mut String) -> Result<(), AllocError> {
-        write!(out, "{}:", self.claim)?;
+    fn push_to(&self, out: &mut Vec<u8>) -> Result<(), AllocError> {
+        self.claim.push_to(out)?;
+        push_text(out, ":")?;
         push_joined(out, "+", self.results.as_slice())
     }
 }
 
 /// Writes each item after a separator.
-fn push_each<T: Worded>(out: &mut String, separator: &str, items: &[T]) -> Result<(), AllocError>
-    ensures { OnOk result (string_bytes out.new ≡ string_bytes out.old ++ flat_map (λ x. separator.now ++ T.words x) items.now) }
+fn push_each<T: Worded>(out: &mut Vec<u8>, separator: &str, items: &[T]) -> Result<(), AllocError>
+    ensures { OnOk result (out.new.items ≡ out.old.items ++ flat_map (λ x. separator.now ++ T.words x) items.now) }
 {
     for item in items {
-        out.push_str(separator)?;
-        item.push_to(out)?;
+        push_after(out, separator, item)?;
     }
     Ok(())
 }
 
 /// Writes the items with a separator between each two.
-fn push_joined<T: Worded>(out: &mut String, separator: &str, items: &[T]) -> Result<(), AllocError>
-    ensures { OnOk result (string_bytes out.new ≡ string_bytes out.old ++ join_by T.words separator.now items.now) }
+pub fn push_joined<T: Worded>(
+    out: &mut Vec<u8>,
+    separator: &str,
+    items: &[T],
+) -> Result<(), AllocError>
+    ensures { OnOk result (out.new.items ≡ out.old.items ++ join_by T.words separator.now items.now) }
 {
     match items.split_first() {
         None => Ok(()),
@@ -165,35 +217,36 @@ fn push_joined<T: Worded>(out: &mut String, separator: &str, items: &[T]) -> Res
 }
 
 /// The items joined by `,`, and `-` if there are none.
-pub fn listed<T: Worded>(alloc: Global, items: &[T]) -> Result<String, AllocError>
-    ensures { IfOk result (λ s. string_bytes s ≡ listed T.words items.now) }
-{
-    if items.is_empty() {
-        return String::from_str(alloc, "-");
+impl<T: Worded> Worded for Seq<T> {
+    ghost words = { listed T.words };
+
+    fn push_to(&self, out: &mut Vec<u8>) -> Result<(), AllocError> {
+        let items = self.as_slice();
+        if items.is_empty() {
+            return push_text(out, "-");
+        }
+        push_joined(out, ",", items)
     }
-    let mut out = String::new(alloc);
-    push_joined(&mut out, ",", items)?;
-    Ok(out)
 }
 
 /// As `node:cause`, where no cause is Unsat.
-fn push_node(out: &mut String, name: &Text, cause: Option<&Cause>) -> Result<(), AllocError>
-    ensures { OnOk result (string_bytes out.new ≡ string_bytes out.old ++ passed_text (record { node = name.now; cause = cause_or_unsat (option_copied cause.entry) })) }
+fn push_node(out: &mut Vec<u8>, name: &Text, cause: Option<&Cause>) -> Result<(), AllocError>
+    ensures { OnOk result (out.new.items ≡ out.old.items ++ passed_text (record { node = name.now; cause = cause_or_unsat (option_copied cause.entry) })) }
 {
-    write!(out, "{name}:")?;
+    name.push_to(out)?;
     match cause {
-        None => Ok(out.push_str("unsat")?),
-        Some(cause) => cause.push_to(out),
+        None => push_text(out, ":unsat"),
+        Some(cause) => push_after(out, ":", cause),
     }
 }
 
 /// Writes nodes, the first of which has the index 1, each after a comma.
-fn push_nodes(out: &mut String, names: &[Text], causes: &[NodeCause]) -> Result<(), AllocError>
-    ensures { OnOk result (string_bytes out.new ≡ string_bytes out.old ++ flat_map (λ x. codes "," ++ passed_text x) (passed_from 1 names.now causes.now)) }
+fn push_nodes(out: &mut Vec<u8>, names: &[Text], causes: &[NodeCause]) -> Result<(), AllocError>
+    ensures { OnOk result (out.new.items ≡ out.old.items ++ flat_map (λ x. codes "," ++ passed_text x) (passed_from 1 names.now causes.now)) }
 {
     let mut left = causes;
     for at in 0..names.len() {
-        out.push_str(",")?;
+        push_text(out, ",")?;
         push_node(out, &names[at], next_cause(left, at + 1))?;
         left = later_causes(left, at + 1);
     }
@@ -201,17 +254,17 @@ fn push_nodes(out: &mut String, names: &[Text], causes: &[NodeCause]) -> Result<
 }
 
 /// The nodes joined by `,`, and `-` if there are none.
-pub fn listed_nodes(alloc: Global, nodes: &PassedNodes) -> Result<String, AllocError>
-    ensures { IfOk result (λ s. string_bytes s ≡ listed passed_text nodes.now) }
-{
-    let causes = nodes.causes();
-    match nodes.names().split_first() {
-        None => String::from_str(alloc, "-"),
-        Some((first, rest)) => {
-            let mut out = String::new(alloc);
-            push_node(&mut out, first, next_cause(causes, 0))?;
-            push_nodes(&mut out, rest, later_causes(causes, 0))?;
-            Ok(out)
+impl Worded for PassedNodes {
+    ghost words = { listed passed_text };
+
+    fn push_to(&self, out: &mut Vec<u8>) -> Result<(), AllocError> {
+        let causes = self.causes();
+        match self.names().split_first() {
+            None => push_text(out, "-"),
+            Some((first, rest)) => {
+                push_node(out, first, next_cause(causes, 0))?;
+                push_nodes(out, rest, later_causes(causes, 0))
+            }
         }
     }
 }

@@ -28,7 +28,8 @@ use Rattle.cluster.specs.Held.{HeldOnce, held, held_by}
 use Rattle.cluster.specs.State.{empty_state}
 use Rattle.cluster.specs.Tables.{changed_at, put_at}
 use Rattle.cluster.specs.Wrote.{as_published, with_written, written_by}
-use Rattle.ledger_core.specs.Holding.{grant_at, left_by, lost_among, lost_at, lost_of, lost_with}
+use Rattle.allocations.specs.Lost.{grant_at, lost_among, lost_at, lost_of, lost_with}
+use Rattle.ledger_core.specs.Holding.{left_by}
 use Rattle.ledger_core.proofs.Giving.{left_is}
 use Rattle.ledger_core.proofs.Once.{Once, Pairs, among_others, is_among, looked, looked_out, once_held, once_without, with_key}
 use Rattle.ledger_core.proofs.Opening.{Away, KeysDiffer, firsts_differ}

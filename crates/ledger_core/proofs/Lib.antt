@@ -9,5 +9,7 @@ pub mod Giving
 pub mod Freeing
 pub mod Unsliced
 pub mod Keeping
+pub mod Remembering
 pub mod Taking
 pub mod Reserving
+pub mod Passing

@@ -1,6 +1,6 @@
 //! The claims that hold devices, changed with each kind of entry.
 
-ghost use Rattle.std.specs.Prelude.{◌≡◌, ◌++◌, [], None, IfOk, OnOk, OnErr, map};
+ghost use Rattle.std.specs.Prelude.{◌≡◌, ◌++◌, [], None, true, false, IfOk, OnOk, OnErr, map};
 ghost use Rattle.object_fields.specs.declared.key.DeviceId.{DeviceId};
 ghost use Rattle.pool_view.specs.Names.{at_key};
 ghost use Rattle.counter_sets.specs.Holding.{holder_in};
@@ -11,17 +11,22 @@ ghost use Rattle.cluster.specs.Reserved.{with_reserved};
 ghost use Rattle.cluster.specs.declared.object.Target.TheVariants as targets;
 ghost use Rattle.request_rules.specs.Lists.{add_some};
 ghost use Rattle.pool_totals.specs.Counting.{AreCounted};
-ghost use Rattle.ledger_core.specs.Holding.{given_each, given_one, given_to, grant_at, left_by, left_each, left_of, left_one, lost_among, lost_at, lost_by, lost_of, lost_with};
+ghost use Rattle.allocations.specs.Lost.{grant_at, lost_among, lost_at, lost_by, lost_of, lost_with};
+ghost use Rattle.histories.specs.Growth.{names_searched};
+ghost use Rattle.ledger_core.specs.Holding.{given_each, given_one, given_to, left_by, left_each, left_of, left_one};
+ghost use Rattle.ledger_core.specs.Remembered.{AreSet, HaveRows, IsSame, pools_lost};
 
 use crate::counting;
+use crate::dating::{make_rows, pools_held, pools_lost, set_freed};
 use allocations::keys_of_pod;
 use api_claim::{ClaimStatus, StatusResult};
 use cluster::{ClaimState, DeviceResult, Grant, Granted, Plan, State, Target};
 use counter_sets::{Held, Totals};
 use dra_values::{Duplicate, Seq, Shared, Table};
+use node_memo::Dates;
 use object_fields::Key;
 use pool_totals::hold;
-use pool_view::Pools;
+use pool_view::{PoolName, Pools};
 use std::alloc::{AllocError, Global};
 
 /// Gives a claim the device of a result, unless the result has admin access.
@@ -299,19 +304,25 @@ fn free_held(
     pools: &Pools,
     holders: &mut Held,
     totals: &mut Totals,
+    dates: &mut Dates,
     index: u64,
     pod: &Key,
 ) -> Result<(), AllocError>
     requires counted { AreCounted pools.now holders.old totals.old }
     ensures ok { OnOk result (state.new ≡ without_uses index pod.now state.old) }
     ensures left { OnOk result ((id : DeviceId) → holder_in holders.new id ≡ left_by (lost_with state.old pod.now) id (holder_in holders.old id)) }
+    ensures dated { OnOk result (AreSet false (lost_with state.old pod.now) index dates.old dates.new) }
     ensures err { OnErr result (state.new ≡ state.old) }
     ensures same { OnErr result (holders.new ≡ holders.old) }
+    ensures undated { OnErr result (IsSame dates.old dates.new) }
     ensures counted { AreCounted pools.now holders.new totals.new }
 {
     let lost = lost_with(alloc, state, pod)?;
+    let freed = pools_lost(alloc, &lost)?;
+    make_rows(alloc, dates, &freed)?;
     state.free(alloc, index, pod)?;
     leave_lost(pools, holders, totals, &lost);
+    set_freed(dates, &freed, index);
     Ok(())
 }
 
@@ -322,6 +333,7 @@ pub fn free(
     state: &mut State,
     holders: &mut Shared<Held>,
     totals: &mut Shared<Totals>,
+    dates: &mut Dates,
     index: u64,
     pod: &Key,
 ) -> Result<Key, AllocError>
@@ -329,8 +341,10 @@ pub fn free(
     ensures kept { IfOk result (λ kept. kept ≡ pod.now) }
     ensures ok { OnOk result (state.new ≡ without_uses index pod.now state.old) }
     ensures left { OnOk result ((id : DeviceId) → holder_in holders.new id ≡ left_by (lost_with state.old pod.now) id (holder_in holders.old id)) }
+    ensures dated { OnOk result (AreSet false (lost_with state.old pod.now) index dates.old dates.new) }
     ensures err { OnErr result (state.new ≡ state.old) }
     ensures same { OnErr result (holders.new ≡ holders.old) }
+    ensures undated { OnErr result (IsSame dates.old dates.new) }
     ensures counted { AreCounted state.old.inventory holders.new totals.new }
 {
     let kept = pod.copy(alloc)?;
@@ -339,7 +353,7 @@ pub fn free(
     let pools = Pools::of(alloc, &inventory)?;
     let holders = holders.change(alloc)?;
     let totals = totals.change(alloc)?;
-    free_held(alloc, state, &pools, holders, totals, index, pod)?;
+    free_held(alloc, state, &pools, holders, totals, dates, index, pod)?;
     Ok(kept)
 }
 
@@ -415,16 +429,17 @@ fn remove_claim(
     totals: &mut Shared<Totals>,
     target: &Target,
     key: &Key,
+    grant: &Option<Shared<Granted>>,
 ) -> Result<(), AllocError>
     requires target { target.now ≡ targets.Claim key.now }
     requires counted { AreCounted state.old.inventory holders.old totals.old }
     ensures ok { OnOk result (state.new ≡ without_object target.now state.old) }
-    ensures left { OnOk result ((id : DeviceId) → holder_in holders.new id ≡ left_by (add_some (lost_of state.old target.now) []) id (holder_in holders.old id)) }
+    ensures left { OnOk result ((id : DeviceId) → holder_in holders.new id ≡ left_by (add_some grant.now []) id (holder_in holders.old id)) }
     ensures err { OnErr result (state.new ≡ state.old) }
     ensures same { OnErr result (holders.new ≡ holders.old) }
     ensures counted { AreCounted state.new.inventory holders.new totals.new }
 {
-    match grant_at(alloc, &state.claims, key)? {
+    match grant {
         None => counting::remove(alloc, state, holders.value(), totals, target),
         Some(grant) => {
             let results = grant.results.as_slice();
@@ -433,47 +448,122 @@ fn remove_claim(
     }
 }
 
+/// The pools of the devices that a grant holds, if there is one.
+fn pools_of_grant(
+    alloc: Global,
+    grant: &Option<Shared<Granted>>,
+) -> Result<Vec<PoolName>, AllocError>
+    ensures { IfOk result (λ pools. pools.items ≡ pools_lost (add_some grant.now [])) }
+{
+    match grant {
+        None => Ok(Vec::new(alloc)),
+        Some(grant) => pools_held(alloc, grant.results.as_slice()),
+    }
+}
+
+/// Takes away a claim by the entry at this index.
+fn remove_dated(
+    alloc: Global,
+    state: &mut State,
+    holders: &mut Shared<Held>,
+    totals: &mut Shared<Totals>,
+    dates: &mut Dates,
+    index: u64,
+    target: &Target,
+    key: &Key,
+) -> Result<(), AllocError>
+    requires target { target.now ≡ targets.Claim key.now }
+    requires counted { AreCounted state.old.inventory holders.old totals.old }
+    ensures ok { OnOk result (state.new ≡ without_object target.now state.old) }
+    ensures left { OnOk result ((id : DeviceId) → holder_in holders.new id ≡ left_by (add_some (lost_of state.old target.now) []) id (holder_in holders.old id)) }
+    ensures dated { OnOk result (AreSet false (add_some (lost_of state.old target.now) []) index dates.old dates.new) }
+    ensures err { OnErr result (state.new ≡ state.old) }
+    ensures same { OnErr result (holders.new ≡ holders.old) }
+    ensures undated { OnErr result (IsSame dates.old dates.new) }
+    ensures counted { AreCounted state.new.inventory holders.new totals.new }
+{
+    let grant = grant_at(alloc, &state.claims, key)?;
+    let freed = pools_of_grant(alloc, &grant)?;
+    make_rows(alloc, dates, &freed)?;
+    remove_claim(alloc, state, holders, totals, target, key, &grant)?;
+    set_freed(dates, &freed, index);
+    Ok(())
+}
+
+/// Takes away a node, a slice or a class by the entry at this index.
+fn remove_searched(
+    alloc: Global,
+    state: &mut State,
+    holders: &Held,
+    totals: &mut Shared<Totals>,
+    dates: &mut Dates,
+    index: u64,
+    target: &Target,
+) -> Result<(), AllocError>
+    requires counted { AreCounted state.old.inventory holders.now totals.old }
+    ensures ok { OnOk result (state.new ≡ without_object target.now state.old) }
+    ensures dated { OnOk result (AreSet true [] index dates.old dates.new) }
+    ensures err { OnErr result (state.new ≡ state.old) }
+    ensures undated { OnErr result (IsSame dates.old dates.new) }
+    ensures counted { AreCounted state.new.inventory holders.now totals.new }
+{
+    counting::remove(alloc, state, holders, totals, target)?;
+    dates.set_objects(index);
+    Ok(())
+}
+
 fn remove_by(
     alloc: Global,
     state: &mut State,
     holders: &mut Shared<Held>,
     totals: &mut Shared<Totals>,
+    dates: &mut Dates,
+    index: u64,
     target: &Target,
 ) -> Result<(), AllocError>
     requires counted { AreCounted state.old.inventory holders.old totals.old }
     ensures ok { OnOk result (state.new ≡ without_object target.now state.old) }
     ensures left { OnOk result ((id : DeviceId) → holder_in holders.new id ≡ left_by (add_some (lost_of state.old target.now) []) id (holder_in holders.old id)) }
+    ensures dated { OnOk result (AreSet (names_searched target.now) (add_some (lost_of state.old target.now) []) index dates.old dates.new) }
     ensures err { OnErr result (state.new ≡ state.old) }
     ensures same { OnErr result (holders.new ≡ holders.old) }
+    ensures undated { OnErr result (IsSame dates.old dates.new) }
     ensures counted { AreCounted state.new.inventory holders.new totals.new }
 {
     match target {
-        Target::Claim(key) => remove_claim(alloc, state, holders, totals, target, key),
-        Target::Node(_) | Target::Slice(_) | Target::Class(_) | Target::Pod(_) => {
-            counting::remove(alloc, state, holders.value(), totals, target)
+        Target::Claim(key) => {
+            remove_dated(alloc, state, holders, totals, dates, index, target, key)
+        }
+        Target::Pod(_) => counting::remove(alloc, state, holders.value(), totals, target),
+        Target::Node(_) | Target::Slice(_) | Target::Class(_) => {
+            remove_searched(alloc, state, holders.value(), totals, dates, index, target)
         }
     }
 }
 
-/// Takes an object away, and returns its kind and name again. `AllocError` is returned only if memory runs
-/// out, and then the state is as it was, and each device is held as it was.
+/// Takes an object away by the entry at this index, and returns its kind and name again. `AllocError` is
+/// returned only if memory runs out, and then the state is as it was, and each device is held as it was.
 pub fn remove(
     alloc: Global,
     state: &mut State,
     holders: &mut Shared<Held>,
     totals: &mut Shared<Totals>,
+    dates: &mut Dates,
+    index: u64,
     target: &Target,
 ) -> Result<Target, AllocError>
     requires counted { AreCounted state.old.inventory holders.old totals.old }
     ensures kept { IfOk result (λ kept. kept ≡ target.now) }
     ensures ok { OnOk result (state.new ≡ without_object target.now state.old) }
     ensures left { OnOk result ((id : DeviceId) → holder_in holders.new id ≡ left_by (add_some (lost_of state.old target.now) []) id (holder_in holders.old id)) }
+    ensures dated { OnOk result (AreSet (names_searched target.now) (add_some (lost_of state.old target.now) []) index dates.old dates.new) }
     ensures err { OnErr result (state.new ≡ state.old) }
     ensures same { OnErr result (holders.new ≡ holders.old) }
+    ensures undated { OnErr result (IsSame dates.old dates.new) }
     ensures counted { AreCounted state.new.inventory holders.new totals.new }
 {
     let kept = target.copy(alloc)?;
-    remove_by(alloc, state, holders, totals, target)?;
+    remove_by(alloc, state, holders, totals, dates, index, target)?;
     Ok(kept)
 }
 

@@ -25,7 +25,10 @@ ghost use Rattle.histories.specs.Conflict.{IsNextUse, MayConflict, assumed_by, s
 ghost use Rattle.histories.specs.Deleted.{MayDelete, deletion};
 ghost use Rattle.histories.specs.Denied.{MayDeny};
 ghost use Rattle.histories.specs.VerdictGiven.{MayJudge};
+ghost use Rattle.histories.specs.Growth.{AreDatesOf, is_searched};
+ghost use Rattle.plan_rules.specs.Failing.{failing};
 ghost use Rattle.ledger_core.specs.Ledger.{appended, at, job_state_in};
+ghost use Rattle.ledger_core.specs.Remembered.{AreSet, IsSame, IsTrueOf};
 ghost use Rattle.histories.specs.Legal.{Legal};
 ghost use Rattle.histories.specs.Refused.{MayRefuse};
 ghost use Rattle.histories.specs.Released.{MayRelease, release_of};
@@ -35,7 +38,9 @@ ghost use Rattle.histories.specs.Wrote.{MayWrite};
 
 use crate::LedgerError;
 use crate::counting::{new_totals, put};
+use crate::dating::{is_searched, make_slice_row, memory_goes_on, set_objects};
 use crate::holding::{adopt, free, remove, reserve};
+use crate::plans::true_plans_pass;
 use crate::room::{JobStates, append, failures, job_state_in, make_room};
 use crate::snapshot::Snapshot;
 use alloc_rules::{check, check_status};
@@ -49,11 +54,13 @@ use dra_values::{Shared, Table, Text};
 use full_nodes::learn_full_slices;
 use histories::{one_holder, uids_keep_claims};
 use node_inputs::wanted_in;
+use node_memo::{Dates, Memo};
 use object_fields::{DeviceId, FieldError, FieldErrorKind, Key};
 use plan_rules::{checked_is_allocation, checked_is_known};
 use pool_totals::kept_totals_are_drawn;
 use std::alloc::{AllocError, Global};
 use std::marker::Model;
+use std::mem;
 
 /// An entry that was appended.
 #[derive(Clone, Copy, Debug, PartialEq, Eq, Drop)]
@@ -82,16 +89,22 @@ pub struct Ledger {
     totals: Shared<Totals>,
     job_states: JobStates,
     limit: u64,
+    dates: Dates,
+    memo: Memo,
+    /// Whether what is remembered of nodes was put back since the last snapshot: whoever decides by it has no use for
+    /// what the inventory finds out about full slices.
+    is_by_memo: bool,
 }
 
 impl Model for Ledger {
     ghost use Rattle.ledger_core.specs.Ledger.{History, IsKept};
+    ghost use Rattle.ledger_core.specs.Remembered.{Remembers};
 
     ghost Value = { History };
 
     ghost view = { λ l. record { entries = l.entries.items; limit = l.limit } };
 
-    ghost invariant = { λ l. IsKept l.entries.items l.state l.holders l.totals l.job_states l.limit };
+    ghost invariant = { λ l. IsKept l.entries.items l.state l.holders l.totals l.job_states l.limit × Remembers l.entries.items l.dates l.memo };
 }
 
 impl Ledger {
@@ -100,6 +113,7 @@ impl Ledger {
         requires { limit < 2 ^ 48 }
         ensures { IfOk result (λ ledger. ledger ≡ record { entries = []; limit = limit }) }
     {
+        memory_goes_on();
         let state = State::new(alloc)?;
         let holders = no_holders(alloc)?;
         let totals = new_totals(alloc, &state, &holders)?;
@@ -110,6 +124,9 @@ impl Ledger {
             totals,
             job_states: Table::new(alloc),
             limit,
+            dates: Dates::new(alloc),
+            memo: Memo::new(alloc),
+            is_by_memo: false,
         })
     }
 
@@ -157,6 +174,32 @@ impl Ledger {
     {
         kept_totals_are_drawn();
         &self.totals
+    }
+
+    /// When nodes, slices and classes changed last, and when devices of each pool may have been freed last, by the
+    /// indexes of entries. Allocates nothing.
+    pub fn dates(&self) -> &Dates
+        ensures { AreDatesOf self.now.entries result.now }
+    {
+        &self.dates
+    }
+
+    /// Takes out what is remembered of nodes that have no allocation. It is true of the present state by its dates, and
+    /// the ledger remembers nothing until it is put back. Allocates nothing.
+    pub fn take_memo(&mut self, alloc: Global) -> Memo
+        ensures same { self.new ≡ self.old }
+        ensures known { IsTrueOf self.old.entries result }
+    {
+        mem::replace(&mut self.memo, Memo::new(alloc))
+    }
+
+    /// Remembers of nodes what is true of the present state, in place of what was remembered. Allocates nothing.
+    pub fn put_memo(&mut self, memo: Memo)
+        requires { IsTrueOf self.old.entries memo }
+        ensures { self.new ≡ self.old }
+    {
+        self.memo = memo;
+        self.is_by_memo = true;
     }
 
     /// The entry at an index, from 1.
@@ -269,7 +312,9 @@ impl Ledger {
                     &self.totals,
                     pod,
                     at,
+                    !self.is_by_memo,
                 )?;
+                self.is_by_memo = false;
                 Ok(Start::Seen(snapshot))
             }
             Some(refusal) => {
@@ -283,8 +328,9 @@ impl Ledger {
     /// Makes the grants of a plan that was true at its index, if the plan doesn't fail now, and takes the pod
     /// for the job. If the pod can't be scheduled any more, the entry is a denial, and if the plan fails
     /// against the present state (`alloc_rules::check`), it is a refusal that carries the first failure; then
-    /// the state stays as it was. `Full` is returned if the history has its limit of entries, and `Memory` only if
-    /// memory runs out; then nothing changed.
+    /// the state stays as it was. A plan of the present index can't fail, and isn't looked at. `Full` is
+    /// returned if the history has its limit of entries, and `Memory` only if memory runs out; then nothing
+    /// changed.
     pub fn reserve(
         &mut self,
         alloc: Global,
@@ -350,12 +396,14 @@ impl Ledger {
         ensures err { OnErr result (self.new ≡ self.old) }
     {
         one_holder();
+        memory_goes_on();
         let index = make_room(&mut self.entries, &mut self.job_states, self.limit, job)?;
         let pod = free(
             alloc,
             &mut self.state,
             &mut self.holders,
             &mut self.totals,
+            &mut self.dates,
             index,
             pod,
         )?;
@@ -378,6 +426,7 @@ impl Ledger {
         ensures full { (n : ℕ) → IsErrOf result (LedgerError.Full n) → (length self.old.entries ≡ n) × (self.old.limit ≤ n) }
         ensures err { OnErr result (self.new ≡ self.old) }
     {
+        memory_goes_on();
         let index = make_room(&mut self.entries, &mut self.job_states, self.limit, job)?;
         let (pod, node) = bind(alloc, &mut self.state, pod)?;
         let event = Event::Bound { pod, node };
@@ -405,6 +454,7 @@ impl Ledger {
         ensures full { (n : ℕ) → IsErrOf result (LedgerError.Full n) → (length self.old.entries ≡ n) × (self.old.limit ≤ n) }
         ensures err { OnErr result (self.new ≡ self.old) }
     {
+        memory_goes_on();
         let index = make_room(&mut self.entries, &mut self.job_states, self.limit, job)?;
         let (pod, verdict) = kept(alloc, pod, verdict)?;
         let event = Event::VerdictGiven { pod, verdict };
@@ -431,6 +481,7 @@ impl Ledger {
         ensures err { OnErr result (self.new ≡ self.old) }
     {
         let attempts = failures(self.job_state(job));
+        memory_goes_on();
         let index = make_room(&mut self.entries, &mut self.job_states, self.limit, job)?;
         let pod = pod.copy(alloc)?;
         let event = Event::Contended { pod, attempts };
@@ -511,6 +562,7 @@ impl Ledger {
         ensures full { (n : ℕ) → IsErrOf result (LedgerError.Full n) → (length self.old.entries ≡ n) × (self.old.limit ≤ n) }
         ensures err { OnErr result (self.new ≡ self.old) }
     {
+        memory_goes_on();
         let ReadyParts { object, kept } = ready.into_parts();
         let index = put_object(
             alloc,
@@ -519,6 +571,7 @@ impl Ledger {
             &mut self.state,
             &self.holders,
             &mut self.totals,
+            &mut self.dates,
             self.limit,
             job,
             kept,
@@ -543,12 +596,15 @@ impl Ledger {
         ensures err { OnErr result (self.new ≡ self.old) }
     {
         one_holder();
+        memory_goes_on();
         let index = make_room(&mut self.entries, &mut self.job_states, self.limit, job)?;
         let target = remove(
             alloc,
             &mut self.state,
             &mut self.holders,
             &mut self.totals,
+            &mut self.dates,
+            index,
             target,
         )?;
         let event = Event::Deleted(target);
@@ -570,6 +626,7 @@ impl Ledger {
         ensures full { (n : ℕ) → IsErrOf result (LedgerError.Full n) → (length self.old.entries ≡ n) × (self.old.limit ≤ n) }
         ensures err { OnErr result (self.new ≡ self.old) }
     {
+        memory_goes_on();
         let index = make_room(&mut self.entries, &mut self.job_states, self.limit, job)?;
         let event = Event::Denied { command, refusal };
         append(&mut self.entries, &mut self.job_states, job, event);
@@ -600,10 +657,24 @@ impl Ledger {
         checked_is_known();
         checked_is_allocation();
         uids_keep_claims();
-        match check(alloc, &self.state, &self.holders, &self.totals, pod, plan)? {
+        match self.failure(alloc, pod, plan)? {
             None => self.take(alloc, job, pod, plan),
             Some(why) => self.refuse_plan(alloc, job, pod, plan, why),
         }
+    }
+
+    /// The first failure of a plan, which was true at its index, against the present state. If nothing was appended
+    /// since, it has none, and nothing is looked at.
+    fn failure(&self, alloc: Global, pod: &Key, plan: &Plan) -> Result<Option<Failure>, AllocError>
+        requires { IsPlanned self.now.entries pod.now plan.now }
+        ensures first { IfOk result (λ found. found ≡ failing (state_of self.now.entries) pod.now plan.now) }
+        ensures legal { Legal self.now.entries }
+    {
+        true_plans_pass();
+        if plan.at == self.len() {
+            return Ok(None);
+        }
+        check(alloc, &self.state, &self.holders, &self.totals, pod, plan)
     }
 
     /// Records why a plan fails.
@@ -624,6 +695,7 @@ impl Ledger {
         ensures full { (n : ℕ) → IsErrOf result (LedgerError.Full n) → (length self.old.entries ≡ n) × (self.old.limit ≤ n) }
         ensures err { OnErr result (self.new ≡ self.old) }
     {
+        memory_goes_on();
         let index = make_room(&mut self.entries, &mut self.job_states, self.limit, job)?;
         let (pod, plan) = copies(alloc, pod, plan)?;
         let why = Shared::new(alloc, why)?;
@@ -647,6 +719,7 @@ impl Ledger {
         ensures err { OnErr result (self.new ≡ self.old) }
     {
         one_holder();
+        memory_goes_on();
         let index = make_room(&mut self.entries, &mut self.job_states, self.limit, job)?;
         let (pod, plan) = reserve(
             alloc,
@@ -682,6 +755,7 @@ impl Ledger {
         ensures full { (n : ℕ) → IsErrOf result (LedgerError.Full n) → (length self.old.entries ≡ n) × (self.old.limit ≤ n) }
         ensures err { OnErr result (self.new ≡ self.old) }
     {
+        memory_goes_on();
         let index = make_room(&mut self.entries, &mut self.job_states, self.limit, job)?;
         let kept_pod = pod.copy(alloc)?;
         let kept_claim = claim.copy(alloc)?;
@@ -718,6 +792,7 @@ impl Ledger {
         ensures full { (n : ℕ) → IsErrOf result (LedgerError.Full n) → (length self.old.entries ≡ n) × (self.old.limit ≤ n) }
         ensures err { OnErr result (self.new ≡ self.old) }
     {
+        memory_goes_on();
         let index = make_room(&mut self.entries, &mut self.job_states, self.limit, job)?;
         let pod = pod.copy(alloc)?;
         let claim = claim.copy(alloc)?;
@@ -746,12 +821,14 @@ impl Ledger {
         ensures err { OnErr result (self.new ≡ self.old) }
     {
         one_holder();
+        memory_goes_on();
         let index = make_room(&mut self.entries, &mut self.job_states, self.limit, job)?;
         let pod = free(
             alloc,
             &mut self.state,
             &mut self.holders,
             &mut self.totals,
+            &mut self.dates,
             index,
             pod,
         )?;
@@ -818,6 +895,7 @@ impl Ledger {
         ensures err { OnErr result (self.new ≡ self.old) }
     {
         one_holder();
+        memory_goes_on();
         let index = make_room(&mut self.entries, &mut self.job_states, self.limit, job)?;
         let claim = adopt(
             alloc,
@@ -844,7 +922,7 @@ fn no_holders(alloc: Global) -> Result<Shared<Held>, AllocError>
     Shared::new(alloc, Held::new(alloc))
 }
 
-/// Allocates all memory for an entry, and puts its object.
+/// Allocates all memory for an entry, puts its object, and sets the date of nodes, slices and classes if it is one.
 fn put_object(
     alloc: Global,
     entries: &mut Vec<Entry>,
@@ -852,6 +930,7 @@ fn put_object(
     state: &mut State,
     holders: &Held,
     totals: &mut Shared<Totals>,
+    dates: &mut Dates,
     limit: u64,
     job: u64,
     kept: Kept,
@@ -866,12 +945,17 @@ fn put_object(
     ensures within { OnOk result (length entries.old.items < limit) }
     ensures index { IfOk result (λ index. index ≡ length entries.old.items + 1) }
     ensures ok { OnOk result (state.new ≡ with_object (length entries.old.items + 1) (object_of kept) state.old) }
+    ensures dated { OnOk result (AreSet (is_searched (object_of kept)) [] (length entries.old.items + 1) dates.old dates.new) }
     ensures full { (n : ℕ) → IsErrOf result (LedgerError.Full n) → (length entries.old.items ≡ n) × (limit ≤ n) }
     ensures err { OnErr result (state.new ≡ state.old) }
+    ensures undated { OnErr result (IsSame dates.old dates.new) }
     ensures counted { AreCounted state.new.inventory holders.now totals.new }
 {
     let index = make_room(entries, job_states, limit, job)?;
+    make_slice_row(alloc, dates, &kept)?;
+    let changes = is_searched(&kept);
     put(alloc, state, holders, totals, index, kept)?;
+    set_objects(dates, changes, index);
     Ok(index)
 }
 
@@ -949,8 +1033,8 @@ fn bind(alloc: Global, state: &mut State, pod: &Key) -> Result<(Key, Text), Allo
     Ok((kept, kept_node))
 }
 
-/// A snapshot of the state for the searches of a pod: its slices are sorted, and the inventory has found out about
-/// those whose devices are all held what `learn_full_slices` says.
+/// A snapshot of the state for the searches of a pod: its slices are sorted, and if it is to learn, the inventory has
+/// found out about those whose devices are all held what `learn_full_slices` says.
 fn take_snapshot(
     alloc: Global,
     state: &mut State,
@@ -958,6 +1042,7 @@ fn take_snapshot(
     totals: &Shared<Totals>,
     pod: &Key,
     at: u64,
+    learns: bool,
 ) -> Result<Snapshot, AllocError>
     requires holders { AreHeld holders.now (held state.old) }
     requires totals { AreCounted state.old.inventory holders.now totals.now }
@@ -965,17 +1050,27 @@ fn take_snapshot(
     ensures seen { IfOk result (λ snapshot. snapshot ≡ record { at = at; state = state.old }) }
 {
     state.sort(alloc)?;
-    learn(alloc, state, holders, pod)?;
+    learn(alloc, state, holders, pod, learns)?;
     let state = state.share()?;
     let holders = holders.share()?;
     let totals = totals.share()?;
     Ok(Snapshot::of(at, state, holders, totals))
 }
 
-/// Lets the inventory find out about slices for the searches of a pod, if it exists. The state stays the same.
-fn learn(alloc: Global, state: &mut State, holders: &Held, pod: &Key) -> Result<(), AllocError>
+/// Lets the inventory find out about slices for the searches of a pod, if it exists and the inventory is to learn. The
+/// state stays the same.
+fn learn(
+    alloc: Global,
+    state: &mut State,
+    holders: &Held,
+    pod: &Key,
+    learns: bool,
+) -> Result<(), AllocError>
     ensures { state.new ≡ state.old }
 {
+    if !learns {
+        return Ok(());
+    }
     match state.pods.get(pod) {
         None => Ok(()),
         Some(stored) => {

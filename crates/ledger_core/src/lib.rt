@@ -2,9 +2,11 @@
 #![tactic(auto)]
 
 mod counting;
+mod dating;
 mod error;
 mod holding;
 mod ledger;
+mod plans;
 mod recorded;
 mod room;
 mod snapshot;

@@ -1,3 +1,3 @@
-mod Gaps
+mod Imaged
 mod Past
 mod Pushed

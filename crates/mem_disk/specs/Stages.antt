@@ -3,18 +3,11 @@ use Rattle.std.specs.Prelude.{◌≡◌, ℕ, ◌+◌, ◌-◌, min, List, [], �
 use Rattle.dra_ports.specs.DiskContent.{Sure, blurred, exactly, shorter, spliced}
 use Rattle.mem_disk.specs.declared.change.Change.{Change}
 use Rattle.mem_disk.specs.declared.change.Change.TheVariants.{Write, Cut, Sync}
-use Rattle.mem_disk.specs.declared.moment.Moment.{Moment}
-
-abbrev pub sure_of : Moment → Sure
-sure_of m = record { places = m.places.items; longer = m.longer }
 
 -- what a disk holds at a moment, and what is sure then
 pub record Stage : Type 0 where
   pub bytes : List ℕ
   pub sure : Sure
-
-abbrev pub stage_of : Moment → Stage
-stage_of m = record { bytes = m.bytes.items; sure = sure_of m }
 
 abbrev pub begun : List ℕ → Stage
 begun bytes = record { bytes = bytes; sure = exactly bytes }
@@ -42,6 +35,23 @@ stage_after s (c ∷ cs) = stage_after (after c s) cs
 unfoldable pub sures_from : Stage → List Change → List Sure
 sures_from s [] = []
 sures_from s (c ∷ cs) = s.sure ∷ sures_from (after c s) cs
+
+-- what a read returns after a change
+abbrev pub changed : Change → List ℕ → List ℕ
+changed (Write at from) bytes = spliced at from.items bytes
+changed (Cut len) bytes = take len bytes
+changed Sync bytes = bytes
+
+-- what a read returns after these changes
+unfoldable pub bytes_from : List ℕ → List Change → List ℕ
+bytes_from bytes [] = bytes
+bytes_from bytes (c ∷ cs) = bytes_from (changed c bytes) cs
+
+-- the change is no sync
+abbrev pub IsUnsynced : Change → Type 0
+IsUnsynced (Write at from) = Unit {0}
+IsUnsynced (Cut len) = Unit {0}
+IsUnsynced Sync = ⊥
 
 -- the present stage, and what was sure at each earlier moment, the first of them first
 pub record Past : Type 0 where

@@ -151,7 +151,7 @@ impl Disk for MemDisk {
         if self.failures.next_fails() {
             return Err(PortError::Failed);
         }
-        let made = self.history.cut(self.alloc, len as usize);
+        let made = self.history.cut(len as usize);
         self.changed(made)
     }
 
@@ -166,7 +166,7 @@ impl Disk for MemDisk {
         if self.failures.next_fails() {
             return Err(PortError::Failed);
         }
-        let made = self.history.sync(self.alloc);
+        let made = self.history.sync();
         self.changed(made)
     }
 }

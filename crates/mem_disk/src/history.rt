@@ -3,27 +3,30 @@ ghost use Rattle.dra_ports.specs.DiskContent.{IsImage};
 ghost use Rattle.mem_disk.specs.Stages.{after_cut, after_sync, after_write, begun, gone_on, now_of};
 
 use crate::change::Change;
-use crate::moment::Moment;
+use crate::image::image_after;
 use std::alloc::{AllocError, Global};
 use std::marker::Model;
 
-/// What a disk holds, and what changed it from moment to moment, so that each earlier one can be made again.
+/// What a disk holds, and what changed it from moment to moment, so that what a crash may leave at each of them can be
+/// found again. A change costs what it writes.
 #[derive(Drop)]
 pub struct History {
+    /// What the disk held at first, all of it sure.
     first: Vec<u8>,
     changes: Vec<Change>,
-    present: Moment,
+    /// What a read returns.
+    bytes: Vec<u8>,
 }
 
 impl Model for History {
     ghost use Rattle.std.specs.Prelude.{◌≡◌};
-    ghost use Rattle.mem_disk.specs.Stages.{Past, begun, stage_after, stage_of, sures_from};
+    ghost use Rattle.mem_disk.specs.Stages.{Past, begun, stage_after, sures_from};
 
     ghost Value = { Past };
 
-    ghost view = { λ h. record { stage = stage_of h.present; earlier = sures_from (begun h.first.items) h.changes.items } };
+    ghost view = { λ h. record { stage = stage_after (begun h.first.items) h.changes.items; earlier = sures_from (begun h.first.items) h.changes.items } };
 
-    ghost invariant = { λ h. stage_of h.present ≡ stage_after (begun h.first.items) h.changes.items };
+    ghost invariant = { λ h. h.bytes.items ≡ (stage_after (begun h.first.items) h.changes.items).bytes };
 }
 
 impl History {
@@ -32,12 +35,11 @@ impl History {
     pub fn new(alloc: Global, bytes: Vec<u8>) -> Result<History, AllocError>
         ensures { IfOk result (λ h. h ≡ record { stage = begun bytes.items; earlier = [] }) }
     {
-        let first = bytes.to_vec(alloc)?;
-        let present = Moment::synced(alloc, bytes)?;
+        let first = Vec::from_slice(alloc, &bytes)?;
         Ok(History {
             first,
             changes: Vec::new(alloc),
-            present,
+            bytes,
         })
     }
 
@@ -45,7 +47,7 @@ impl History {
     pub fn bytes(&self) -> &[u8]
         ensures { result.now ≡ self.now.stage.bytes }
     {
-        &self.present.bytes
+        &self.bytes
     }
 
     /// How many moments there were, the present one among them.
@@ -57,13 +59,13 @@ impl History {
     }
 
     /// Goes on to the moment after a change, or leaves all as it is if it is out of memory.
-    #[tactic(auto, using(crate::proofs::Past::stage_more, crate::proofs::Past::sures_more))]
-    fn go_on(&mut self, alloc: Global, change: Change) -> Result<(), AllocError>
+    #[tactic(auto, using(crate::proofs::Past::stage_more, crate::proofs::Past::sures_more, crate::proofs::Past::bytes_after))]
+    fn go_on(&mut self, change: Change) -> Result<(), AllocError>
         ensures ok { OnOk result (self.new ≡ gone_on change self.old) }
         ensures err { OnErr result (self.new ≡ self.old) }
     {
         self.changes.reserve(1)?;
-        self.present.change(alloc, &change)?;
+        change.apply(&mut self.bytes)?;
         self.changes.push_reserved(change);
         Ok(())
     }
@@ -73,24 +75,24 @@ impl History {
         ensures ok { OnOk result (self.new ≡ now_of (after_write at from.now self.old.stage) self.old) }
         ensures err { OnErr result (self.new ≡ self.old) }
     {
-        let bytes = from.to_vec(alloc)?;
-        self.go_on(alloc, Change::Write(at, bytes))
+        let bytes = Vec::from_slice(alloc, from)?;
+        self.go_on(Change::Write(at, bytes))
     }
 
     /// Cuts the bytes to the length `len`, if they are longer.
-    pub fn cut(&mut self, alloc: Global, len: usize) -> Result<(), AllocError>
+    pub fn cut(&mut self, len: usize) -> Result<(), AllocError>
         ensures ok { OnOk result (self.new ≡ now_of (after_cut len self.old.stage) self.old) }
         ensures err { OnErr result (self.new ≡ self.old) }
     {
-        self.go_on(alloc, Change::Cut(len))
+        self.go_on(Change::Cut(len))
     }
 
     /// Makes all bytes sure.
-    pub fn sync(&mut self, alloc: Global) -> Result<(), AllocError>
+    pub fn sync(&mut self) -> Result<(), AllocError>
         ensures ok { OnOk result (self.new ≡ now_of (after_sync self.old.stage) self.old) }
         ensures err { OnErr result (self.new ≡ self.old) }
     {
-        self.go_on(alloc, Change::Sync)
+        self.go_on(Change::Sync)
     }
 
     /// One of the byte lists that a crash at the moment `at`, from 0, may leave, chosen by `pick`.
@@ -99,7 +101,6 @@ impl History {
         requires { at ≤ length self.now.earlier }
         ensures { IfOk result (λ v. IsImage (get_or (self.now.earlier ++ self.now.stage.sure ∷ []) at self.now.stage.sure) v.items) }
     {
-        let moment = Moment::after(alloc, &self.first, &self.changes[..at])?;
-        moment.image(alloc, pick)
+        image_after(alloc, &self.first, &self.changes[..at], pick)
     }
 }

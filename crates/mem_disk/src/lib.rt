@@ -4,6 +4,6 @@
 mod change;
 mod disk;
 mod history;
-mod moment;
+mod image;
 
 pub use disk::MemDisk;

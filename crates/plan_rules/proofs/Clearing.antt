@@ -12,9 +12,9 @@ use Rattle.api_slice.specs.declared.types.Attribute.TheVariants as attribute
 use Rattle.request_rules.specs.Agreeing as agreeing
 use Rattle.constraints.specs.Keeping.{AllHave, KeepsConstraint}
 use Rattle.request_rules.specs.Draws.{CounterId, Draw, is_within}
-use Rattle.selector_meaning.specs.declared.matching.Match.{Match}
-use Rattle.selector_meaning.specs.declared.matching.Match.TheVariants.{Yes, No, Fault}
-use Rattle.selector_meaning.specs.declared.verdict.Cause.{Cause}
+use Rattle.pool_view.specs.declared.matching.Match.{Match}
+use Rattle.pool_view.specs.declared.matching.Match.TheVariants.{Yes, No, Fault}
+use Rattle.pool_view.specs.declared.verdict.Cause.{Cause}
 use Rattle.pool_view.specs.Names.{device_eq, key_eq}
 use Rattle.pool_view.specs.Pools.{Offered}
 use Rattle.pool_view.specs.Views.{position_of}

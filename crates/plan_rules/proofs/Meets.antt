@@ -6,9 +6,9 @@ use Rattle.std.proofs.lemmas.Option.{slice_get_within}
 use Rattle.object_fields.specs.declared.key.DeviceId.{DeviceId}
 use Rattle.api_claim.specs.declared.types.AllocationMode.{AllocationMode}
 use Rattle.api_claim.specs.declared.types.AllocationMode.TheVariants.{ExactCount, All}
-use Rattle.selector_meaning.specs.declared.matching.Match.{Match}
-use Rattle.selector_meaning.specs.declared.matching.Match.TheVariants.{Yes, No, Fault}
-use Rattle.selector_meaning.specs.declared.verdict.Cause.{Cause}
+use Rattle.pool_view.specs.declared.matching.Match.{Match}
+use Rattle.pool_view.specs.declared.matching.Match.TheVariants.{Yes, No, Fault}
+use Rattle.pool_view.specs.declared.verdict.Cause.{Cause}
 use Rattle.pool_view.specs.Names.{device_eq, text_eq}
 use Rattle.pool_view.specs.Pools.{Offered, id_in}
 use Rattle.pool_view.specs.Views.{position_from, position_of}

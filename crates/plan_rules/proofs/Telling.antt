@@ -10,8 +10,8 @@ use Rattle.api_claim.specs.declared.types.ResourceClaim.{ResourceClaim}
 use Rattle.request_rules.specs.Agreeing as agreeing
 use Rattle.constraints.specs.Keeping.{KeepsConstraint}
 use Rattle.request_rules.specs.Draws.{Draw, is_within}
-use Rattle.selector_meaning.specs.declared.matching.Match.{Match}
-use Rattle.selector_meaning.specs.declared.matching.Match.TheVariants.{Yes, No, Fault}
+use Rattle.pool_view.specs.declared.matching.Match.{Match}
+use Rattle.pool_view.specs.declared.matching.Match.TheVariants.{Yes, No, Fault}
 use Rattle.pool_view.specs.Names.{device_eq, key_eq}
 use Rattle.pool_view.specs.Pools.{Offered, id_in}
 use Rattle.pool_view.specs.Views.{position_from, position_of}

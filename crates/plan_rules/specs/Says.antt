@@ -8,7 +8,7 @@ use Rattle.constraints.specs.Keeping.{KeepsConstraint}
 use Rattle.request_rules.specs.Draws.{Draw}
 use Rattle.device_taints.specs.Tolerating.{IsTolerated}
 use Rattle.device_taints.specs.declared.types.Taint.{Taint}
-use Rattle.selector_meaning.specs.declared.matching.Match.TheVariants.{No}
+use Rattle.pool_view.specs.declared.matching.Match.TheVariants.{No}
 use Rattle.pool_view.specs.Names.{at_key, at_name, key_eq}
 use Rattle.pool_view.specs.Pools.{Offered, id_in}
 use Rattle.cluster.specs.Claims.{known_claim}

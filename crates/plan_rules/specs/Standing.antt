@@ -6,8 +6,8 @@ use Rattle.object_fields.specs.declared.key.DeviceId.{DeviceId}
 use Rattle.object_fields.specs.declared.key.Key.{Key}
 use Rattle.api_claim.specs.declared.types.DeviceConstraint.{DeviceConstraint}
 use Rattle.api_claim.specs.declared.types.ResourceClaim.{ResourceClaim}
-use Rattle.selector_meaning.specs.declared.matching.Match.{Match}
-use Rattle.selector_meaning.specs.declared.matching.Match.TheVariants.{Yes, No, Fault}
+use Rattle.pool_view.specs.declared.matching.Match.{Match}
+use Rattle.pool_view.specs.declared.matching.Match.TheVariants.{Yes, No, Fault}
 use Rattle.pool_view.specs.Names.{device_eq}
 use Rattle.pool_view.specs.Pools.{Offered}
 use Rattle.pool_view.specs.Views.{position_of}

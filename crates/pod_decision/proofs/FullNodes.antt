@@ -12,7 +12,7 @@ use Rattle.api_claim.specs.declared.types.DeviceRequest.{DeviceRequest}
 use Rattle.api_claim.specs.declared.types.RequestKind.{RequestKind}
 use Rattle.api_claim.specs.declared.types.RequestKind.TheVariants.{Exactly, FirstAvailable}
 use Rattle.api_claim.specs.declared.types.ResourceClaim.{ResourceClaim}
-use Rattle.selector_meaning.specs.declared.matching.Match.{Match}
+use Rattle.pool_view.specs.declared.matching.Match.{Match}
 use Rattle.pool_view.specs.declared.inventory.Inventory.{Inventory}
 use Rattle.pool_view.specs.Known.{KnownFields}
 use Rattle.pool_view.specs.Names.{device_eq}

@@ -1,56 +1,62 @@
 -- One node after another.
-use Rattle.std.proofs.Common.{ℕ, ◌≡◌, ◌∙◌, List, [], ◌∷◌, ◌++◌, Some, length, slice_get, refl, sym, ap, subst, append_assoc, arith}
-use Rattle.std.specs.List.{AllByRecursion, Contains}
+use Rattle.std.proofs.Common.{ℕ, ◌+◌, ◌<◌, ◌≡◌, ◌∙◌, List, [], ◌∷◌, ◌++◌, Some, length, take, drop, get_or, refl, sym, ap, subst, append_assoc, arith}
+use Rattle.std.specs.List.{AllByRecursion, Contains, slice_get}
 use Rattle.std.specs.Map.{keys_of}
 use Rattle.std.specs.Option.{IsSome}
 use Rattle.std.proofs.lemmas.Cmp.{nat_list_cmp_total, eq_by_cmp_equiv}
-use Rattle.std.proofs.lemmas.List.{append-nil}
-use Rattle.std.proofs.lemmas.List.Elements.{Contains-append_right}
+use Rattle.std.proofs.lemmas.List.{length-take-le, take-append-drop, take_more}
 use Rattle.std.proofs.lemmas.Map.Views.{IsSome-lookup_from_Contains}
+use Rattle.std.proofs.lemmas.Option.{slice_get_read}
 use Rattle.pool_view.specs.Names.{at_name}
 use Rattle.cluster.specs.declared.plan.Cause.{Cause}
 use Rattle.cluster.specs.declared.plan.Passed.{Passed}
 use Rattle.plan_rules.specs.Plans.{nodes_of}
 
-abbrev pub Named : Type 0 → Type 0
-Named V = List (List ℕ × V)
+-- a name in a list of all of them is in the table
+pub next_there : {V : Type 0} (table : List (List ℕ × V)) (names : List (List ℕ)) (i : ℕ) (name : List ℕ) → names ≡ keys_of table → i < length names → name ≡ get_or names i name → IsSome (at_name table name)
+next_there {V} table names i name all within is =
+    IsSome-lookup_from_Contains (eq_by_cmp_equiv nat_list_cmp_total) name table (subst (λ (l : List (List ℕ)). Contains l name) all (i, within, sym is))
 
--- the names that are passed, the next one, and those behind it
-pub names_next : {V : Type 0} (ps : List Passed) (items rest : Named V) (e : List ℕ × V) (names : List (List ℕ)) → items ≡ e ∷ rest → nodes_of ps ++ keys_of items ≡ names
-    → nodes_of ps ++ e.0 ∷ keys_of rest ≡ names
-names_next {V} ps items rest e names is all = ap (λ (l : Named V). nodes_of ps ++ keys_of l) (sym is) ∙ all
+nodes_many : (ps : List Passed) → length (nodes_of ps) ≡ length ps
+nodes_many [] = refl
+nodes_many (p ∷ ps) = let h = nodes_many ps in omega (arith, h)
 
-pub next_there : {V : Type 0} (table items rest : Named V) (e : List ℕ × V) (ps : List Passed) → items ≡ e ∷ rest → nodes_of ps ++ keys_of items ≡ keys_of table → IsSome (at_name table e.0)
-next_there table items rest e ps is all =
-    let h : Contains (e.0 ∷ keys_of rest) e.0 = (0, omega arith, refl) in
-    IsSome-lookup_from_Contains (eq_by_cmp_equiv nat_list_cmp_total) e.0 table
-    (subst (λ (l : List (List ℕ)). Contains l e.0) (names_next ps items rest e (keys_of table) is all) (Contains-append_right (nodes_of ps) (e.0 ∷ keys_of rest) e.0 h))
+-- as many nodes are passed over as there are names before the next one
+passed_many : (ps : List Passed) (names : List (List ℕ)) (i : ℕ) → i < length names → nodes_of ps ≡ take i names → length ps ≡ i
+passed_many ps names i within are = sym (nodes_many ps) ∙ ap length are ∙ length-take-le i names (omega (arith, within))
 
--- the name at the index of the next one
-at_seam : (ps : List Passed) (name : List ℕ) (more : List (List ℕ)) → slice_get (nodes_of ps ++ name ∷ more) (length ps) ≡ Some name
-at_seam [] name more = refl
-at_seam (q ∷ ps) name more = at_seam ps name more
-
-pub next_is : {V : Type 0} (ps : List Passed) (items rest : Named V) (e : List ℕ × V) (names all : List (List ℕ)) → items ≡ e ∷ rest → names ≡ all → nodes_of ps ++ keys_of items ≡ all
-    → slice_get names (length ps) ≡ Some e.0
-next_is ps items rest e names all is same whole =
-    subst (λ (l : List (List ℕ)). slice_get l (length ps) ≡ Some e.0) (names_next ps items rest e all is whole ∙ sym same) (at_seam ps e.0 (keys_of rest))
+-- so the next one is at the index of their number
+pub next_is : (ps : List Passed) (names all : List (List ℕ)) (i : ℕ) (name : List ℕ) → names ≡ all → i < length all → name ≡ get_or all i name → nodes_of ps ≡ take i all → slice_get names (length ps) ≡ Some name
+next_is ps names all i name same within is are =
+    ap (λ (l : List (List ℕ)). slice_get l (length ps)) same
+    ∙ ap (λ (n : ℕ). slice_get all n) (passed_many ps all i within are)
+    ∙ slice_get_read all (length all) i name refl within is
 
 nodes_more : (ps : List Passed) (p : Passed) → nodes_of (ps ++ p ∷ []) ≡ nodes_of ps ++ p.node ∷ []
 nodes_more [] p = refl
 nodes_more (q ∷ ps) p = ap (λ l. q.node ∷ l) (nodes_more ps p)
 
--- where the next one is passed too
-pub names_more : {V : Type 0} (ps all : List Passed) (items rest : Named V) (e : List ℕ × V) (cause : Cause) (names : List (List ℕ)) → items ≡ e ∷ rest
-    → all ≡ ps ++ record { node = e.0; cause = cause } ∷ [] → nodes_of ps ++ keys_of items ≡ names → nodes_of all ++ keys_of rest ≡ names
-names_more ps all items rest e cause names is more whole =
-    ap (λ l. nodes_of l ++ keys_of rest) more
-    ∙ ap (λ l. l ++ keys_of rest) (nodes_more ps (record { node = e.0; cause = cause }))
-    ∙ append_assoc (nodes_of ps) (e.0 ∷ []) (keys_of rest)
-    ∙ names_next ps items rest e names is whole
+one_more : (names : List (List ℕ)) (i : ℕ) (name : List ℕ) → i < length names → name ≡ get_or names i name → take (i + 1) names ≡ take i names ++ name ∷ []
+one_more names i name within is = take_more names i name within ∙ ap (λ (n : List ℕ). take i names ++ n ∷ []) (sym is)
 
-pub names_end : {V : Type 0} (ps : List Passed) (items : Named V) (names : List (List ℕ)) → items ≡ [] → nodes_of ps ++ keys_of items ≡ names → nodes_of ps ≡ names
-names_end {V} ps items names is whole = sym (append-nil (nodes_of ps)) ∙ ap (λ (l : Named V). nodes_of ps ++ keys_of l) (sym is) ∙ whole
+-- where the next one is passed too
+pub names_more : (ps all : List Passed) (names : List (List ℕ)) (i : ℕ) (name : List ℕ) (cause : Cause) → i < length names → name ≡ get_or names i name
+    → all ≡ ps ++ record { node = name; cause = cause } ∷ [] → nodes_of ps ≡ take i names → nodes_of all ≡ take (i + 1) names
+names_more ps all names i name cause within is more are =
+    ap (λ l. nodes_of l) more
+    ∙ nodes_more ps (record { node = name; cause = cause })
+    ∙ ap (λ l. l ++ name ∷ []) are
+    ∙ sym (one_more names i name within is)
+
+-- the names before the one that is taken, it, and those behind it
+pub names_taken : (ps : List Passed) (names : List (List ℕ)) (i : ℕ) (name taken : List ℕ) → i < length names → name ≡ get_or names i name → taken ≡ name → nodes_of ps ≡ take i names
+    → nodes_of ps ++ taken ∷ drop (i + 1) names ≡ names
+names_taken ps names i name taken within is same are =
+    ap (λ l. l ++ taken ∷ drop (i + 1) names) are
+    ∙ ap (λ (n : List ℕ). take i names ++ n ∷ drop (i + 1) names) same
+    ∙ sym (append_assoc (take i names) (name ∷ []) (drop (i + 1) names))
+    ∙ ap (λ (l : List (List ℕ)). l ++ drop (i + 1) names) (sym (one_more names i name within is))
+    ∙ take-append-drop (i + 1) names
 
 each_more : {X : Type 0} (P : X → Type 0) (xs : List X) (x : X) → AllByRecursion P xs → P x → AllByRecursion P (xs ++ x ∷ [])
 each_more P [] x a h = (h, tt)

@@ -5,6 +5,7 @@ pub mod Going
 pub mod Gathering
 pub mod Idle
 pub mod Places
+pub mod Alike
 pub mod Lifted
 pub mod FullWalks
 pub mod FullInputs

@@ -5,12 +5,14 @@ use Rattle.std.specs.Option.{is_some, option_map}
 use Rattle.walk.specs.Walk.{Item, Mark, Part, Full, Fault}
 use Rattle.walk.specs.Outcome as walks
 use Rattle.object_fields.specs.declared.key.Key.{Key}
+use Rattle.api_claim.specs.declared.types.ResourceClaim.{ResourceClaim}
 use Rattle.api_cluster.specs.declared.types.Pod.{Pod}
 use Rattle.pool_view.specs.Names.{at_key}
 use Rattle.cluster.specs.declared.state.ClaimState.{ClaimState}
 use Rattle.cluster.specs.declared.state.Granted.{Granted}
 use Rattle.cluster.specs.declared.state.State.{State}
 use Rattle.request_rules.specs.Faults.{FaultPlace, fault_of}
+use Rattle.request_rules.specs.Input.{SearchInput}
 use Rattle.allocations.specs.Claims.{has_grant, is_elsewhere, is_off, joined, keys_of_pod, other_claim, wanted}
 use Rattle.allocations.specs.Input.{grants_by, input_for, input_of, outcome_on, selector_fault, walk_on}
 use Rattle.allocator.specs.declared.outcome.Outcome.{Outcome}
@@ -72,10 +74,38 @@ other_is : (s : State) (pod : Pod) (node : List ℕ) (ks : List Key) → ks ≡ 
 unfolding joined other_claim
 other_is s pod node ks joins = sym (granted_elsewhere s node (keys_of_pod pod)) ∙ ap (λ l. first_elsewhere s node l) (sym joins)
 
-pub searched : (s : State) (pod : Pod) (budget : ℕ) (node : List ℕ) (ks : List Key) (found : Outcome) → ks ≡ joined s pod → first_elsewhere s node ks ≡ None
+pub searched : (s : State) (pod : Pod) (budget : ℕ) (node : List ℕ) (found : Outcome) → other_claim s pod node ≡ None
     → answers.answer_of (input_of s (wanted s pod) node) budget ≡ Some found → IsTried s pod budget node (tried_of budget found)
 unfolding answers.answer_of outcome_on walk_on
-searched s pod budget node ks found joins here e = answer_by s pod budget node (outcome_on s pod node budget) found (other_is s pod node ks joins ∙ here) refl e
+searched s pod budget node found here e = answer_by s pod budget node (outcome_on s pod node budget) found here refl e
+
+pub here : (s : State) (pod : Pod) (node : List ℕ) (ks : List Key) → ks ≡ joined s pod → first_elsewhere s node ks ≡ None → other_claim s pod node ≡ None
+here s pod node ks joins e = other_is s pod node ks joins ∙ e
 
 pub elsewhere : (s : State) (pod : Pod) (node : List ℕ) (ks : List Key) (claim : Key) → ks ≡ joined s pod → first_elsewhere s node ks ≡ Some claim → other_claim s pod node ≡ Some claim
 elsewhere s pod node ks claim joins e = other_is s pod node ks joins ∙ e
+
+-- ---- a search that returns Unsat
+
+never_fault : (o : Option FaultPlace) → option_map (λ f. outcome.Fault (answers.selector_fault f)) o ≡ Some outcome.Unsat → ⊥
+never_fault None e = absurd (cc)
+never_fault (Some f) e = absurd (cc)
+
+never_ended : (w : SearchInput) (x : Item) (m : Mark) → answers.ended_by w x m ≡ Some outcome.Unsat → ⊥
+never_ended w x Part e = absurd (cc)
+never_ended w x Full e = absurd (cc)
+never_ended w x Fault e = never_fault (fault_of w x.choice) e
+
+unsat_by : (w : SearchInput) (o : walks.Outcome) → answers.answer_by w o ≡ Some outcome.Unsat → o ≡ walks.Unsat
+unsat_by w (walks.Ended x) e = absurd (never_ended w x x.mark e)
+unsat_by w walks.Unsat e = refl
+unsat_by w walks.Budget e = absurd (cc)
+
+unsat_is : (s : State) (pod : Pod) (budget : ℕ) (node : List ℕ) → answers.answer_of (input_of s (wanted s pod) node) budget ≡ Some outcome.Unsat → outcome_on s pod node budget ≡ walks.Unsat
+unfolding answers.answer_of outcome_on walk_on
+unsat_is s pod budget node e = unsat_by (input_for s pod node) (outcome_on s pod node budget) e
+
+pub found_unsat : (s : State) (pod : Pod) (claims : List ResourceClaim) (budget : ℕ) (node : List ℕ) (found : Outcome) → claims ≡ wanted s pod → found ≡ outcome.Unsat
+    → answers.answer_of (input_of s claims node) budget ≡ Some found → outcome_on s pod node budget ≡ walks.Unsat
+found_unsat s pod claims budget node found same is e =
+    unsat_is s pod budget node (ap (λ (cs : List ResourceClaim). answers.answer_of (input_of s cs node) budget) (sym same) ∙ e ∙ ap (λ (f : Outcome). Some f) is)

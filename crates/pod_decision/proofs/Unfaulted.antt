@@ -11,9 +11,9 @@ use Rattle.api_claim.specs.declared.types.ResourceClaim.{ResourceClaim}
 use Rattle.api_cluster.specs.declared.types.DeviceClass.{DeviceClass}
 use Rattle.api_slice.specs.declared.types.Device.{Device}
 use Rattle.api_slice.specs.declared.types.ResourceSlice.{ResourceSlice}
-use Rattle.selector_meaning.specs.declared.matching.Match.{Match}
-use Rattle.selector_meaning.specs.declared.matching.Match.TheVariants.{Fault, No, Yes}
-use Rattle.selector_meaning.specs.Match.{match_from}
+use Rattle.pool_view.specs.declared.matching.Match.{Match}
+use Rattle.pool_view.specs.declared.matching.Match.TheVariants.{Fault, No, Yes}
+use Rattle.pool_view.specs.Match.{match_from}
 use Rattle.pool_view.specs.declared.stored.Stored.{Stored}
 use Rattle.pool_view.specs.Differing.{IsAtItsName}
 use Rattle.pool_view.specs.Inventory.{Named}

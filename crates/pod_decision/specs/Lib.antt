@@ -2,3 +2,5 @@ pub mod Decisions
 pub mod Tries
 pub mod Parts
 pub mod Searches
+pub mod Memory
+pub mod Copied

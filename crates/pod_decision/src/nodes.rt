@@ -1,18 +1,15 @@
-ghost use Rattle.std.specs.Prelude.{◌≡◌, IfOk, IsSome, Some, length, slice_get};
+ghost use Rattle.std.specs.Prelude.{◌≡◌, IfOk, IsSome, None, Some, length, slice_get};
 ghost use Rattle.std.specs.Map.{keys_of};
 ghost use Rattle.pool_view.specs.Names.{at_name};
-ghost use Rattle.cluster.specs.Held.{held};
 ghost use Rattle.cluster.specs.PassedOver.{none_passed, one_more};
-ghost use Rattle.allocations.specs.Claims.{joined, wanted};
-ghost use Rattle.pool_totals.specs.Drawn.{AreDrawn};
+ghost use Rattle.allocations.specs.Claims.{joined, other_claim};
 ghost use Rattle.pod_decision.specs.Tries.{AreTried, IsTried, tried_of};
 
 use crate::claims::first_elsewhere;
-use crate::search::PodSearch;
+use crate::tries::NodeTries;
 use allocator::Outcome;
-use api_cluster::{Node, Pod};
+use api_cluster::Node;
 use cluster::{Cause, Grant, PassedBuilder, State};
-use counter_sets::Totals;
 use dra_values::{Seq, Shared, Table, Text};
 use object_fields::Key;
 use pool_view::Stored;
@@ -49,29 +46,43 @@ fn tried_of(budget: u64, outcome: Outcome) -> Tried
     }
 }
 
-/// Searches a node for a pod, unless one of the pod's claims has its grant on another node. `joins`
-/// are the pod's claims with a grant. The totals are the state's, and again after it.
+/// Tries a node at a position, unless one of the pod's claims has its grant on another node. `joins` are the pod's claims
+/// with a grant.
 fn try_node(
     alloc: Global,
-    state: &State,
-    pod: &Pod,
     joins: &[Key],
-    search: &PodSearch,
-    totals: &mut Totals,
+    tries: &mut NodeTries,
+    position: usize,
     node: &Text,
-    budget: u64,
 ) -> Result<Tried, AllocError>
-    requires joins { joins.now ≡ joined state.now pod.now }
-    requires search { search.now ≡ record { state = state.now; claims = wanted state.now pod.now } }
-    requires there { IsSome (at_name state.now.inventory.nodes node.now) }
-    requires drawn { AreDrawn state.now.inventory (held state.now) totals.old }
-    ensures tried { IfOk result (IsTried state.now pod.now budget node.now) }
-    ensures drawn { AreDrawn state.now.inventory (held state.now) totals.new }
+    requires joins { joins.now ≡ joined tries.old.state tries.old.pod }
+    requires there { IsSome (at_name tries.old.state.inventory.nodes node.now) }
+    ensures tried { IfOk result (IsTried tries.old.state tries.old.pod tries.old.budget node.now) }
+    ensures same { tries.new ≡ tries.old }
 {
-    match first_elsewhere(state, node, joins) {
+    match first_elsewhere(tries.state(), node, joins) {
         Some(claim) => Ok(Tried::Passed(Cause::Other(claim.copy(alloc)?))),
-        None => Ok(tried_of(budget, search.outcome(alloc, node, totals, budget)?)),
+        None => try_here(alloc, tries, position, node),
     }
+}
+
+/// Tries a node that has the grants of the pod's claims: if it isn't known to have no allocation, it is searched.
+fn try_here(
+    alloc: Global,
+    tries: &mut NodeTries,
+    position: usize,
+    node: &Text,
+) -> Result<Tried, AllocError>
+    requires here { other_claim tries.old.state tries.old.pod node.now ≡ None }
+    requires there { IsSome (at_name tries.old.state.inventory.nodes node.now) }
+    ensures tried { IfOk result (IsTried tries.old.state tries.old.pod tries.old.budget node.now) }
+    ensures same { tries.new ≡ tries.old }
+{
+    if tries.has(position, node) {
+        return Ok(Tried::Passed(Cause::Unsat));
+    }
+    let budget = tries.budget();
+    Ok(tried_of(budget, tries.outcome(alloc, position, node)?))
 }
 
 /// Puts the node of the next name, which isn't taken, at the end.
@@ -105,25 +116,23 @@ fn listed_names(alloc: Global, nodes: &Nodes) -> Result<Seq<Text>, AllocError>
 
 /// Tries the nodes in the order of their names, up to the first that may be taken, and says why each
 /// before it isn't. `joins` are the pod's claims with a grant: the others aren't looked up again for
-/// each node. The totals are the state's.
+/// each node.
 pub fn try_nodes(
     alloc: Global,
-    state: &State,
-    pod: &Pod,
     joins: &[Key],
-    search: &PodSearch,
-    totals: &mut Totals,
-    budget: u64,
+    tries: &mut NodeTries,
+    names: &[Text],
     passed: &mut PassedBuilder,
 ) -> Result<Option<Taken>, AllocError>
-    requires joins { joins.now ≡ joined state.now pod.now }
-    requires search { search.now ≡ record { state = state.now; claims = wanted state.now pod.now } }
-    requires drawn { AreDrawn state.now.inventory (held state.now) totals.old }
-    requires none { passed.old ≡ none_passed (keys_of state.now.inventory.nodes) }
-    ensures { IfOk result (AreTried state.now pod.now budget (keys_of state.now.inventory.nodes) passed.new.nodes) }
+    requires joins { joins.now ≡ joined tries.old.state tries.old.pod }
+    requires names { names.now ≡ keys_of tries.old.state.inventory.nodes }
+    requires none { passed.old ≡ none_passed names.now }
+    ensures tried { IfOk result (AreTried tries.old.state tries.old.pod tries.old.budget names.now passed.new.nodes) }
+    ensures same { tries.new ≡ tries.old }
 {
-    for (node, _) in state.inventory.nodes().as_map() {
-        match try_node(alloc, state, pod, joins, search, totals, node, budget)? {
+    for position in 0..names.len() {
+        let node = &names[position];
+        match try_node(alloc, joins, tries, position, node)? {
             Tried::Passed(cause) => push_passed(passed, node, cause)?,
             Tried::Found(grants) => {
                 let node = node.copy(alloc)?;

@@ -19,3 +19,4 @@ mod NodeSees
 mod Learned
 mod Listing
 pub mod OnePool
+pub mod Deciding

@@ -4,10 +4,10 @@ use Rattle.std.specs.List.{All, HoldsAt, list_all}
 use Rattle.std.specs.Map.{keys_of}
 use Rattle.api_slice.specs.declared.types.Device.{Device}
 use Rattle.api_slice.specs.declared.types.ResourceSlice.{ResourceSlice}
-use Rattle.selector_meaning.specs.declared.matching.Match.{Match}
-use Rattle.selector_meaning.specs.declared.matching.Match.TheVariants.{Yes, No, Fault}
-use Rattle.selector_meaning.specs.Devices.{device_of}
-use Rattle.selector_meaning.specs.Match.{match_from}
+use Rattle.pool_view.specs.declared.matching.Match.{Match}
+use Rattle.pool_view.specs.declared.matching.Match.TheVariants.{Yes, No, Fault}
+use Rattle.pool_view.specs.Devices.{device_of}
+use Rattle.pool_view.specs.Match.{match_from}
 use Rattle.pool_view.specs.declared.known.KnownList.{KnownList}
 use Rattle.pool_view.specs.Inventory.{Named}
 use Rattle.pool_view.specs.Names.{at_name}

@@ -12,3 +12,6 @@ pub mod Sorted
 pub mod Known
 pub mod Sets
 pub mod OnePool
+pub mod Matches
+pub mod Match
+pub mod Devices

@@ -1,4 +1,5 @@
-//! The nodes and slices of a cluster, and which slices are usable.
+//! The nodes and slices of a cluster, which slices are usable, and what selectors, one after another, evaluate to on a
+//! device of a slice.
 #![tactic(auto)]
 
 mod device;
@@ -9,6 +10,7 @@ mod kept;
 mod known;
 mod laws;
 mod learning;
+mod matching;
 mod names;
 mod node_index;
 mod nodes;
@@ -19,6 +21,7 @@ mod set_ref;
 mod slice_ref;
 mod sorting;
 mod stored;
+mod verdict;
 mod view;
 mod visible;
 
@@ -29,10 +32,12 @@ pub use laws::{
     devices_of_a_view_differ, pools_change_alone, usable_counters_are_there,
     usable_devices_are_few, usable_slices_differ,
 };
+pub use matching::{Match, first_that_is_not_true_decides};
 pub use names::PoolName;
 pub use nodes::named_node;
 pub use order::SlicePlace;
 pub use sorting::{counted, usable};
 pub use stored::{Stored, put_named};
+pub use verdict::{Cause, Verdict};
 pub use view::{PoolView, Pools};
 pub use visible::sees_slice;

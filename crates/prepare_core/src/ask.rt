@@ -23,7 +23,7 @@ use ckpt_journal::{Claim, Record};
 use dra_ports::Disk;
 use dra_values::Seq;
 use object_fields::Key;
-use std::alloc::Global;
+use std::alloc::{AllocError, Global};
 
 impl<D: Disk> Begun<D> {
     /// States what stands while the driver is asked: whatever a crash leaves has the claim as Begun.
@@ -72,6 +72,14 @@ impl<D: Disk> Begun<D> {
     }
 }
 
+/// The names of a claim's devices, and the record that it is prepared.
+fn names_and_record(alloc: Global, claim: Claim) -> Result<(Names, Record), AllocError>
+    ensures { IfOk result (λ x. (x.0 ≡ names_of claim) × (x.1 ≡ items.Prepared claim)) }
+{
+    let names = device_names(alloc, &claim.uid, claim.devices.as_slice())?;
+    Ok((names, Record::Prepared(claim)))
+}
+
 impl<D: Disk> Kubelet<D> {
     /// Records that a claim is prepared, and returns the names of its devices.
     pub(crate) fn record_prepared(
@@ -95,8 +103,8 @@ impl<D: Disk> Kubelet<D> {
         ensures only { IfErr result IsOfRecord }
     {
         self.keeps();
-        let names = device_names(alloc, &claim.uid, claim.devices.as_slice())?;
-        match self.record(alloc, &Record::Prepared(claim)) {
+        let (names, item) = names_and_record(alloc, claim)?;
+        match self.record_item(alloc, item) {
             Ok(()) => Ok(names),
             Err(why) => Err(why),
         }

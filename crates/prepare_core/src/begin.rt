@@ -11,12 +11,12 @@ ghost use Rattle.prepare_core.specs.Handed.{IfRecorded, IsRefusal, begun_of, by_
 ghost use Rattle.prepare_core.specs.Prepare.{begins_full, begun_claim, refusal};
 ghost use Rattle.prepare_core.specs.Readable.{IsReadable};
 ghost use Rattle.prepare_core.specs.Runs.{IsOfRecord, is_crowded};
-ghost use Rattle.prepare_core.specs.Table.{begun_pods, claim_with, is_prepared, row_of};
+ghost use Rattle.prepare_core.specs.Table.{begun_pods, is_prepared, row_of};
 ghost use Rattle.prepare_core.specs.Words.{disk_in, half_in, has_ended, node_in, rows_in};
 
 use crate::rows::{claim_for, find_row, is_among, pods_to_begin};
 use crate::{Begun, ClaimForNode, Kubelet, KubeletError, Refused};
-use ckpt_journal::Record;
+use ckpt_journal::{Record, Row};
 use dra_ports::Disk;
 use dra_values::Seq;
 use object_fields::Key;
@@ -25,11 +25,48 @@ use std::alloc::{AllocError, Global};
 /// The most claims of a table to which a further one is added.
 const MOST_CLAIMS: usize = 1024;
 
-/// The record that a claim's preparation has begun.
-fn begun_item(alloc: Global, claim: &ClaimForNode, pods: &Seq<Key>) -> Result<Record, AllocError>
-    ensures { IfOk result (λ item. item ≡ items.Begun (claim_with claim.now pods.now)) }
+/// The pods that a claim's preparation begins for, and the record of it.
+fn pods_and_record(
+    alloc: Global,
+    rows: &[Row],
+    pod: &Key,
+    claim: &ClaimForNode,
+) -> Result<(Seq<Key>, Record), AllocError>
+    ensures pods { IfOk result (λ x. x.0 ≡ begun_pods pod.now (row_of claim.now.uid rows.now)) }
+    ensures item { IfOk result (λ x. x.1 ≡ items.Begun (begun_claim pod.now claim.now rows.now)) }
 {
-    Ok(Record::Begun(claim_for(alloc, claim, pods)?))
+    let pods = pods_to_begin(alloc, rows, claim.uid.as_str(), pod)?;
+    let begun = claim_for(alloc, claim, &pods)?;
+    Ok((pods, Record::Begun(begun)))
+}
+
+/// Whether the claim has no row and the table takes no further one. Allocates nothing.
+fn is_crowded_for(rows: &[Row], uid: &str) -> bool
+    ensures { result ≡ (is_none (row_of uid.now rows.now) && is_crowded rows.now) }
+{
+    find_row(rows, uid).is_none() && rows.len() >= MOST_CLAIMS
+}
+
+/// An equal claim, the pods that its preparation begins for, and the record of it.
+fn begun_parts(
+    alloc: Global,
+    rows: &[Row],
+    pod: &Key,
+    claim: &ClaimForNode,
+) -> Result<(ClaimForNode, Seq<Key>, Record), KubeletError>
+    ensures copied { IfOk result (λ x. x.0 ≡ claim.now) }
+    ensures pods { IfOk result (λ x. x.1 ≡ begun_pods pod.now (row_of claim.now.uid rows.now)) }
+    ensures item { IfOk result (λ x. x.2 ≡ items.Begun (begun_claim pod.now claim.now rows.now)) }
+    ensures room { OnOk result ((is_none (row_of claim.now.uid rows.now) && is_crowded rows.now) ≡ false) }
+    ensures full { IsErrOf result KubeletError.Full → (is_none (row_of claim.now.uid rows.now) && is_crowded rows.now) ≡ true }
+    ensures only { IfErr result (λ e. (e ≡ KubeletError.Full) ⊎ (e ≡ KubeletError.Memory)) }
+{
+    let copied = claim.copy(alloc)?;
+    if is_crowded_for(rows, claim.uid.as_str()) {
+        return Err(KubeletError::Full);
+    }
+    let (pods, item) = pods_and_record(alloc, rows, pod, claim)?;
+    Ok((copied, pods, item))
 }
 
 impl<D: Disk> Kubelet<D> {
@@ -52,25 +89,18 @@ impl<D: Disk> Kubelet<D> {
         None
     }
 
-    /// Whether the claim has no row and the table takes no further one. Allocates nothing.
-    fn is_crowded_for(&self, uid: &str) -> bool
-        ensures { result ≡ (is_none (row_of uid.now (rows_in self.now)) && is_crowded (rows_in self.now)) }
-    {
-        let rows = self.claims();
-        find_row(rows, uid).is_none() && rows.len() >= MOST_CLAIMS
-    }
-
-    /// Records that a claim's preparation has begun, and returns the pods that it is begun for.
+    /// Records that a claim's preparation has begun, and returns an equal claim and the pods that it is begun for.
     fn record_begun(
         &mut self,
         alloc: Global,
         pod: &Key,
         claim: &ClaimForNode,
-    ) -> Result<Seq<Key>, KubeletError>
+    ) -> Result<(ClaimForNode, Seq<Key>), KubeletError>
         requires readable { IsReadable pod.now claim.now }
         requires going { has_ended self.old ≡ false }
         ensures any_moment { AtEachMoment (IsBeforeOrAfter (rows_in self.old) (items.Begun (begun_claim pod.now claim.now (rows_in self.old)))) (D.content (disk_in self.old)) (D.content (disk_in self.new)) }
-        ensures pods { IfOk result (λ pods. pods ≡ begun_pods pod.now (row_of claim.now.uid (rows_in self.old))) }
+        ensures copied { IfOk result (λ x. x.0 ≡ claim.now) }
+        ensures pods { IfOk result (λ x. x.1 ≡ begun_pods pod.now (row_of claim.now.uid (rows_in self.old))) }
         ensures rows { OnOk result (rows_in self.new ≡ row_after (rows_in self.old) (items.Begun (begun_claim pod.now claim.now (rows_in self.old)))) }
         ensures kept { OnErr result (IsErrOf result KubeletError.DiskFault ⊎ rows_in self.new ≡ rows_in self.old) }
         ensures half { half_in self.new ≡ half_in self.old }
@@ -83,13 +113,9 @@ impl<D: Disk> Kubelet<D> {
         ensures only { IfErr result IsOfRecord }
     {
         self.keeps();
-        if self.is_crowded_for(claim.uid.as_str()) {
-            return Err(KubeletError::Full);
-        }
-        let pods = pods_to_begin(alloc, self.claims(), claim.uid.as_str(), pod)?;
-        let item = begun_item(alloc, claim, &pods)?;
-        match self.record(alloc, &item) {
-            Ok(()) => Ok(pods),
+        let (copied, pods, item) = begun_parts(alloc, self.claims(), pod, claim)?;
+        match self.record_item(alloc, item) {
+            Ok(()) => Ok((copied, pods)),
             Err(why) => Err(why),
         }
     }
@@ -134,17 +160,13 @@ impl<D: Disk> Kubelet<D> {
         if let Some(why) = self.refusal(pod, claim) {
             return Err(Refused { kubelet: self, why });
         }
-        let Ok(copied) = claim.copy(alloc) else {
-            let why = KubeletError::Memory;
-            return Err(Refused { kubelet: self, why });
-        };
         let mut kubelet = self;
         match kubelet.record_begun(alloc, pod, claim) {
-            Ok(pods) => {
+            Ok((claim, pods)) => {
                 kubelet.keeps();
                 Ok(Begun {
                     kubelet,
-                    claim: copied,
+                    claim,
                     pods,
                 })
             }

@@ -1,5 +1,7 @@
 ghost use Rattle.std.specs.Prelude.{◌≡◌, IfOk};
 
+use crate::rows::claim_for;
+use ckpt_journal::Claim;
 use dra_values::{Duplicate, Seq, Text};
 use object_fields::{DeviceId, Key};
 use std::alloc::{AllocError, Global};
@@ -27,12 +29,26 @@ impl ClaimForNode {
     pub fn copy(&self, alloc: Global) -> Result<ClaimForNode, AllocError>
         ensures { IfOk result (λ copied. copied ≡ self.now) }
     {
-        Ok(ClaimForNode {
-            uid: self.uid.copy(alloc)?,
-            key: self.key.copy(alloc)?,
-            node: self.node.duplicate(alloc)?,
-            pods: self.pods.copy(alloc)?,
-            devices: self.devices.copy(alloc)?,
-        })
+        let node = self.node.duplicate(alloc)?;
+        Ok(on_node(claim_for(alloc, self, &self.pods)?, node))
+    }
+}
+
+/// A claim on a node.
+pub fn on_node(claim: Claim, node: Option<Text>) -> ClaimForNode
+    ensures { result ≡ record { uid = claim.uid; key = claim.key; node = node; pods = claim.pods; devices = claim.devices } }
+{
+    let Claim {
+        uid,
+        key,
+        pods,
+        devices,
+    } = claim;
+    ClaimForNode {
+        uid,
+        key,
+        node,
+        pods,
+        devices,
     }
 }

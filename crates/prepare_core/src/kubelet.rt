@@ -121,4 +121,24 @@ impl<D: Disk> Kubelet<D> {
             Err(JournalError::NotAJournal(at)) => Err(KubeletError::NotAJournal(at)),
         }
     }
+
+    /// Adds a record to the checkpoint, and lets it go.
+    pub(crate) fn record_item(&mut self, alloc: Global, item: Record) -> Result<(), KubeletError>
+        requires { ReadsBack item }
+        ensures any_moment { has_ended self.old ≡ false → AtEachMoment (IsBeforeOrAfter (rows_in self.old) item) (D.content (disk_in self.old)) (D.content (disk_in self.new)) }
+        ensures rows { OnOk result (rows_in self.new ≡ row_after (rows_in self.old) item) }
+        ensures kept { OnErr result (IsErrOf result KubeletError.DiskFault ⊎ rows_in self.new ≡ rows_in self.old) }
+        ensures half { half_in self.new ≡ half_in self.old }
+        ensures node { node_in self.new ≡ node_in self.old }
+        ensures going { OnOk result (has_ended self.new ≡ false) }
+        ensures mark { OnErr result (IsErrOf result KubeletError.DiskFault ⊎ has_ended self.new ≡ has_ended self.old) }
+        ensures closed { IsErrOf result KubeletError.Closed ↔ (has_ended self.old ≡ true) }
+        ensures full { IsErrOf result KubeletError.Full → is_full (half_in self.old) (rows_in self.old) item ≡ true }
+        ensures room { (IsOk result ⊎ IsErrOf result KubeletError.DiskFault) → is_full (half_in self.old) (rows_in self.old) item ≡ false }
+        ensures fault { IsErrOf result KubeletError.DiskFault → Rose (D.faults (disk_in self.old)) (D.faults (disk_in self.new)) × (has_ended self.new ≡ true) }
+        ensures no_fault { (IsErrOf result KubeletError.DiskFault → ⊥) → D.faults (disk_in self.new) ≡ D.faults (disk_in self.old) }
+        ensures only { IfErr result IsOfJournal }
+    {
+        self.record(alloc, &item)
+    }
 }

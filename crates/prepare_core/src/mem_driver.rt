@@ -45,8 +45,8 @@ impl MemDriver {
         ensures fails { (IsErrOf result Memory → ⊥) → result ≡ (if fails_next (driver_plan self.old) then Err Failed else Ok tt) }
         ensures plan { (IsErrOf result Memory → ⊥) → driver_plan self.new ≡ after_count (driver_plan self.old) }
     {
-        let claim = claim.copy(self.alloc)?;
         self.calls.reserve(1)?;
+        let claim = claim.copy(self.alloc)?;
         let fails = self.failures.next_fails();
         self.calls.push_reserved(DriverCall {
             kind,

@@ -1,4 +1,4 @@
-ghost use Rattle.std.specs.Prelude.{◌≡◌, ◌++◌, IfOk, [], ◌∷◌, map, option_copied};
+ghost use Rattle.std.specs.Prelude.{◌≡◌, ◌++◌, IfOk, OnOk, [], ◌∷◌, map, option_copied};
 ghost use Rattle.prepare_core.specs.Names.{name_of, names_of};
 ghost use Rattle.prepare_core.specs.Table.{begun_pods, claim_with, has_pod, pods_of_row, row_of, with_pod, with_pods, without_pod};
 
@@ -27,12 +27,20 @@ pub fn is_among(pods: &[Key], pod: &Key) -> bool
     pods.contains(pod)
 }
 
+/// Puts an equal pod at the end.
+fn push_copy(alloc: Global, pods: &mut Seq<Key>, pod: &Key) -> Result<(), AllocError>
+    ensures { OnOk result (pods.new ≡ pods.old ++ pod.now ∷ []) }
+{
+    pods.push(pod.copy(alloc)?)?;
+    Ok(())
+}
+
 /// The pods, and this one at their end.
 pub fn pods_and(alloc: Global, pods: &Seq<Key>, pod: &Key) -> Result<Seq<Key>, AllocError>
     ensures { IfOk result (λ more. more ≡ pods.now ++ pod.now ∷ []) }
 {
     let mut more = pods.copy(alloc)?;
-    more.push(pod.copy(alloc)?)?;
+    push_copy(alloc, &mut more, pod)?;
     Ok(more)
 }
 
@@ -54,7 +62,7 @@ pub fn pods_without(alloc: Global, pods: &[Key], pod: &Key) -> Result<Seq<Key>, 
     let mut left = Seq::empty(alloc);
     for other in pods {
         if other != pod {
-            left.push(other.copy(alloc)?)?;
+            push_copy(alloc, &mut left, other)?;
         }
     }
     Ok(left)
@@ -65,7 +73,7 @@ fn one_pod(alloc: Global, pod: &Key) -> Result<Seq<Key>, AllocError>
     ensures { IfOk result (λ pods. pods ≡ pod.now ∷ []) }
 {
     let mut pods = Seq::empty(alloc);
-    pods.push(pod.copy(alloc)?)?;
+    push_copy(alloc, &mut pods, pod)?;
     Ok(pods)
 }
 
@@ -106,15 +114,31 @@ pub fn device_names(alloc: Global, uid: &Text, devices: &[DeviceId]) -> Result<N
     Ok(names)
 }
 
+/// Equal fields of a claim, but for its pods.
+fn copied_fields(
+    alloc: Global,
+    uid: &Text,
+    key: &Key,
+    devices: &Seq<DeviceId>,
+) -> Result<(Text, Key, Seq<DeviceId>), AllocError>
+    ensures { IfOk result (λ x. (x.0 ≡ uid.now) × (x.1 ≡ key.now) × (x.2 ≡ devices.now)) }
+{
+    let uid = uid.copy(alloc)?;
+    let key = key.copy(alloc)?;
+    Ok((uid, key, devices.copy(alloc)?))
+}
+
 /// What is recorded of the claim handed in, for these pods.
 pub fn claim_for(alloc: Global, claim: &ClaimForNode, pods: &Seq<Key>) -> Result<Claim, AllocError>
     ensures { IfOk result (λ k. k ≡ claim_with claim.now pods.now) }
 {
+    let pods = pods.copy(alloc)?;
+    let (uid, key, devices) = copied_fields(alloc, &claim.uid, &claim.key, &claim.devices)?;
     Ok(Claim {
-        uid: claim.uid.copy(alloc)?,
-        key: claim.key.copy(alloc)?,
-        pods: pods.copy(alloc)?,
-        devices: claim.devices.copy(alloc)?,
+        uid,
+        key,
+        pods,
+        devices,
     })
 }
 
@@ -122,10 +146,11 @@ pub fn claim_for(alloc: Global, claim: &ClaimForNode, pods: &Seq<Key>) -> Result
 pub fn claim_for_pods(alloc: Global, claim: &Claim, pods: Seq<Key>) -> Result<Claim, AllocError>
     ensures { IfOk result (λ k. k ≡ with_pods pods claim.now) }
 {
+    let (uid, key, devices) = copied_fields(alloc, &claim.uid, &claim.key, &claim.devices)?;
     Ok(Claim {
-        uid: claim.uid.copy(alloc)?,
-        key: claim.key.copy(alloc)?,
+        uid,
+        key,
         pods,
-        devices: claim.devices.copy(alloc)?,
+        devices,
     })
 }

@@ -4,6 +4,7 @@ ghost use Rattle.prepare_core.specs.Prepare.{way_by_row, way_by_state};
 ghost use Rattle.prepare_core.specs.Table.{row_of, with_pods};
 ghost use Rattle.prepare_core.specs.Unprepare.{back_by_row, back_by_state, for_node, set_record};
 
+use crate::claim::on_node;
 use crate::rows::{claim_for_pods, device_names, find_row, is_among, pods_and, pods_without};
 use crate::{ClaimForNode, Names};
 use ckpt_journal::{Claim, Record, Row, RowState};
@@ -68,13 +69,8 @@ pub fn way_for(alloc: Global, rows: &[Row], uid: &str, pod: &Key) -> Result<Way,
 fn told(alloc: Global, node: &Text, claim: &Claim) -> Result<ClaimForNode, AllocError>
     ensures { IfOk result (λ c. c ≡ for_node node.now claim.now) }
 {
-    Ok(ClaimForNode {
-        uid: claim.uid.copy(alloc)?,
-        key: claim.key.copy(alloc)?,
-        node: Some(node.copy(alloc)?),
-        pods: claim.pods.copy(alloc)?,
-        devices: claim.devices.copy(alloc)?,
-    })
+    let node = node.copy(alloc)?;
+    Ok(on_node(claim.copy(alloc)?, Some(node)))
 }
 
 /// The driver is asked to take a claim back.

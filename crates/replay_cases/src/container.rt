@@ -1,3 +1,4 @@
+use crate::crashes::run_crashes;
 use crate::options::Options;
 use crate::outcome::run_once;
 use crate::reader::Reader;
@@ -112,6 +113,10 @@ fn run_case<R: AllocGlobal + Threads + Wait + Sync>(
     };
     if verb == "run" {
         run_once(rt, script, options)?.print_whole(alloc, out)?;
+        return Ok(true);
+    }
+    if verb == "crashes" {
+        run_crashes(rt, alloc, script, options, out)?;
         return Ok(true);
     }
     match varied_by(verb) {

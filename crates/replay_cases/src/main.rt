@@ -3,12 +3,14 @@
 #![tactic(auto)]
 
 mod container;
+mod crashes;
 mod options;
 mod outcome;
 mod ports;
 mod reader;
 mod report;
 mod scripts;
+mod tables;
 mod varied;
 
 use container::run_container;

@@ -26,6 +26,8 @@ pub struct Options {
     /// The checkpoint as it is found: the first so many bytes of one of version 1, which has 113 and begins a claim; one of
     /// version 1 without records if this is 1, and another program's file if it is over 113.
     pub found: u64,
+    /// The size in bytes of a half of a checkpoint of version 2 without records, as which it is found instead; 0 for none.
+    pub half: u64,
     /// The job that waits where it is held, until the job `until` has ended; 0 for none.
     pub held: u64,
     /// Where it is held: once it has searched, or, if this isn't 0, once it has reserved.
@@ -52,6 +54,7 @@ impl Options {
             fail_disk: 0,
             fail_driver: 0,
             found: 0,
+            half: 0,
             held: 0,
             reserved: 0,
             until: 0,
@@ -110,6 +113,10 @@ impl Options {
             }),
             "found" => Some(Options {
                 found: number,
+                ..self
+            }),
+            "half" => Some(Options {
+                half: number,
                 ..self
             }),
             "held" => Some(Options {

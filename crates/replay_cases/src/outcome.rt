@@ -94,10 +94,27 @@ fn found_bytes(found: u64) -> &'static [u8] {
     OLD.get(..found as usize).unwrap_or(OTHER)
 }
 
+/// The size in bytes of the largest half.
+const LARGEST_HALF: u64 = 134_217_728;
+
+/// A checkpoint of version 2 without records, whose halves have so many bytes: 16 bytes, the size of a half, the byte that
+/// makes the first half live, that half, and the first gate of the other.
+fn new_checkpoint(alloc: Global, half: u64) -> Result<Vec<u8>, AllocError> {
+    let half = half.min(LARGEST_HALF) as u32;
+    let mut bytes = Vec::from_slice(alloc, b"DRAKCKPT\0\0\0\x02\0\0\0\x10")?;
+    bytes.extend_from_slice(&half.to_be_bytes())?;
+    bytes.resize(half as usize + 22, 0)?;
+    Ok(bytes)
+}
+
 /// The disk as it is found.
 fn disk_of(alloc: Global, options: Options) -> Result<MemDisk, AllocError> {
     let failing = vec![in alloc; options.fail_disk]?;
-    let bytes = Vec::from_slice(alloc, found_bytes(options.found))?;
+    let bytes = if options.half == 0 {
+        Vec::from_slice(alloc, found_bytes(options.found))?
+    } else {
+        new_checkpoint(alloc, options.half)?
+    };
     MemDisk::new(alloc, bytes, failing)
 }
 
@@ -159,7 +176,7 @@ fn gate_of(options: Options) -> HoldGate {
     HoldGate::new(options.held, point, options.until, options.turns)
 }
 
-/// Replays a script over a disk, and returns the status and what became of the disk and the driver.
+/// Replays a script over a disk, and returns the disk, the status and what became of the disk and the driver.
 fn replay_over<R: AllocGlobal + Threads + Wait + Sync>(
     rt: &R,
     how: &ReplayOptions,
@@ -168,14 +185,15 @@ fn replay_over<R: AllocGlobal + Threads + Wait + Sync>(
     disk: MemDisk,
     driver: &mut MemDriver,
     gate: &HoldGate,
-) -> (Status, Result<String, AllocError>)
+) -> (MemDisk, Status, Result<String, AllocError>)
     requires workers { (0 < how.now.workers) × (how.now.workers ≤ 64) }
     requires entries { how.now.entries < 2 ^ 48 }
     requires attempts { 0 < how.now.attempts }
 {
     let found = disk.bytes().len();
     let (disk, status) = replay(rt, how, input, output, disk, driver, gate);
-    (status, node_text(rt.alloc(), status, &disk, driver, found))
+    let node = node_text(rt.alloc(), status, &disk, driver, found);
+    (disk, status, node)
 }
 
 /// Runs a script. A read returns at least one byte and a write takes at least one.
@@ -184,6 +202,16 @@ pub fn run_once<R: AllocGlobal + Threads + Wait + Sync>(
     script: &[u8],
     options: Options,
 ) -> Result<Outcome, AllocError> {
+    let (outcome, _disk) = run_on_disk(rt, script, options)?;
+    Ok(outcome)
+}
+
+/// Runs a script, and returns the disk too.
+pub fn run_on_disk<R: AllocGlobal + Threads + Wait + Sync>(
+    rt: &R,
+    script: &[u8],
+    options: Options,
+) -> Result<(Outcome, MemDisk), AllocError> {
     let alloc = rt.alloc();
     let takes = (options.takes as usize).max(1);
     let pieces = (options.pieces as usize).max(1);
@@ -195,12 +223,20 @@ pub fn run_once<R: AllocGlobal + Threads + Wait + Sync>(
     let mut input = Input::new(alloc, script, pieces, options.fail_read)?;
     let disk = disk_of(alloc, options)?;
     let gate = gate_of(options);
-    let (status, node) = replay_over(rt, &how, &mut input, &mut output, disk, &mut driver, &gate);
+    let (disk, status, node) = replay_over(
+        rt,
+        &how,
+        &mut input,
+        &mut output,
+        disk,
+        &mut driver,
+        &gate,
+    );
     let node = node?;
     let reads = input.reads;
     let read_faults = input.faults;
     let left = left_in(alloc, &mut input)?;
-    Ok(Outcome {
+    let outcome = Outcome {
         status,
         left,
         reads,
@@ -208,7 +244,8 @@ pub fn run_once<R: AllocGlobal + Threads + Wait + Sync>(
         gave_up: gate.gave_up(),
         output,
         node,
-    })
+    };
+    Ok((outcome, disk))
 }
 
 /// The exit status of the program `dra` and its name, with the offset or the count.
@@ -223,6 +260,7 @@ fn status_text(alloc: Global, status: Status) -> Result<String, AllocError> {
         Status::Disk => format!(in alloc; "7 disk"),
         Status::Limit(count) => format!(in alloc; "8 limit {count}"),
         Status::Checkpoint(at) => format!(in alloc; "10 checkpoint {at}"),
+        Status::Door => format!(in alloc; "9 door"),
     }
 }
 

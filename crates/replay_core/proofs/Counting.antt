@@ -13,7 +13,7 @@ abbrev pub StandLaw : Type 0
 StandLaw = (h : List Entry) (e : Entry) (job : ℕ) → job_state_of (h ++ e ∷ []) job ≡ cond (eqb e.job job) (job_state_after (job_state_of h job) (length h + 1) e.event) (job_state_of h job)
 
 -- whether one of the entries is the job's
-abbrev occurs : ℕ → List Entry → Bool
+abbrev pub occurs : ℕ → List Entry → Bool
 occurs job [] = false
 occurs job (e ∷ es) = cond (eqb e.job job) true (occurs job es)
 
@@ -70,7 +70,7 @@ neither true x o = absurd (cc)
 neither false x o = (refl, o)
 
 -- entries of other jobs leave the state of a job as it was
-absent : StandLaw → (before es : List Entry) (job : ℕ) → occurs job es ≡ false → job_state_of (before ++ es) job ≡ job_state_of before job
+pub absent : StandLaw → (before es : List Entry) (job : ℕ) → occurs job es ≡ false → job_state_of (before ++ es) job ≡ job_state_of before job
 absent law before [] job none = ap (λ (h : List Entry). job_state_of h job) (append-nil before)
 absent law before (e ∷ es) job none =
     let both = neither (eqb e.job job) (occurs job es) none in

@@ -9,7 +9,7 @@ use Rattle.doc_split.specs.Documents as documents
 use Rattle.doc_split.specs.Limits.{the_limits}
 use Rattle.doc_split.specs.Split.{Split, remaining}
 use Rattle.cluster.specs.declared.entry.Entry.{Entry}
-use Rattle.ledger_core.specs.Ledger.{History}
+use Rattle.job_crew.specs.Jobs.{History}
 use Rattle.journal_text.specs.Journal.{lines_from, summary_of}
 use Rattle.commands.specs.declared.given.Given.{Given}
 use Rattle.commands.specs.Readings.{reading}
@@ -172,6 +172,8 @@ checkpoint_command options offset left before now next found x y done at c old n
   ends = kubelet_command options left before now next found x y done at c old new s tells e.ended;
   no_journal = e.found.no_journal;
   opens = e.found.opens;
+  still = s.still;
+  as_found = s.untouched;
   unasked = e.found.unasked;
 }
 
@@ -209,6 +211,7 @@ command_stops options left left_now before now next found x y done at c old new 
     inl (full_command options left before now next found x y done at c old new n standing tells sound met)
 command_stops options left left_now before now next found x y done at c old new (status.Checkpoint offset) standing tells sound ended =
     checkpoint_command options offset left before now next found x y done at c old new standing tells ended
+command_stops options left left_now before now next found x y done at c old new status.Door standing tells sound stops = absurd stops
 
 -- a document whose commands aren't known
 unread_ends : (options : ReplayOptions) (left left_now before now next : Option (List ℕ)) (found x : Node) (done : List (ℕ × Given)) (at : ℕ) (document : List ℕ) (old : Work) (s : Status)
@@ -230,6 +233,7 @@ unread_ends options left left_now before now next found x done at document old s
 unread_ends options left left_now before now next found x done at document old status.Disk standing tells unread = absurd unread
 unread_ends options left left_now before now next found x done at document old (status.Limit n) standing tells unread = absurd unread
 unread_ends options left left_now before now next found x done at document old (status.Checkpoint index) standing tells unread = absurd unread
+unread_ends options left left_now before now next found x done at document old status.Door standing tells unread = absurd unread
 
 -- a document that wasn't done
 pub document_stops : (options : ReplayOptions) (left left_now before now next : Option (List ℕ)) (found x y : Node) (done : List (ℕ × Given)) (at : ℕ) (document : List ℕ) (old new : Work) (s : Status)
@@ -366,3 +370,4 @@ summary_ends options left left_now before now next found x done work status.Writ
 summary_ends options left left_now before now next found x done work status.Disk standing tells printed = absurd printed
 summary_ends options left left_now before now next found x done work (status.Limit n) standing tells printed = absurd printed
 summary_ends options left left_now before now next found x done work (status.Checkpoint at) standing tells printed = absurd printed
+summary_ends options left left_now before now next found x done work status.Door standing tells printed = absurd printed

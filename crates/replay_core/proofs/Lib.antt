@@ -16,3 +16,8 @@ pub mod StatesRead
 pub mod OneOfKubelet
 pub mod Asking
 pub mod Printing
+pub mod Causing
+pub mod Settling
+pub mod Numbers
+pub mod Printed
+pub mod Ends

@@ -7,7 +7,7 @@ use Rattle.dra_ports.specs.DiskContent.{Content}
 use Rattle.dra_ports.specs.declared.error.PortError.{PortError}
 use Rattle.dra_ports.specs.declared.error.PortError.TheVariants as port
 use Rattle.cluster.specs.declared.entry.Entry.{Entry}
-use Rattle.ledger_core.specs.Ledger.{History}
+use Rattle.job_crew.specs.Jobs.{History}
 use Rattle.commands.specs.declared.given.Given.{Given}
 use Rattle.commands.specs.declared.given.Given.TheVariants as given
 use Rattle.journal_text.specs.Journal.{lines_from}
@@ -141,3 +141,4 @@ jobs_stopped options c old new x before after status.Write not kept short = jobs
 jobs_stopped options c old new x before after status.Disk not kept stop = absurd stop
 jobs_stopped options c old new x before after (status.Limit n) not kept met = record { met = met.met; same = refl; printed = met.printed }
 jobs_stopped options c old new x before after (status.Checkpoint offset) not kept stop = absurd stop
+jobs_stopped options c old new x before after status.Door not kept stop = absurd stop

@@ -35,7 +35,7 @@ differ : (a b : ℕ) → eqb a b ≡ false → a ≡ b → ⊥
 differ a b apart same = let both : true ≡ false = sym (eq-eqb a b same) ∙ apart in absurd (cc)
 
 -- a number past n that isn't the next is past that
-past_next : (n job : ℕ) → n < job → eqb job (n + 1) ≡ false → n + 1 < job
+pub past_next : (n job : ℕ) → n < job → eqb job (n + 1) ≡ false → n + 1 < job
 past_next n job over apart = omega (arith, over, differ job (n + 1) apart)
 
 -- so does an entry of one of some jobs

@@ -70,7 +70,7 @@ pub was_closed : (x : Setting) (n : ℕ) (before segment : List Entry) (g : Give
 was_closed x n before segment g None shown shows none = refl
 was_closed x n before segment g (Some t) shown shows none = let o = stays_open x n before segment g t shown shows in let e : None ≡ Some o.0 = sym none ∙ o.1 in absurd (cc)
 
-run_stays_open : (x : Setting) (gs : List Given) (n : ℕ) (before after : List Entry) (t : Table) (shown : Shown) → ShowFrom x n before gs after (Some t) shown → (u : Table) × (shown.table ≡ Some u)
+pub run_stays_open : (x : Setting) (gs : List Given) (n : ℕ) (before after : List Entry) (t : Table) (shown : Shown) → ShowFrom x n before gs after (Some t) shown → (u : Table) × (shown.table ≡ Some u)
 unfolding ShowFrom
 run_stays_open x [] n before after t shown f = (t, ap (λ (s : Shown). s.table) f.1)
 run_stays_open x (g ∷ gs) n before after t shown f =

@@ -11,3 +11,5 @@ pub mod Lines
 pub mod Replay
 pub mod Progress
 pub mod Turns
+pub mod Causes
+pub mod Numbered

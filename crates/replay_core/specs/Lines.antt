@@ -6,7 +6,7 @@ use Rattle.dra_ports.specs.declared.error.PortError.{PortError}
 use Rattle.dra_ports.specs.declared.error.PortError.TheVariants as port
 use Rattle.doc_split.specs.declared.error.DocError.{DocError}
 use Rattle.doc_split.specs.declared.error.DocError.TheVariants as doc
-use Rattle.ledger_core.specs.Ledger.{History}
+use Rattle.job_crew.specs.Jobs.{History}
 use Rattle.journal_text.specs.Journal.{lines_from, summary_of}
 use Rattle.commands.specs.declared.given.Given.{Given}
 use Rattle.replay_core.specs.declared.options.ReplayOptions.{ReplayOptions}
@@ -165,6 +165,7 @@ JobsStop o c old new before after status.Write = JobsShort o c old new before af
 JobsStop o c old new before after status.Disk = ⊥
 JobsStop o c old new before after (status.Limit n) = MetPrintedAll o c old new before after n
 JobsStop o c old new before after (status.Checkpoint offset) = ⊥
+JobsStop o c old new before after status.Door = ⊥
 
 -- ---- a command
 
@@ -179,6 +180,7 @@ Stops o c old new x y before after status.Write = PrintedShort o c old new x y b
 Stops o c old new x y before after status.Disk = EndedByDisk c old new x y before after
 Stops o c old new x y before after (status.Limit n) = MetPrinted o c old new x y before after n
 Stops o c old new x y before after (status.Checkpoint offset) = EndedByBytes offset c old new x y before after
+Stops o c old new x y before after status.Door = ⊥
 
 -- how printing the summary ends
 abbrev pub Summarized : Work → Option (List ℕ) → Option (List ℕ) → Status → Type 0
@@ -191,3 +193,4 @@ Summarized work before after status.Write = AppendsPrefix before after (summary_
 Summarized work before after status.Disk = ⊥
 Summarized work before after (status.Limit count) = ⊥
 Summarized work before after (status.Checkpoint at) = ⊥
+Summarized work before after status.Door = ⊥

@@ -16,6 +16,7 @@ use Rattle.replay_core.specs.Kubelet.{AskedOn, IsShown, Node, node_with}
 use Rattle.dra_ports.specs.DiskContent.{Content}
 use Rattle.prepare_core.specs.declared.driver.DriverCall.{DriverCall}
 use Rattle.pod_prepare.specs.Opening.{IsRefusedDisk, Table}
+use Rattle.pod_prepare.specs.Words.{TellsStill}
 use Rattle.commands.specs.declared.given.Given.TheVariants.{Reopen}
 
 -- the history is legal, the run of the commands, and has at most so many entries
@@ -87,6 +88,9 @@ pub record EndsAtCheckpoint (options : ReplayOptions) (offset : ℕ) (left befor
   pub ends : EndsAtKubelet options left before after found now
   pub no_journal : IsRefusedDisk offset ends.between.table ends.between.content
   pub opens : (ends.between.table ≡ None) ⊎ (ends.command ≡ Reopen)
+  -- the disk still exposes its content if it did, and is as it was found where the kubelet wasn't open
+  pub still : TellsStill found.content ends.between.content
+  pub as_found : ends.between.table ≡ None → ends.between.content ≡ found.content
   -- all calls of the driver are those of the commands before
   pub unasked : now.calls ≡ ends.between.calls
 
@@ -168,6 +172,7 @@ Ends options left left_now before after found now status.Write = EndsShortAll op
 Ends options left left_now before after found now status.Disk = EndsAtKubelet options left before after found now
 Ends options left left_now before after found now (status.Limit count) = EndsFull options count left before after found now ⊎ ((count ≡ most_input) × EndsAt options Long left before after found now)
 Ends options left left_now before after found now (status.Checkpoint at) = EndsAtCheckpoint options at left before after found now
+Ends options left left_now before after found now status.Door = ⊥
 
 -- The same of a disk and a driver: as they were found the kubelet isn't open, and it is open or not when the run ends. The
 -- text, the calls and the table are said together, whatever the table is.

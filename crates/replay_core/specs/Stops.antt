@@ -1,6 +1,6 @@
 -- Why a command wasn't done, by what the ledger says.
-use Rattle.ledger_core.specs.declared.error.LedgerError.{LedgerError}
-use Rattle.ledger_core.specs.declared.error.LedgerError.TheVariants as error
+use Rattle.job_crew.specs.Jobs.{LedgerError}
+use Rattle.job_crew.specs.Jobs.ledger_error as error
 use Rattle.replay_core.specs.declared.stop.Stop.{Stop}
 use Rattle.replay_core.specs.declared.stop.Stop.TheVariants as stop
 

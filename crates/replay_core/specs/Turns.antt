@@ -52,6 +52,7 @@ Unread attempts at document before after status.Write = ⊥
 Unread attempts at document before after status.Disk = ⊥
 Unread attempts at document before after (status.Limit n) = ⊥
 Unread attempts at document before after (status.Checkpoint index) = ⊥
+Unread attempts at document before after status.Door = ⊥
 
 -- why a document wasn't done
 abbrev pub DocumentStops : ReplayOptions → ℕ → List ℕ → Work → Work → Node → Node → Option (List ℕ) → Option (List ℕ) → Status → Type 0

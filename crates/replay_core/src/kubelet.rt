@@ -13,7 +13,7 @@ ghost use Rattle.replay_core.specs.Kubelets.{kubelet_status};
 use crate::{ReplayOptions, Status};
 use commands::Given;
 use dra_ports::Disk;
-use ledger_core::Ledger;
+use job_crew::Ledger;
 use pod_prepare::LazyKubelet;
 use prepare_core::{Driver, KubeletError};
 use std::alloc::Global;

@@ -1,6 +1,7 @@
 //! Replays a script: reads its commands, does each as a job of a ledger, and prints what was decided.
 #![tactic(auto)]
 
+mod decided;
 mod jobs;
 mod kubelet;
 mod laws;
@@ -11,7 +12,11 @@ mod status;
 mod stop;
 mod work;
 
-pub use laws::{runs_are_complete, runs_search_within, single_commands_are_undisturbed};
+pub use decided::{runs_are_numbered, texts_determine_runs};
+pub use laws::{
+    endings_have_causes, runs_are_complete, runs_end_their_jobs, runs_search_within,
+    single_commands_are_undisturbed,
+};
 pub use options::ReplayOptions;
 pub use script::replay;
 pub use status::{Rejection, Status};

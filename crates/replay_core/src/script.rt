@@ -15,7 +15,7 @@ use crate::{Rejection, ReplayOptions, Status};
 use doc_split::{DocError, Splitter};
 use dra_ports::{Disk, Gate, Sink, Source};
 use histories::histories_grow;
-use ledger_core::Ledger;
+use job_crew::Ledger;
 use pod_prepare::LazyKubelet;
 use prepare_core::Driver;
 use std::alloc::Global;

@@ -35,4 +35,6 @@ pub enum Status {
     Limit(u64),
     /// The disk isn't empty, and its bytes are no checkpoint of a kubelet, from this offset on.
     Checkpoint(u64),
+    /// The doors of a server failed.
+    Door,
 }

@@ -1,12 +1,12 @@
 -- Rows as the columns fill them.
-use Rattle.std.proofs.Common.{ℕ, ◌+◌, ◌≡◌, List, [], ◌∷◌, ◌++◌, Bool, true, false, ◌||◌, cond, Option, None, Some, map, filter, length, refl, sym, ap, ◌∙◌}
-use Rattle.std.specs.List.{slice_get, list_any}
+use Rattle.std.proofs.Common.{ℕ, ◌+◌, ◌≡◌, List, [], ◌∷◌, ◌++◌, Bool, cond, Option, None, Some, map, filter, length, refl, sym, ap, ◌∙◌}
+use Rattle.std.specs.List.{slice_get}
 use Rattle.std.proofs.lemmas.Option.{slice_get-map}
 use Rattle.std.specs.Prelude.{option_map}
 use Rattle.walk.specs.Lists.{numbers}
 use Rattle.cel_value.specs.Device.{Device}
-use Rattle.selector_meaning.specs.Match.{match_from}
-use Rattle.selector_meaning.specs.declared.matching.Match.{Match}
+use Rattle.pool_view.specs.Names.{at_name}
+use Rattle.pool_view.specs.declared.matching.Match.{Match}
 use Rattle.api_cluster.specs.declared.types.DeviceClass.{DeviceClass}
 use Rattle.pool_view.specs.declared.stored.Stored.{Stored}
 use Rattle.pool_view.specs.Pools.{Offered}
@@ -14,50 +14,33 @@ use Rattle.request_rules.specs.Input.{SearchInput}
 use Rattle.request_rules.specs.Names.{result_name}
 use Rattle.request_rules.specs.Asked.{Asked, is_fault, is_yes, match_at, match_by, matching, meets}
 use Rattle.request_rows.specs.declared.rows.Row.{Row}
-use Rattle.request_rules.specs.Match.{ClassTable, match_class, matched_by, seen}
-use Rattle.request_rows.specs.Columns.{SelectionFields, cell, cell_by, class_selectors, columns_for, fault_from, has_any, has_selectors, match_got, match_in, parts_in, plain_by, plain_match, says, yes_from}
+use Rattle.request_rules.specs.Match.{ClassTable, match_class, matched_by}
+use Rattle.request_rows.specs.Columns.{cell, cell_by, columns_for, fault_from, match_got, match_in, parts_in, selectors_of, yes_from}
 use Rattle.request_rows.specs.Rows.{first_fault, row_by, row_for, rows_from}
 use Rattle.request_rows.specs.Taints.{if_tainted, tolerates_device}
+use Rattle.verdict_memo.specs.Selected.{device_in, says, says_by}
 use Rattle.request_rows.proofs.Lists.{get_seam, longer, map_map, moved}
-
--- ---- without selectors
-
-none_any : (ts : List (List ℕ)) → has_any ts ≡ false → ts ≡ []
-none_any [] e = refl
-none_any (t ∷ ts) e = absurd (cc)
-
-nor : (a b : Bool) → (a || b) ≡ false → (a ≡ false) × (b ≡ false)
-nor true b e = absurd (cc)
-nor false b e = (refl, e)
-
-plain_class : (d : Device) (c : Option (Stored DeviceClass)) (own : List (List ℕ)) → own ≡ [] → class_selectors c ≡ [] → plain_by c ≡ match_class c own d
-plain_class d None own e f = refl
-plain_class d (Some c) own e f =
-    sym (ap (λ (ts : List (List ℕ)). match_from d 0 (c.object.selectors ++ ts)) e ∙ ap (λ (ts : List (List ℕ)). match_from d 0 (ts ++ [])) f)
-
-plain_one : (d : Device) (s : SelectionFields) → has_selectors s ≡ false → plain_match s ≡ says d s
-plain_one d s e =
-    let h = nor (has_any s.own) (has_any (class_selectors s.class)) e in
-    plain_class d s.class s.own (none_any s.own h.0) (none_any (class_selectors s.class) h.1)
-
--- if there is no selector, nothing is evaluated
-pub plain : (d : Device) (ss : List SelectionFields) → false ≡ list_any has_selectors ss → map plain_match ss ≡ map (says d) ss
-plain d [] e = refl
-plain d (s ∷ ss) e =
-    let h = nor (has_selectors s) (list_any has_selectors ss) (sym e) in
-    ap (λ (m : Match). m ∷ map plain_match ss) (plain_one d s h.0)
-    ∙ ap (λ (ms : List Match). says d s ∷ ms) (plain d ss (sym h.1))
 
 -- ---- columns
 
 abbrev pub column_for : SearchInput → List Asked → Offered → List Match
 column_for w asks o = map (λ a. w.matched a.ask o) asks
 
+says_is : (d : Device) (c : Option (Stored DeviceClass)) (own : List (List ℕ)) → says_by (selectors_of c) own d ≡ match_class c own d
+says_is d None own = refl
+says_is d (Some c) own = refl
+
+column_is : (classes : ClassTable) (o : Offered) (asks : List Asked) → map (λ a. says (device_in o) (parts_in classes a)) asks ≡ map (λ (a : Asked). matched_by classes a.ask o) asks
+column_is classes o [] = refl
+column_is classes o (a ∷ asks) =
+    ap (λ (m : Match). m ∷ map (λ b. says (device_in o) (parts_in classes b)) asks) (says_is (device_in o) (at_name classes a.ask.class) a.ask.selectors)
+    ∙ ap (λ (ms : List Match). matched_by classes a.ask o ∷ ms) (column_is classes o asks)
+
 pub columns_are : (w : SearchInput) (classes : ClassTable) (asks : List Asked) (os : List Offered) → w.matched ≡ matched_by classes → columns_for classes asks os ≡ map (column_for w asks) os
 columns_are w classes asks [] e = refl
 columns_are w classes asks (o ∷ os) e =
     ap (λ (c : List Match). c ∷ columns_for classes asks os)
-    (map_map (says (seen o)) (parts_in classes) asks ∙ sym (ap (λ m. map (λ (a : Asked). m a.ask o) asks) e))
+    (map_map (says (device_in o)) (parts_in classes) asks ∙ column_is classes o asks ∙ sym (ap (λ m. map (λ (a : Asked). m a.ask o) asks) e))
     ∙ ap (λ (cs : List (List Match)). column_for w asks o ∷ cs) (columns_are w classes asks os e)
 
 pub in_column : (w : SearchInput) (asks : List Asked) (row : ℕ) (a : Asked) (o : Offered) → slice_get asks row ≡ Some a → match_in (column_for w asks o) row ≡ w.matched a.ask o

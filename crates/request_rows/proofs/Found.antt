@@ -3,8 +3,8 @@ use Rattle.std.proofs.Common.{ℕ, ◌+◌, ◌≡◌, List, [], ◌∷◌, ◌+
 use Rattle.std.specs.List.{slice_get}
 use Rattle.std.specs.Prelude.{option_map}
 use Rattle.walk.specs.Lists.{numbers}
-use Rattle.selector_meaning.specs.declared.matching.Match.{Match}
-use Rattle.selector_meaning.specs.declared.matching.Match.TheVariants as match
+use Rattle.pool_view.specs.declared.matching.Match.{Match}
+use Rattle.pool_view.specs.declared.matching.Match.TheVariants as match
 use Rattle.pool_view.specs.Pools.{Offered}
 use Rattle.request_rules.specs.Input.{SearchInput}
 use Rattle.request_rules.specs.Asked.{Asked, is_fault, match_at}

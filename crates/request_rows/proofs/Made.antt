@@ -3,7 +3,7 @@ use Rattle.std.proofs.Common.{ℕ, ◌<◌, ◌≡◌, List, [], Bool, cond, Opt
 use Rattle.std.specs.List.{list_any}
 use Rattle.std.specs.Prelude.{option_map}
 use Rattle.walk.specs.Walk as walks
-use Rattle.selector_meaning.specs.declared.matching.Match.{Match}
+use Rattle.pool_view.specs.declared.matching.Match.{Match}
 use Rattle.pool_view.specs.Pools.{Offered}
 use Rattle.request_rules.specs.Input.{SearchInput}
 use Rattle.request_rules.specs.Asked.{Asked, Wish, asked, slots, slots_for, ways_of, wishes, wishes_from}

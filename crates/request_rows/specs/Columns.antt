@@ -1,47 +1,28 @@
 -- What all ways evaluate to for a device.
-use Rattle.std.specs.Prelude.{ℕ, ◌+◌, List, [], ◌∷◌, Bool, true, false, ◌||◌, Option, None, Some, map, slice_get, if◌then◌else◌}
+use Rattle.std.specs.Prelude.{ℕ, ◌+◌, List, [], ◌∷◌, Option, None, Some, map, slice_get, if◌then◌else◌}
 use Rattle.api_cluster.specs.declared.types.DeviceClass.{DeviceClass}
-use Rattle.cel_value.specs.Device.{Device}
-use Rattle.selector_meaning.specs.declared.matching.Match.{Match}
-use Rattle.selector_meaning.specs.declared.matching.Match.TheVariants.{Yes, No}
+use Rattle.pool_view.specs.declared.matching.Match.{Match}
+use Rattle.pool_view.specs.declared.matching.Match.TheVariants.{No}
 use Rattle.pool_view.specs.declared.stored.Stored.{Stored}
 use Rattle.pool_view.specs.Names.{at_name}
 use Rattle.pool_view.specs.Pools.{Offered}
 use Rattle.request_rules.specs.Asked.{Asked, is_fault, is_yes}
-use Rattle.request_rules.specs.Match.{ClassTable, match_class, seen}
+use Rattle.request_rules.specs.Match.{ClassTable}
+use Rattle.verdict_memo.specs.Selected.{SelectionTexts, device_in, says}
+pub use Rattle.verdict_memo.specs.Selected.{has_any}
 
--- a class, if it exists, and a way's own selectors
-pub record SelectionFields : Type 0 where
-  pub class : Option (Stored DeviceClass)
-  pub own : List (List ℕ)
+-- the selectors of a class that exists
+abbrev pub selectors_of : Option (Stored DeviceClass) → Option (List (List ℕ))
+selectors_of None = None
+selectors_of (Some c) = Some c.object.selectors
 
-abbrev pub parts_in : ClassTable → Asked → SelectionFields
-parts_in classes a = record { class = at_name classes a.ask.class; own = a.ask.selectors }
-
-abbrev pub says : Device → SelectionFields → Match
-says device s = match_class s.class s.own device
+-- those of a way's class, and the way's own
+abbrev pub parts_in : ClassTable → Asked → SelectionTexts
+parts_in classes a = record { class = selectors_of (at_name classes a.ask.class); own = a.ask.selectors }
 
 -- what each way evaluates to for each device
 abbrev pub columns_for : ClassTable → List Asked → List Offered → List (List Match)
-columns_for classes asks devices = map (λ o. map (says (seen o)) (map (parts_in classes) asks)) devices
-
-abbrev pub class_selectors : Option (Stored DeviceClass) → List (List ℕ)
-class_selectors None = []
-class_selectors (Some c) = c.object.selectors
-
-abbrev pub has_any : List (List ℕ) → Bool
-has_any [] = false
-has_any (t ∷ ts) = true
-
-abbrev pub has_selectors : SelectionFields → Bool
-has_selectors s = has_any s.own || has_any (class_selectors s.class)
-
-abbrev pub plain_by : Option (Stored DeviceClass) → Match
-plain_by None = No
-plain_by (Some c) = Yes
-
-abbrev pub plain_match : SelectionFields → Match
-plain_match s = plain_by s.class
+columns_for classes asks devices = map (λ o. map (says (device_in o)) (map (parts_in classes) asks)) devices
 
 -- ---- a row in the columns
 

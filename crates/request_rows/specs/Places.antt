@@ -1,7 +1,7 @@
 -- The locations of evaluation errors, by rows.
 use Rattle.std.specs.Prelude.{ℕ, List, Option, None, Some, slice_get}
-use Rattle.selector_meaning.specs.declared.matching.Match.{Match}
-use Rattle.selector_meaning.specs.declared.matching.Match.TheVariants.{Yes, No, Fault}
+use Rattle.pool_view.specs.declared.matching.Match.{Match}
+use Rattle.pool_view.specs.declared.matching.Match.TheVariants.{Yes, No, Fault}
 use Rattle.pool_view.specs.Pools.{Offered, id_in}
 use Rattle.request_rows.specs.declared.fault.FaultPlace.{FaultPlace}
 use Rattle.request_rows.specs.declared.rows.Row.{Row}

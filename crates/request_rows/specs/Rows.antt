@@ -1,7 +1,7 @@
 -- Rows and what they evaluate to.
 use Rattle.std.specs.Prelude.{ℕ, ◌+◌, ◌≡◌, List, [], ◌∷◌, Option, find, map, length}
 use Rattle.walk.specs.Lists.{numbers}
-use Rattle.selector_meaning.specs.declared.matching.Match.{Match}
+use Rattle.pool_view.specs.declared.matching.Match.{Match}
 use Rattle.request_rules.specs.Input.{SearchInput}
 use Rattle.request_rules.specs.Names.{result_name}
 use Rattle.pool_view.specs.Pools.{Offered}

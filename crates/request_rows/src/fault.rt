@@ -7,8 +7,7 @@ ghost use Rattle.request_rows.specs.Places.{place_by, place_in, place_of, place_
 use crate::rows::{Row, cell};
 use dra_values::{Seq, Text};
 use object_fields::{DeviceId, Key};
-use pool_view::DeviceRef;
-use selector_meaning::{Cause, Match};
+use pool_view::{Cause, DeviceRef, Match};
 use std::alloc::{AllocError, Global};
 
 /// Where a selector is neither true nor false of a device of a node.

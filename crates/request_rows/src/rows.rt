@@ -1,7 +1,7 @@
 ghost use Rattle.std.specs.Prelude.{◌≡◌, ◌<◌, ◌++◌, codes, length, map, option_copied, option_map, IfOk};
 ghost use Rattle.request_rules.specs.Names.{name_by};
 ghost use Rattle.request_rules.specs.Asked.{is_fault, is_yes, match_at, meets, options, tolerated_at};
-ghost use Rattle.request_rows.specs.Columns.{cell, columns_for, fault_from, match_got, match_in, yes_from};
+ghost use Rattle.request_rows.specs.Columns.{cell, fault_from, match_got, match_in, yes_from};
 ghost use Rattle.request_rows.specs.Rows.{row_by, row_for, rows_from};
 ghost use Rattle.request_rules.specs.Faults.{fault_of};
 ghost use Rattle.request_rules.specs.Lists.{Each};
@@ -11,7 +11,7 @@ ghost use Rattle.request_rows.specs.Wanted.{input_of};
 ghost use Rattle.request_rules.specs.Ways.{all_asked, asked_at};
 
 use crate::choice::{Choice, choice_of, chosen_rows};
-use crate::columns::{columns_of, selections_of};
+use crate::columns::columns_for;
 use crate::fault::{FaultPlace, first_place};
 use crate::taints::{flag_at, tainted_devices, tolerated_of};
 use crate::wants::Wants;
@@ -19,10 +19,10 @@ use crate::ways::{RequestRows, Way, options_of, request_rows_of, ways_of, wishes
 use api_claim::AllocationMode;
 use dra_values::{Seq, Text};
 use object_fields::Key;
-use pool_view::DeviceRef;
-use selector_meaning::Match;
+use pool_view::{DeviceRef, Match};
 use std::alloc::{AllocError, Global};
 use std::marker::Model;
+use verdict_memo::Verdicts;
 
 /// What one way to meet a request asks of the devices of a node.
 #[derive(Drop)]
@@ -167,18 +167,6 @@ fn rows_of(
     Ok(rows)
 }
 
-fn columns_for(
-    alloc: Global,
-    wants: &Wants,
-    ways: &[Way],
-    devices: &[DeviceRef],
-) -> Result<Seq<Seq<Match>>, AllocError>
-    ensures { IfOk result (λ columns. columns ≡ columns_for wants.now.classes ways.now devices.now) }
-{
-    let selections = selections_of(alloc, wants.classes, ways)?;
-    columns_of(alloc, &selections, devices)
-}
-
 /// What claims ask of the devices of a node, computed once: a row for each way to meet each of
 /// their requests (`exactly`, or a subrequest), in order.
 ///
@@ -220,11 +208,25 @@ impl<'a> Rows<'a> {
     ) -> Result<Rows<'a>, AllocError>
         ensures { IfOk result (λ rows. rows ≡ record { wants = wants.now; devices = devices.now; broken = broken }) }
     {
+        let mut verdicts = Verdicts::forgetful(alloc);
+        Rows::with(alloc, wants, devices, broken, &mut verdicts)
+    }
+
+    /// The same, with what is remembered of selectors and devices: a selector that is known on a device isn't tried.
+    pub fn with(
+        alloc: Global,
+        wants: &'a Wants<'a>,
+        devices: &'a [DeviceRef<'a>],
+        broken: bool,
+        verdicts: &mut Verdicts,
+    ) -> Result<Rows<'a>, AllocError>
+        ensures { IfOk result (λ rows. rows ≡ record { wants = wants.now; devices = devices.now; broken = broken }) }
+    {
         let wishes = wishes_of(alloc, &wants.claims)?;
         let options = options_of(alloc, &wishes)?;
         let requests = request_rows_of(alloc, &wishes)?;
         let ways = ways_of(alloc, &wishes)?;
-        let columns = columns_for(alloc, wants, &ways, devices)?;
+        let columns = columns_for(alloc, wants, &ways, devices, verdicts)?;
         let tainted = tainted_devices(devices);
         let rows = rows_of(alloc, &ways, columns.as_slice(), tainted)?;
         Ok(Rows {

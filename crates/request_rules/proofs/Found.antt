@@ -3,9 +3,9 @@ use Rattle.std.proofs.Common.{◌≡◌, ℕ, zero, suc, List, [], ◌∷◌, �
 use Rattle.std.specs.List.{Contains, list_any}
 use Rattle.std.specs.Option.{IsSome}
 use Rattle.walk.specs.Walk.{Faulty, Hopeless, Open}
-use Rattle.selector_meaning.specs.declared.matching.Match.{Match}
-use Rattle.selector_meaning.specs.declared.matching.Match.TheVariants.{Yes, No, Fault}
-use Rattle.selector_meaning.specs.declared.verdict.Cause.{Cause}
+use Rattle.pool_view.specs.declared.matching.Match.{Match}
+use Rattle.pool_view.specs.declared.matching.Match.TheVariants.{Yes, No, Fault}
+use Rattle.pool_view.specs.declared.verdict.Cause.{Cause}
 use Rattle.pool_view.specs.Pools.{Offered, id_in}
 use Rattle.request_rules.specs.Lists.{first_some, or_else}
 use Rattle.request_rules.specs.Names.{result_name}

@@ -12,7 +12,7 @@ use Rattle.api_slice.specs.declared.types.ResourceSlice.{ResourceSlice}
 use Rattle.pool_view.specs.declared.stored.Stored.{Stored}
 use Rattle.pool_view.specs.Names.{at_name, text_eq}
 use Rattle.pool_view.specs.Pools.{Offered, id_in, offered_by}
-use Rattle.selector_meaning.specs.Match.{match_from}
+use Rattle.pool_view.specs.Match.{match_from}
 use Rattle.request_rules.specs.Draws.{CounterId, Draw, counter_eq, counter_for, drawn, drawn_at as drawn_by_one, drawn_by, drawn_from, draws_from, draws_of, held_devices, held_in, is_held, natural}
 use Rattle.request_rules.specs.Growth.{IsOfPool, class_selectors}
 use Rattle.request_rules.specs.Lists.{Each}

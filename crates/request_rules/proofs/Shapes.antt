@@ -5,12 +5,12 @@ use Rattle.std.proofs.lemmas.List.Sums.{sum_by-cons}
 use Rattle.std.proofs.lemmas.Bool.Decides.{nat_tests}
 use Rattle.walk.specs.Lists.{numbers}
 use Rattle.walk.specs.Walk.{Faulty, Hopeless, Open}
-use Rattle.selector_meaning.specs.declared.matching.Match.{Match}
-use Rattle.selector_meaning.specs.declared.matching.Match.TheVariants.{Yes, No, Fault}
+use Rattle.pool_view.specs.declared.matching.Match.{Match}
+use Rattle.pool_view.specs.declared.matching.Match.TheVariants.{Yes, No, Fault}
 use Rattle.api_claim.specs.declared.types.AllocationMode.{AllocationMode}
 use Rattle.api_claim.specs.declared.types.AllocationMode.TheVariants.{ExactCount, All}
 use Rattle.request_rules.specs.Input.{SearchInput}
-use Rattle.selector_meaning.specs.declared.verdict.Cause.{Cause}
+use Rattle.pool_view.specs.declared.verdict.Cause.{Cause}
 use Rattle.request_rules.specs.Asked.{Asked, Slot, is_fault, matching}
 use Rattle.request_rules.specs.Faults.{GivesNone}
 use Rattle.request_rules.specs.Rules.{picks}

@@ -5,7 +5,7 @@ use Rattle.walk.specs.Walk.{IsChoice}
 use Rattle.object_fields.specs.declared.key.DeviceId.{DeviceId}
 use Rattle.object_fields.specs.declared.key.Key.{Key}
 use Rattle.api_claim.specs.declared.types.AllocationMode.TheVariants.{ExactCount, All}
-use Rattle.selector_meaning.specs.declared.matching.Match.TheVariants.{Yes}
+use Rattle.pool_view.specs.declared.matching.Match.TheVariants.{Yes}
 use Rattle.device_taints.specs.Tolerating.{IsTolerated}
 use Rattle.device_taints.specs.declared.types.Taint.{Taint}
 use Rattle.pool_view.specs.Pools.{Offered}

@@ -12,8 +12,8 @@ use Rattle.api_claim.specs.declared.types.DeviceSubRequest.{DeviceSubRequest}
 use Rattle.api_claim.specs.declared.types.RequestKind.{RequestKind}
 use Rattle.api_claim.specs.declared.types.RequestKind.TheVariants.{Exactly, FirstAvailable}
 use Rattle.api_claim.specs.declared.types.ResourceClaim.{ResourceClaim}
-use Rattle.selector_meaning.specs.declared.matching.Match.{Match}
-use Rattle.selector_meaning.specs.declared.matching.Match.TheVariants.{Yes, No, Fault}
+use Rattle.pool_view.specs.declared.matching.Match.{Match}
+use Rattle.pool_view.specs.declared.matching.Match.TheVariants.{Yes, No, Fault}
 use Rattle.device_taints.specs.Tolerating.{are_tolerated}
 use Rattle.pool_view.specs.Pools.{Offered}
 use Rattle.request_rules.specs.Lists.{add_some}

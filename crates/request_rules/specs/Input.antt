@@ -4,7 +4,7 @@ use Rattle.object_fields.specs.declared.key.DeviceId.{DeviceId}
 use Rattle.object_fields.specs.declared.key.Key.{Key}
 use Rattle.api_claim.specs.declared.types.DeviceAsk.{DeviceAsk}
 use Rattle.api_claim.specs.declared.types.ResourceClaim.{ResourceClaim}
-use Rattle.selector_meaning.specs.declared.matching.Match.{Match}
+use Rattle.pool_view.specs.declared.matching.Match.{Match}
 use Rattle.pool_view.specs.Pools.{Offered}
 use Rattle.request_rules.specs.Draws.{CounterId}
 

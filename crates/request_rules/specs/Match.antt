@@ -3,10 +3,10 @@ use Rattle.std.specs.Prelude.{ℕ, List, ◌++◌, Option, None, Some}
 use Rattle.api_claim.specs.declared.types.DeviceAsk.{DeviceAsk}
 use Rattle.api_cluster.specs.declared.types.DeviceClass.{DeviceClass}
 use Rattle.cel_value.specs.Device.{Device}
-use Rattle.selector_meaning.specs.declared.matching.Match.{Match}
-use Rattle.selector_meaning.specs.declared.matching.Match.TheVariants.{No}
-use Rattle.selector_meaning.specs.Devices.{device_of}
-use Rattle.selector_meaning.specs.Match.{match_from}
+use Rattle.pool_view.specs.declared.matching.Match.{Match}
+use Rattle.pool_view.specs.declared.matching.Match.TheVariants.{No}
+use Rattle.pool_view.specs.Devices.{device_of}
+use Rattle.pool_view.specs.Match.{match_from}
 use Rattle.pool_view.specs.declared.stored.Stored.{Stored}
 use Rattle.pool_view.specs.Names.{at_name}
 use Rattle.pool_view.specs.Pools.{Offered}

@@ -19,3 +19,5 @@ pub mod Sharing
 pub mod Earlier
 pub mod Taking
 mod Setting
+pub mod Knowing
+pub mod Sends

@@ -5,3 +5,4 @@ pub mod Turns
 pub mod Complete
 pub mod Owned
 pub mod Going
+pub mod Ledgers

@@ -1,10 +1,10 @@
 -- Many works over one history, one step at a time.
-use Rattle.std.specs.Prelude.{Some, IsSome, slice_get, slice_set, ◌+◌, ℕ, ◌≡◌, ◌<◌, true, false, List, [], ◌∷◌, ◌++◌, nat_eq}
+use Rattle.std.specs.Prelude.{Some, IsSome, slice_get, slice_set, ◌+◌, ℕ, ◌≡◌, ◌<◌, true, false, List, [], ◌∷◌, ◌++◌, length, nat_eq}
 use Rattle.std.specs.List.{list_any}
 use Rattle.object_fields.specs.declared.key.Key.{Key}
 use Rattle.cluster.specs.declared.entry.Entry.{Entry}
 use Rattle.cluster.specs.declared.entry.JobState.TheVariants as job_state
-use Rattle.cluster.specs.History.{job_state_of}
+use Rattle.cluster.specs.History.{job_state_of, state_of}
 use Rattle.pod_decision.specs.declared.decision.Decision.{Decision}
 use Rattle.pod_decision.specs.Decisions.{IsDecision}
 use Rattle.plan_rules.specs.Idle.{is_idle_pod}
@@ -45,6 +45,17 @@ Thought budget (Delete target) stage made = made ≡ stage
 Thought budget (Schedule pod attempts) stage made = ThoughtOf budget pod stage made
 Thought budget (Release pod) stage made = made ≡ stage
 Thought budget (Adopt claim status) stage made = made ≡ stage
+
+-- the snapshot is of the state after these entries
+pub record IsNow (h : List Entry) (seen : Snapshot) : Type 0 where
+  pub at : seen.at ≡ length h
+  pub state : seen.state ≡ state_of h
+
+-- so it is, if a search is next
+abbrev pub IsPresent : List Entry → Stage → Type 0
+IsPresent h Ready = Unit {0}
+IsPresent h (Seen seen) = IsNow h seen
+IsPresent h (Chosen choice) = Unit {0}
 
 -- ---- steps
 

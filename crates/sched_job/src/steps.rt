@@ -9,7 +9,6 @@ ghost use Rattle.sched_job.specs.Steps.{jobs_of, Differ, Extends, AllNew, AllFit
 
 use crate::{Next, Work, runs_go_on};
 use cluster::JobState;
-use dra_ports::OpenGate;
 use ledger_core::{Ledger, LedgerError};
 use std::alloc::Global;
 
@@ -50,7 +49,7 @@ pub fn go(
         return Ok(0);
     }
     match work.turn(alloc, ledger)? {
-        Next::Think => work.think(alloc, &OpenGate, budget)?,
+        Next::Think => work.think_over(alloc, ledger, budget)?,
         Next::Again | Next::Ended(_) => (),
     }
     Ok(1)

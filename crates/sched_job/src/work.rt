@@ -1,11 +1,13 @@
-ghost use Rattle.std.specs.Prelude.{◌≡◌, ◌≤◌, ℕ, List, length, IfOk, OnOk, OnErr, IsErrOf, IsSome};
+ghost use Rattle.std.specs.Prelude.{◌≡◌, ◌≤◌, ℕ, List, length, true, IfOk, OnOk, OnErr, IsErrOf, IsSome};
 ghost use Rattle.cluster.specs.declared.entry.Entry.{Entry};
 ghost use Rattle.cluster.specs.History.{job_state_of};
 ghost use Rattle.histories.specs.Legal.{Legal};
 ghost use Rattle.sched_job.specs.Moves.{answer, moved, move_of, stage_after, Fits};
 ghost use Rattle.sched_job.specs.Runs.{Running, IsStaged};
 ghost use Rattle.histories.specs.JobRuns.{Run};
-ghost use Rattle.sched_job.specs.Steps.{IsSearched, Thought, ThoughtOf};
+ghost use Rattle.pod_decision.specs.Decisions.{IsDecision};
+ghost use Rattle.plan_rules.specs.Idle.{is_idle_pod};
+ghost use Rattle.sched_job.specs.Steps.{IsNow, IsPresent, IsSearched, Thought, ThoughtOf};
 
 use crate::turns::step;
 use cluster::JobState;
@@ -14,7 +16,7 @@ use dra_ports::{Gate, Point};
 use histories::{histories_grow, legal_steps};
 use ledger_core::{Ledger, LedgerError, Snapshot};
 use object_fields::Key;
-use pod_decision::{Decision, decide, may_schedule};
+use pod_decision::{Decision, decide, decide_with, may_schedule};
 use std::alloc::{AllocError, Global};
 use std::mem;
 
@@ -102,6 +104,26 @@ impl Work {
         gate.reached(self.job, Point::Searched);
         Ok(())
     }
+
+    /// Makes the search that is next over a snapshot of the present state, as `think` does, with what the ledger
+    /// remembers of nodes without an allocation. It calls no gate. `AllocError` only if memory runs out.
+    pub fn think_over(
+        &mut self,
+        alloc: Global,
+        ledger: &mut Ledger,
+        budget: u64,
+    ) -> Result<(), AllocError>
+        requires { IsPresent ledger.old.entries self.old.stage }
+        ensures ledger { ledger.new ≡ ledger.old }
+        ensures job { self.new.job ≡ self.old.job }
+        ensures command { self.new.command ≡ self.old.command }
+        ensures thought { OnOk result (Thought budget self.old.command self.old.stage self.new.stage) }
+        ensures running { (c : Run) (h : List Entry) → c.budget ≡ budget → Running c h self.old → Running c h self.new }
+    {
+        let stage = mem::replace(&mut self.stage, Stage::Ready);
+        self.stage = thought_over(alloc, ledger, &self.command, stage, budget)?;
+        Ok(())
+    }
 }
 
 fn answer(job_state: JobState, stage: &Stage) -> Next
@@ -157,4 +179,91 @@ fn choose(alloc: Global, pod: &Key, snapshot: &Snapshot, budget: u64) -> Result<
     } else {
         Ok(Stage::Ready)
     }
+}
+
+fn thought_over(
+    alloc: Global,
+    ledger: &mut Ledger,
+    command: &Command,
+    stage: Stage,
+    budget: u64,
+) -> Result<Stage, AllocError>
+    requires { IsPresent ledger.old.entries stage }
+    ensures thought { IfOk result (λ made. Thought budget command.now stage made) }
+    ensures ledger { ledger.new ≡ ledger.old }
+{
+    match command {
+        Command::Schedule(pod, _) => searched_over(alloc, ledger, pod, stage, budget),
+        Command::Apply(..)
+        | Command::Invalid(_)
+        | Command::Delete(_)
+        | Command::Release(_)
+        | Command::Adopt(..) => Ok(stage),
+    }
+}
+
+fn searched_over(
+    alloc: Global,
+    ledger: &mut Ledger,
+    pod: &Key,
+    stage: Stage,
+    budget: u64,
+) -> Result<Stage, AllocError>
+    requires { IsPresent ledger.old.entries stage }
+    ensures thought { IfOk result (λ made. ThoughtOf budget pod.now stage made) }
+    ensures ledger { ledger.new ≡ ledger.old }
+{
+    match stage {
+        Stage::Seen(snapshot) => choose_over(alloc, ledger, pod, &snapshot, budget),
+        Stage::Ready | Stage::Chosen(_) => Ok(stage),
+    }
+}
+
+/// Decides on a pod over a snapshot of the present state, if the pod is there and Idle.
+fn choose_over(
+    alloc: Global,
+    ledger: &mut Ledger,
+    pod: &Key,
+    snapshot: &Snapshot,
+    budget: u64,
+) -> Result<Stage, AllocError>
+    requires { IsNow ledger.old.entries snapshot.now }
+    ensures searched { IfOk result (IsSearched snapshot.now pod.now budget) }
+    ensures ledger { ledger.new ≡ ledger.old }
+{
+    if may_schedule(snapshot.state(), pod) {
+        let decision = decide_over(alloc, ledger, pod, snapshot, budget)?;
+        Ok(Stage::Chosen(decision))
+    } else {
+        Ok(Stage::Ready)
+    }
+}
+
+/// Decides on a pod, that is there and Idle, with what the ledger remembers, which then remembers more.
+fn decide_over(
+    alloc: Global,
+    ledger: &mut Ledger,
+    pod: &Key,
+    snapshot: &Snapshot,
+    budget: u64,
+) -> Result<Decision, AllocError>
+    requires now { IsNow ledger.old.entries snapshot.now }
+    requires idle { is_idle_pod snapshot.now.state pod.now ≡ true }
+    ensures decision { IfOk result (IsDecision snapshot.now.state pod.now budget snapshot.now.at) }
+    ensures ledger { ledger.new ≡ ledger.old }
+{
+    let mut memo = ledger.take_memo(alloc);
+    let decision = decide_with(
+        alloc,
+        snapshot.state(),
+        snapshot.holders(),
+        snapshot.totals(),
+        pod,
+        snapshot.at(),
+        budget,
+        ledger.dates(),
+        &mut memo,
+    );
+    ledger.put_memo(memo);
+    decision
 }

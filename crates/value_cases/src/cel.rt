@@ -1,5 +1,5 @@
-use crate::input::{CaseError, item, items, number_at, text, text_at};
-use crate::shown::displayed;
+use crate::input::{CaseError, item, items, text, text_at};
+use crate::shown::{Out, done, put};
 use cel_tree::{BinaryOp, Called, Facet, Function, Literal, UnaryOp, called_of};
 use cel_value::{
     DeviceEnv, EvalError, Key, Single, Value, Version, binary, call, constant, device_member,
@@ -8,73 +8,56 @@ use cel_value::{
 use dra_values::{Seq, Table, Text};
 use quantity::Quantity;
 use serde_json::Value as Json;
-use std::alloc::{AllocError, Global};
+use std::alloc::Global;
 use std::fmt::Debug;
 
 /// An operation of the selector language on values, some of which no expression that checks leads to.
 pub fn answer(
     alloc: Global,
+    out: &mut Out,
     device: &DeviceEnv,
     word: &str,
     input: &Json,
-) -> Result<String, CaseError> {
+) -> Result<(), CaseError> {
     match word {
-        "unary" => of_unary(alloc, text_at(input, 0)?, item(input, 1)?),
-        "binary" => of_binary(
-            alloc,
-            device,
-            text_at(input, 0)?,
-            item(input, 1)?,
-            item(input, 2)?,
-        ),
-        "call" => of_call(alloc, device, text_at(input, 0)?, item(input, 1)?),
-        "method" => of_method(
-            alloc,
-            device,
-            text_at(input, 0)?,
-            item(input, 1)?,
-            item(input, 2)?,
-        ),
-        "index" => of_index(alloc, device, item(input, 0)?, item(input, 1)?),
-        "member" => of_member(alloc, device, item(input, 0)?, text_at(input, 1)?),
-        "has" => of_has(alloc, device, item(input, 0)?, text_at(input, 1)?),
-        "device" => shown(alloc, device_member(alloc, device, text(input)?)),
-        _ => of_value(alloc, device, word, input),
+        "unary" => of_unary(alloc, out, input),
+        "binary" => of_binary(alloc, out, device, input),
+        "call" => of_call(alloc, out, device, input),
+        "method" => of_method(alloc, out, device, input),
+        "index" => of_index(alloc, out, device, input),
+        "member" => of_member(alloc, out, device, input),
+        "has" => of_has(alloc, out, device, input),
+        "device" => of_device(alloc, out, device, input),
+        _ => of_one(alloc, out, device, word, input),
     }
 }
 
 /// What there is of one value.
-fn of_value(
+fn of_one(
     alloc: Global,
+    out: &mut Out,
     device: &DeviceEnv,
     word: &str,
     input: &Json,
-) -> Result<String, CaseError> {
+) -> Result<(), CaseError> {
     match word {
-        "elements" => of_elements(alloc, device, input),
-        "single" => of_single(alloc, input),
-        "key" => of_key(alloc, input),
-        "truth" => of_truth(alloc, input),
-        "weight" => of_weight(alloc, input),
-        "literal" => of_literal(alloc, input),
+        "elements" => of_elements(alloc, out, device, input),
+        "single" => of_single(alloc, out, input),
+        "key" => of_key(alloc, out, input),
+        "truth" => of_truth(alloc, out, input),
+        "weight" => of_weight(alloc, out, input),
+        "literal" => of_literal(alloc, out, input),
         _ => Err(CaseError::BadCase),
     }
 }
 
-// ---- results as text
-
-fn debug_text<T: Debug>(alloc: Global, value: &T) -> Result<String, CaseError> {
-    Ok(format!(in alloc; "{value:?}")?)
-}
-
-fn shown<T: Debug + Drop>(
-    alloc: Global,
-    answer: Result<T, EvalError>,
-) -> Result<String, CaseError> {
+/// Appends what an operation returns.
+fn shown<T: Debug + Drop>(out: &mut Out, answer: Result<T, EvalError>) -> Result<(), CaseError> {
     match answer {
-        Ok(value) => debug_text(alloc, &value),
-        Err(error) => debug_text(alloc, &error),
+        Ok(value) => out.debug(&value),
+        Err(error) => out.debug(&error),
     }
+    Ok(())
 }
 
 fn unary_op(op: &str) -> Result<UnaryOp, CaseError> {
@@ -85,186 +68,193 @@ fn unary_op(op: &str) -> Result<UnaryOp, CaseError> {
     }
 }
 
-fn of_unary(alloc: Global, op: &str, operand: &Json) -> Result<String, CaseError> {
-    let op = unary_op(op)?;
-    let operand = value(alloc, operand)?;
-    shown(alloc, unary(op, &operand))
+fn of_unary(alloc: Global, out: &mut Out, input: &Json) -> Result<(), CaseError> {
+    let op = unary_op(text_at(input, 0)?)?;
+    let operand = value(alloc, item(input, 1)?)?;
+    shown(out, unary(op, &operand))
 }
 
 /// The operator on a value and each of a list of others, the results one after another.
 fn of_binary(
     alloc: Global,
+    out: &mut Out,
     device: &DeviceEnv,
-    op: &str,
-    left: &Json,
-    rights: &Json,
-) -> Result<String, CaseError> {
-    let op = operator(op)?;
-    let rights = items(rights)?;
-    let left = value(alloc, left)?;
-    binaries(alloc, device, op, &left, rights)
+    input: &Json,
+) -> Result<(), CaseError> {
+    let op = operator(text_at(input, 0)?)?;
+    let rights = items(item(input, 2)?)?;
+    let left = value(alloc, item(input, 1)?)?;
+    binaries(alloc, out, device, op, &left, rights)
 }
 
 fn binaries(
     alloc: Global,
+    out: &mut Out,
     device: &DeviceEnv,
     op: BinaryOp,
     left: &Value,
     rights: &[Json],
-) -> Result<String, CaseError> {
-    let mut out = String::new(alloc);
+) -> Result<(), CaseError> {
     for right in rights {
-        push_binary(alloc, device, op, left, right, &mut out)?;
+        push_bar(out);
+        push_binary(alloc, out, device, op, left, right)?;
     }
-    Ok(out)
+    Ok(())
 }
 
 fn push_binary(
     alloc: Global,
+    out: &mut Out,
     device: &DeviceEnv,
     op: BinaryOp,
     left: &Value,
     right: &Json,
-    out: &mut String,
 ) -> Result<(), CaseError> {
     let right = value(alloc, right)?;
-    push_answer(alloc, binary(alloc, device, op, left, &right), out)
+    shown(out, binary(alloc, device, op, left, &right))
 }
 
-fn push_answer(
-    alloc: Global,
-    answer: Result<Value, EvalError>,
-    out: &mut String,
-) -> Result<(), CaseError> {
-    let text = shown(alloc, answer)?;
-    push_part(out, text.as_str())
-}
-
-fn push_part(out: &mut String, part: &str) -> Result<(), CaseError> {
+/// What comes between two results.
+pub fn push_bar(out: &mut Out) {
     if !out.is_empty() {
-        out.push_str(" | ")?;
+        out.say(" | ");
     }
-    out.push_str(part)?;
-    Ok(())
 }
 
 fn of_call(
     alloc: Global,
+    out: &mut Out,
     device: &DeviceEnv,
-    name: &str,
-    arguments: &Json,
-) -> Result<String, CaseError> {
-    let function = function(name)?;
-    let arguments = values(alloc, arguments)?;
-    shown(alloc, call(alloc, device, function, &arguments))
+    input: &Json,
+) -> Result<(), CaseError> {
+    let function = function(text_at(input, 0)?)?;
+    let arguments = values(alloc, item(input, 1)?)?;
+    shown(out, call(alloc, device, function, &arguments))
 }
 
 fn of_method(
     alloc: Global,
+    out: &mut Out,
     device: &DeviceEnv,
-    name: &str,
-    object: &Json,
-    arguments: &Json,
-) -> Result<String, CaseError> {
-    let function = function(name)?;
-    let object = value(alloc, object)?;
-    method_of(alloc, device, function, &object, arguments)
+    input: &Json,
+) -> Result<(), CaseError> {
+    let function = function(text_at(input, 0)?)?;
+    let object = value(alloc, item(input, 1)?)?;
+    method_of(alloc, out, device, function, &object, item(input, 2)?)
 }
 
 fn method_of(
     alloc: Global,
+    out: &mut Out,
     device: &DeviceEnv,
     function: Function,
     object: &Value,
     arguments: &Json,
-) -> Result<String, CaseError> {
+) -> Result<(), CaseError> {
     let arguments = values(alloc, arguments)?;
-    shown(alloc, method(alloc, device, function, object, &arguments))
+    shown(out, method(alloc, device, function, object, &arguments))
 }
 
 /// The index of a value by each of a list of others, the results one after another.
 fn of_index(
     alloc: Global,
+    out: &mut Out,
     device: &DeviceEnv,
-    object: &Json,
-    parts: &Json,
-) -> Result<String, CaseError> {
-    let parts = items(parts)?;
-    let object = value(alloc, object)?;
-    indexes(alloc, device, &object, parts)
+    input: &Json,
+) -> Result<(), CaseError> {
+    let parts = items(item(input, 1)?)?;
+    let object = value(alloc, item(input, 0)?)?;
+    indexes(alloc, out, device, &object, parts)
 }
 
 fn indexes(
     alloc: Global,
+    out: &mut Out,
     device: &DeviceEnv,
     object: &Value,
     parts: &[Json],
-) -> Result<String, CaseError> {
-    let mut out = String::new(alloc);
+) -> Result<(), CaseError> {
     for part in parts {
-        push_index(alloc, device, object, part, &mut out)?;
+        push_bar(out);
+        push_index(alloc, out, device, object, part)?;
     }
-    Ok(out)
+    Ok(())
 }
 
 fn push_index(
     alloc: Global,
+    out: &mut Out,
     device: &DeviceEnv,
     object: &Value,
     part: &Json,
-    out: &mut String,
 ) -> Result<(), CaseError> {
     let part = value(alloc, part)?;
-    push_answer(alloc, index(alloc, device, object, &part), out)
+    shown(out, index(alloc, device, object, &part))
 }
 
 fn of_member(
     alloc: Global,
+    out: &mut Out,
     device: &DeviceEnv,
-    object: &Json,
-    name: &str,
-) -> Result<String, CaseError> {
-    let object = value(alloc, object)?;
-    shown(alloc, member(alloc, device, &object, name))
+    input: &Json,
+) -> Result<(), CaseError> {
+    let name = text_at(input, 1)?;
+    let object = value(alloc, item(input, 0)?)?;
+    shown(out, member(alloc, device, &object, name))
 }
 
-fn of_has(
+fn of_has(alloc: Global, out: &mut Out, device: &DeviceEnv, input: &Json) -> Result<(), CaseError> {
+    let name = text_at(input, 1)?;
+    let object = value(alloc, item(input, 0)?)?;
+    shown(out, has(alloc, device, &object, name))
+}
+
+fn of_device(
     alloc: Global,
+    out: &mut Out,
     device: &DeviceEnv,
-    object: &Json,
-    name: &str,
-) -> Result<String, CaseError> {
-    let object = value(alloc, object)?;
-    shown(alloc, has(alloc, device, &object, name))
+    name: &Json,
+) -> Result<(), CaseError> {
+    let name = text(name)?;
+    shown(out, device_member(alloc, device, name))
 }
 
-fn of_elements(alloc: Global, device: &DeviceEnv, range: &Json) -> Result<String, CaseError> {
+fn of_elements(
+    alloc: Global,
+    out: &mut Out,
+    device: &DeviceEnv,
+    range: &Json,
+) -> Result<(), CaseError> {
     let range = value(alloc, range)?;
-    shown(alloc, elements(alloc, device, &range))
+    shown(out, elements(alloc, device, &range))
 }
 
-fn of_single(alloc: Global, input: &Json) -> Result<String, CaseError> {
-    shown(alloc, value(alloc, input)?.into_single())
-}
-
-fn of_key(alloc: Global, input: &Json) -> Result<String, CaseError> {
-    shown(alloc, value(alloc, input)?.into_key())
-}
-
-fn of_truth(alloc: Global, input: &Json) -> Result<String, CaseError> {
+fn of_single(alloc: Global, out: &mut Out, input: &Json) -> Result<(), CaseError> {
     let value = value(alloc, input)?;
-    debug_text(alloc, &truth(&value))
+    shown(out, value.into_single())
 }
 
-fn of_weight(alloc: Global, input: &Json) -> Result<String, CaseError> {
+fn of_key(alloc: Global, out: &mut Out, input: &Json) -> Result<(), CaseError> {
     let value = value(alloc, input)?;
-    displayed(alloc, &weight(&value))
+    shown(out, value.into_key())
+}
+
+fn of_truth(alloc: Global, out: &mut Out, input: &Json) -> Result<(), CaseError> {
+    let value = value(alloc, input)?;
+    out.debug(&truth(&value));
+    Ok(())
+}
+
+fn of_weight(alloc: Global, out: &mut Out, input: &Json) -> Result<(), CaseError> {
+    let value = value(alloc, input)?;
+    out.show(&weight(&value));
+    Ok(())
 }
 
 /// The value of a literal: null, a truth, a whole number or a text.
-fn of_literal(alloc: Global, input: &Json) -> Result<String, CaseError> {
+fn of_literal(alloc: Global, out: &mut Out, input: &Json) -> Result<(), CaseError> {
     let literal = literal(alloc, input)?;
-    shown(alloc, constant(alloc, &literal))
+    shown(out, constant(alloc, &literal))
 }
 
 fn literal(alloc: Global, input: &Json) -> Result<Literal, CaseError> {
@@ -320,21 +310,24 @@ fn value(alloc: Global, input: &Json) -> Result<Value, CaseError> {
     match input {
         Json::Array(items) => list(alloc, items.as_slice()),
         Json::Object(_) => object(alloc, input),
-        _ => Ok(Value::Single(single(alloc, input)?)),
+        _ => as_value(single(alloc, input)),
+    }
+}
+
+fn as_value(single: Result<Single, CaseError>) -> Result<Value, CaseError> {
+    match single {
+        Ok(single) => Ok(Value::Single(single)),
+        Err(error) => Err(error),
     }
 }
 
 fn values(alloc: Global, input: &Json) -> Result<Vec<Value>, CaseError> {
+    let items = items(input)?;
     let mut all = Vec::new(alloc);
-    for item in items(input)? {
-        push_value(alloc, item, &mut all)?;
+    for item in items {
+        put(&mut all, value(alloc, item)?)?;
     }
     Ok(all)
-}
-
-fn push_value(alloc: Global, item: &Json, all: &mut Vec<Value>) -> Result<(), CaseError> {
-    let value = value(alloc, item)?;
-    Ok(all.push(value).map_err(AllocError::from)?)
 }
 
 fn list(alloc: Global, items: &[Json]) -> Result<Value, CaseError> {
@@ -347,7 +340,7 @@ fn list(alloc: Global, items: &[Json]) -> Result<Value, CaseError> {
 
 fn push_single(alloc: Global, item: &Json, list: &mut Seq<Single>) -> Result<(), CaseError> {
     let single = single(alloc, item)?;
-    Ok(list.push(single)?)
+    done(list.push(single))
 }
 
 fn single(alloc: Global, input: &Json) -> Result<Single, CaseError> {
@@ -361,45 +354,52 @@ fn single(alloc: Global, input: &Json) -> Result<Single, CaseError> {
 }
 
 fn int(input: &Json) -> Result<i64, CaseError> {
-    match input.as_i64() {
-        Some(number) => Ok(number),
-        None => Err(CaseError::BadCase),
-    }
+    input.as_i64().ok_or(CaseError::BadCase)
+}
+
+/// The one member of an object.
+fn member_of(input: &Json) -> Result<(&str, &Json), CaseError> {
+    let members = input.as_object().ok_or(CaseError::BadCase)?;
+    let (name, value) = members.first_key_value().ok_or(CaseError::BadCase)?;
+    Ok((name.as_str(), value))
 }
 
 fn named_single(alloc: Global, input: &Json) -> Result<Single, CaseError> {
-    match (input.get("quantity"), input.get("version")) {
-        (Some(source), None) => quantity(text(source)?),
-        (None, Some(source)) => version(alloc, text(source)?),
+    let (name, source) = member_of(input)?;
+    match name {
+        "quantity" => quantity(source),
+        "version" => version(alloc, source),
         _ => Err(CaseError::BadCase),
     }
 }
 
-fn quantity(source: &str) -> Result<Single, CaseError> {
-    match Quantity::parse(source.as_bytes()) {
+fn quantity(source: &Json) -> Result<Single, CaseError> {
+    match Quantity::parse(text(source)?.as_bytes()) {
         Ok(quantity) => Ok(Single::Quantity(quantity)),
         Err(_) => Err(CaseError::BadCase),
     }
 }
 
-fn version(alloc: Global, source: &str) -> Result<Single, CaseError> {
-    match semver::Version::parse(alloc, source) {
+fn version(alloc: Global, source: &Json) -> Result<Single, CaseError> {
+    match semver::Version::parse(alloc, text(source)?) {
         Ok(version) => Ok(Single::Version(Version::new(version))),
         Err(_) => Err(CaseError::BadCase),
     }
 }
 
 fn object(alloc: Global, input: &Json) -> Result<Value, CaseError> {
-    if let Some(entries) = input.get("map") {
-        return map(alloc, items(entries)?);
+    let (name, part) = member_of(input)?;
+    match name {
+        "map" => map(alloc, part),
+        "domains" => domains(part),
+        "entries" => entries_of(alloc, part),
+        _ => as_value(named_single(alloc, input)),
     }
-    if let Some(facet) = input.get("domains") {
-        return Ok(Value::Domains(facet_of(text(facet)?)?));
-    }
-    match input.get("entries") {
-        Some(entries) => entries_of(alloc, text_at(entries, 0)?, text_at(entries, 1)?),
-        None => Ok(Value::Single(named_single(alloc, input)?)),
-    }
+}
+
+fn domains(facet: &Json) -> Result<Value, CaseError> {
+    let facet = facet_of(text(facet)?)?;
+    Ok(Value::Domains(facet))
 }
 
 fn facet_of(word: &str) -> Result<Facet, CaseError> {
@@ -410,12 +410,14 @@ fn facet_of(word: &str) -> Result<Facet, CaseError> {
     }
 }
 
-fn entries_of(alloc: Global, facet: &str, domain: &str) -> Result<Value, CaseError> {
-    let facet = facet_of(facet)?;
-    Ok(Value::Entries(facet, Text::from_str(alloc, domain)?))
+fn entries_of(alloc: Global, entries: &Json) -> Result<Value, CaseError> {
+    let facet = facet_of(text_at(entries, 0)?)?;
+    let domain = Text::from_str(alloc, text_at(entries, 1)?)?;
+    Ok(Value::Entries(facet, domain))
 }
 
-fn map(alloc: Global, entries: &[Json]) -> Result<Value, CaseError> {
+fn map(alloc: Global, entries: &Json) -> Result<Value, CaseError> {
+    let entries = items(entries)?;
     let mut table = Table::new(alloc);
     for entry in entries {
         insert(alloc, &mut table, entry)?;
@@ -436,7 +438,7 @@ fn insert_at(
     value: &Json,
 ) -> Result<(), CaseError> {
     let value = single(alloc, value)?;
-    Ok(table.insert(key, value)?)
+    done(table.insert(key, value))
 }
 
 fn key_of(alloc: Global, input: &Json) -> Result<Key, CaseError> {

@@ -1,112 +1,95 @@
 use crate::input::CaseError;
-use crate::shown::{Copied, error_text};
+use crate::shown::{Copied, Out, read};
 use api_claim::{
     AllocationMode, ClaimStatus, DeviceAsk, DeviceConstraint, DeviceRequest, DeviceSubRequest,
-    RequestKind, ResourceClaim, StatusResult,
+    RequestKind, ResourceClaim,
 };
-use dra_values::Text;
+use object_fields::FieldError;
 use ready_objects::ReadyClaim;
 use serde_json::Value;
 use std::alloc::{AllocError, Global};
 
-/// A claim that is made ready, with the numbers of the selectors of each way to satisfy each request.
-pub fn ready_answer(alloc: Global, value: &Value) -> Result<String, CaseError> {
-    match ResourceClaim::read(alloc, value) {
-        Ok(claim) => made_ready(alloc, claim),
-        Err(error) => error_text(alloc, &error),
-    }
+/// Appends a claim that is made ready, with the numbers of the selectors of each way to satisfy each request,
+/// or its error.
+pub fn ready(alloc: Global, out: &mut Out, value: &Value) -> Result<(), CaseError> {
+    let ready = read(alloc, out, read_ready(alloc, value))?;
+    push_ready(out, &ready);
+    Ok(())
 }
 
-fn made_ready(alloc: Global, claim: ResourceClaim) -> Result<String, CaseError> {
-    match ReadyClaim::of(alloc, claim) {
-        Ok(ready) => ready_text(alloc, &ready),
-        Err(error) => error_text(alloc, &error),
-    }
+/// The claim of a document, made ready.
+pub fn read_ready(alloc: Global, value: &Value) -> Result<ReadyClaim, FieldError> {
+    ReadyClaim::of(alloc, ResourceClaim::read(alloc, value)?)
 }
 
-fn ready_text(alloc: Global, ready: &ReadyClaim) -> Result<String, CaseError> {
-    let mut text = String::new(alloc);
-    push_ready(&mut text, ready)?;
-    Ok(text)
-}
-
-fn push_ready(text: &mut String, ready: &ReadyClaim) -> Result<(), AllocError> {
-    write!(text, "{}", ready.claim().key)?;
+fn push_ready(out: &mut Out, ready: &ReadyClaim) {
+    out.show(&ready.claim().key);
     for ways in ready.selectors() {
-        text.push_str(" of")?;
+        out.say(" of");
         for selectors in ways.as_slice() {
-            let count = selectors.as_slice().len();
-            write!(text, " {count}")?;
+            out.show_after(" ", &selectors.as_slice().len());
         }
     }
-    Ok(())
 }
 
-fn push_ask(text: &mut String, ask: &DeviceAsk) -> Result<(), AllocError> {
-    text.push_str(ask.class.as_str())?;
-    push_selectors(text, ask.selectors.as_slice())?;
-    match ask.mode {
-        AllocationMode::ExactCount(count) => write!(text, "*{count}"),
-        AllocationMode::All => text.push('*'),
+fn push_ask(out: &mut Out, ask: &DeviceAsk) {
+    out.show(&ask.class);
+    for selector in ask.selectors.as_slice() {
+        out.show_after("?", selector);
     }
-}
-
-fn push_selectors(text: &mut String, selectors: &[Text]) -> Result<(), AllocError> {
-    for selector in selectors {
-        write!(text, "?{selector}")?;
+    out.say("*");
+    match &ask.mode {
+        AllocationMode::ExactCount(count) => out.show(count),
+        AllocationMode::All => {}
     }
-    Ok(())
 }
 
 /// ` name:` and what is asked for, `!` with admin access; subrequests in parentheses.
-fn push_request(text: &mut String, request: &DeviceRequest) -> Result<(), AllocError> {
-    write!(text, " {}:", request.name)?;
+fn push_request(out: &mut Out, request: &DeviceRequest) {
+    out.show_after(" ", &request.name);
+    out.say(":");
     match &request.kind {
         RequestKind::Exactly(exactly) => {
-            push_ask(text, &exactly.ask)?;
-            push_admin(text, exactly.admin)
+            push_ask(out, &exactly.ask);
+            push_admin(out, exactly.admin);
         }
         RequestKind::FirstAvailable(subrequests) => {
-            push_subrequests(text, subrequests.as_slice())
+            push_subrequests(out, subrequests.as_slice());
         }
     }
 }
 
-fn push_subrequests(text: &mut String, subrequests: &[DeviceSubRequest]) -> Result<(), AllocError> {
+fn push_subrequests(out: &mut Out, subrequests: &[DeviceSubRequest]) {
     for subrequest in subrequests {
-        write!(text, "({}:", subrequest.name)?;
-        push_ask(text, &subrequest.ask)?;
-        text.push(')')?;
+        out.show_after("(", &subrequest.name);
+        out.say(":");
+        push_ask(out, &subrequest.ask);
+        out.say(")");
     }
-    Ok(())
 }
 
-fn push_admin(text: &mut String, admin: bool) -> Result<(), AllocError> {
-    if admin { text.push('!') } else { Ok(()) }
+fn push_admin(out: &mut Out, admin: bool) {
+    if admin {
+        out.say("!");
+    }
 }
 
 /// ` =domain/id`, and the requests that it is about.
-fn push_constraint(text: &mut String, constraint: &DeviceConstraint) -> Result<(), AllocError> {
-    let attribute = &constraint.attribute;
-    write!(text, " ={}/{}", attribute.domain, attribute.id)?;
+fn push_constraint(out: &mut Out, constraint: &DeviceConstraint) {
+    out.show_after(" =", &constraint.attribute.domain);
+    out.show_after("/", &constraint.attribute.id);
     for request in constraint.requests.as_slice() {
-        write!(text, ",{request}")?;
+        out.show_after(",", request);
     }
-    Ok(())
 }
 
-fn push_version(text: &mut String, version: Option<u64>) -> Result<(), AllocError> {
+fn push_version(out: &mut Out, version: Option<u64>) {
     match version {
-        Some(version) => write!(text, " {version}"),
-        None => Ok(()),
+        Some(version) => {
+            out.show_after(" ", &version);
+        }
+        None => {}
     }
-}
-
-fn push_requests(text: &mut String, requests: &[DeviceRequest]) -> Result<(), AllocError> {
-    for request in requests {
-        push_request(text, request)?;
-    }
-    Ok(())
 }
 
 impl Copied for ResourceClaim {
@@ -114,20 +97,16 @@ impl Copied for ResourceClaim {
         self.copy(alloc)
     }
 
-    fn show(&self, text: &mut String) -> Result<(), AllocError> {
-        write!(text, "{}", self.key)?;
-        push_version(text, self.version)?;
-        push_requests(text, self.requests.as_slice())?;
-        for constraint in self.constraints.as_slice() {
-            push_constraint(text, constraint)?;
+    fn show(&self, out: &mut Out) {
+        out.show(&self.key);
+        push_version(out, self.version);
+        for request in self.requests.as_slice() {
+            push_request(out, request);
         }
-        Ok(())
+        for constraint in self.constraints.as_slice() {
+            push_constraint(out, constraint);
+        }
     }
-}
-
-fn push_result(text: &mut String, found: &StatusResult) -> Result<(), AllocError> {
-    write!(text, " {}@{}", found.request, found.device)?;
-    push_admin(text, found.admin)
 }
 
 impl Copied for ClaimStatus {
@@ -135,12 +114,13 @@ impl Copied for ClaimStatus {
         self.copy(alloc)
     }
 
-    fn show(&self, text: &mut String) -> Result<(), AllocError> {
-        write!(text, "{}", self.node)?;
-        push_version(text, self.version)?;
+    fn show(&self, out: &mut Out) {
+        out.show(&self.node);
+        push_version(out, self.version);
         for found in self.results.as_slice() {
-            push_result(text, found)?;
+            out.show_after(" ", &found.request);
+            out.show_after("@", &found.device);
+            push_admin(out, found.admin);
         }
-        Ok(())
     }
 }

@@ -1,110 +1,122 @@
 use crate::input::CaseError;
-use crate::shown::{displayed, error_text, json_text, shown, word};
+use crate::shown::{Out, read};
 use dra_values::Text;
 use object_fields::{
     FieldError, ObjectMeta, Path, Scope, borrowed, field, list, member, object, table, text, truth,
     whole,
 };
 use serde_json::{Map, Value};
-use std::alloc::Global;
+use std::alloc::{AllocError, Global};
 use std::fmt::Display;
 
-/// A result's value, or the name and the path of its error.
+/// Appends a result's value, or its error.
 pub fn printed<T: Display + Drop>(
     alloc: Global,
+    out: &mut Out,
     answer: Result<T, FieldError>,
-) -> Result<String, CaseError> {
-    match answer {
-        Ok(value) => displayed(alloc, &value),
-        Err(error) => error_text(alloc, &error),
-    }
+) -> Result<(), CaseError> {
+    let value = read(alloc, out, answer)?;
+    out.show(&value);
+    Ok(())
 }
 
-/// How many items a list has.
-pub fn counted(alloc: Global, answer: Result<&[Value], FieldError>) -> Result<String, CaseError> {
-    match answer {
-        Ok(items) => displayed(alloc, &items.len()),
-        Err(error) => error_text(alloc, &error),
-    }
+/// Appends how many items a list has, or the error.
+pub fn counted(
+    alloc: Global,
+    out: &mut Out,
+    answer: Result<&[Value], FieldError>,
+) -> Result<(), CaseError> {
+    let items = read(alloc, out, answer)?;
+    out.show(&items.len());
+    Ok(())
 }
 
-/// How many members an object has.
+/// Appends how many members an object has, or the error.
 pub fn sized(
     alloc: Global,
+    out: &mut Out,
     answer: Result<&Map<String, Value>, FieldError>,
-) -> Result<String, CaseError> {
-    match answer {
-        Ok(members) => displayed(alloc, &members.len()),
-        Err(error) => error_text(alloc, &error),
-    }
+) -> Result<(), CaseError> {
+    let members = read(alloc, out, answer)?;
+    out.show(&members.len());
+    Ok(())
 }
 
-/// The JSON text of a value.
-pub fn written(alloc: Global, answer: Result<&Value, FieldError>) -> Result<String, CaseError> {
-    match answer {
-        Ok(value) => json_text(alloc, value),
-        Err(error) => error_text(alloc, &error),
-    }
+/// Appends the JSON text of a value, or the error.
+pub fn written(
+    alloc: Global,
+    out: &mut Out,
+    answer: Result<&Value, FieldError>,
+) -> Result<(), CaseError> {
+    let value = read(alloc, out, answer)?;
+    out.json(alloc, value);
+    Ok(())
 }
 
-fn member_text(alloc: Global, value: Option<&Value>) -> Result<String, CaseError> {
+fn push_member(alloc: Global, out: &mut Out, value: Option<&Value>) -> Result<(), CaseError> {
     match value {
-        Some(value) => json_text(alloc, value),
-        None => word(alloc, "absent"),
+        Some(value) => out.json(alloc, value),
+        None => out.say("absent"),
     }
+    Ok(())
 }
 
-/// The field `f` by one of the readers that require it.
-pub fn required(alloc: Global, reader: &str, value: &Value) -> Result<String, CaseError> {
-    required_at(alloc, reader, value, &Path::top(alloc))
+/// Appends the field `f` by one of the readers that require it.
+pub fn required(
+    alloc: Global,
+    out: &mut Out,
+    reader: &str,
+    value: &Value,
+) -> Result<(), CaseError> {
+    required_at(alloc, out, reader, value, &Path::top(alloc))
 }
 
 fn required_at(
     alloc: Global,
+    out: &mut Out,
     reader: &str,
     value: &Value,
     top: &Path,
-) -> Result<String, CaseError> {
+) -> Result<(), CaseError> {
     match reader {
-        "member" => member_text(alloc, member(value, "f")),
-        "field" => written(alloc, field(alloc, value, top, "f")),
-        "borrowed" => printed(alloc, borrowed(alloc, value, top, "f")),
-        "text" => printed(alloc, text(alloc, value, top, "f")),
-        "whole" => printed(alloc, whole(alloc, value, top, "f")),
-        "truth" => printed(alloc, truth(alloc, value, top, "f")),
-        "list" => counted(alloc, list(alloc, value, top, "f")),
-        "table" => sized(alloc, table(alloc, value, top, "f")),
-        "object" => written(alloc, object(alloc, value, top, "f")),
+        "member" => push_member(alloc, out, member(value, "f")),
+        "field" => written(alloc, out, field(alloc, value, top, "f")),
+        "borrowed" => printed(alloc, out, borrowed(alloc, value, top, "f")),
+        "text" => printed(alloc, out, text(alloc, value, top, "f")),
+        "whole" => printed(alloc, out, whole(alloc, value, top, "f")),
+        "truth" => printed(alloc, out, truth(alloc, value, top, "f")),
+        "list" => counted(alloc, out, list(alloc, value, top, "f")),
+        "table" => sized(alloc, out, table(alloc, value, top, "f")),
+        "object" => written(alloc, out, object(alloc, value, top, "f")),
         _ => Err(CaseError::BadCase),
     }
 }
 
-/// The metadata of a document of a kind with or without namespace.
-pub fn metadata(alloc: Global, scope: &str, value: &Value) -> Result<String, CaseError> {
+/// Appends the metadata of a document of a kind with or without namespace: the key, the version, which is 99 if
+/// there is none, and a label.
+pub fn metadata(alloc: Global, out: &mut Out, scope: &str, value: &Value) -> Result<(), CaseError> {
     match scope {
-        "namespaced" => metadata_of(alloc, Scope::Namespaced, value),
-        "cluster" => metadata_of(alloc, Scope::Cluster, value),
+        "namespaced" => metadata_of(alloc, out, Scope::Namespaced, value),
+        "cluster" => metadata_of(alloc, out, Scope::Cluster, value),
         _ => Err(CaseError::BadCase),
     }
 }
 
-fn metadata_of(alloc: Global, scope: Scope, value: &Value) -> Result<String, CaseError> {
-    match ObjectMeta::read(alloc, value, scope) {
-        Ok(meta) => labelled(alloc, &meta),
-        Err(error) => error_text(alloc, &error),
-    }
+fn metadata_of(alloc: Global, out: &mut Out, scope: Scope, value: &Value) -> Result<(), CaseError> {
+    let meta = read(alloc, out, ObjectMeta::read(alloc, value, scope))?;
+    out.show(&meta.key);
+    out.show_after(" ", &meta.version.unwrap_or(99));
+    Ok(push_label(alloc, out, &meta)?)
 }
 
-fn labelled(alloc: Global, meta: &ObjectMeta) -> Result<String, CaseError> {
+/// Appends the label `l`, if there is one.
+fn push_label(alloc: Global, out: &mut Out, meta: &ObjectMeta) -> Result<(), AllocError> {
     let name = Text::from_str(alloc, "l")?;
-    meta_text(alloc, meta, meta.labels.get(&name))
-}
-
-/// The key, the version, which is 99 if there is none, and the label if there is one.
-fn meta_text(alloc: Global, meta: &ObjectMeta, label: Option<&Text>) -> Result<String, CaseError> {
-    let version = meta.version.unwrap_or(99);
-    match label {
-        Some(label) => Ok(format!(in alloc; "{} {version} {label}", meta.key)?),
-        None => Ok(format!(in alloc; "{} {version}", meta.key)?),
+    match meta.labels.get(&name) {
+        Some(label) => {
+            out.show_after(" ", label);
+        }
+        None => {}
     }
+    Ok(())
 }

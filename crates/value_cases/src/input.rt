@@ -1,11 +1,13 @@
-use serde_json::{Error, Value};
+use serde_json::Value;
 use std::alloc::{AllocError, Global};
 
 /// Why a case has no line of its own.
-#[derive(Clone, Copy, Debug, PartialEq, Eq, Drop)]
+#[derive(Clone, Copy, Drop)]
 pub enum CaseError {
     /// Its kind isn't known, or its input isn't what the kind expects.
     BadCase,
+    /// Its object has an error, which is printed.
+    Printed,
     /// Memory ran out.
     Memory,
 }
@@ -20,23 +22,18 @@ impl From<AllocError> for CaseError {
 pub fn json(alloc: Global, text: &str) -> Result<Value, CaseError> {
     match Value::from_str(alloc, text) {
         Ok(value) => Ok(value),
-        Err(error) => Err(reason(&error)),
-    }
-}
-
-fn reason(error: &Error) -> CaseError {
-    if error.is_memory() {
-        CaseError::Memory
-    } else {
-        CaseError::BadCase
+        Err(error) => {
+            if error.is_memory() {
+                Err(CaseError::Memory)
+            } else {
+                Err(CaseError::BadCase)
+            }
+        }
     }
 }
 
 pub fn text(value: &Value) -> Result<&str, CaseError> {
-    match value.as_str() {
-        Some(text) => Ok(text),
-        None => Err(CaseError::BadCase),
-    }
+    value.as_str().ok_or(CaseError::BadCase)
 }
 
 /// The items of a list.
@@ -49,21 +46,7 @@ pub fn items(value: &Value) -> Result<&[Value], CaseError> {
 
 /// The item of a list at that index.
 pub fn item(value: &Value, place: usize) -> Result<&Value, CaseError> {
-    match items(value)?.get(place) {
-        Some(item) => Ok(item),
-        None => Err(CaseError::BadCase),
-    }
-}
-
-/// Appends the text as JSON writes it, in quotes.
-pub fn push_quoted(alloc: Global, out: &mut String, text: &str) -> Result<(), AllocError> {
-    let value = Value::String(String::from_str(alloc, text)?);
-    push_json(alloc, out, &value)
-}
-
-fn push_json(alloc: Global, out: &mut String, value: &Value) -> Result<(), AllocError> {
-    let text = value.to_string(alloc)?;
-    out.push_str(text.as_str())
+    items(value)?.get(place).ok_or(CaseError::BadCase)
 }
 
 /// The text at that index of a list.
@@ -73,8 +56,5 @@ pub fn text_at(value: &Value, place: usize) -> Result<&str, CaseError> {
 
 /// The whole number from 0 at that index of a list.
 pub fn number_at(value: &Value, place: usize) -> Result<u64, CaseError> {
-    match item(value, place)?.as_u64() {
-        Some(number) => Ok(number),
-        None => Err(CaseError::BadCase),
-    }
+    item(value, place)?.as_u64().ok_or(CaseError::BadCase)
 }

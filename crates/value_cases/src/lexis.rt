@@ -1,77 +1,74 @@
-use crate::input::{CaseError, push_quoted, text};
-use crate::shown::{displayed, word};
+use crate::input::{CaseError, text};
+use crate::shown::Out;
 use cel_lex::{LexError, Piece, Spelling, Token, Tokens, int_value};
 use serde_json::Value;
 use std::alloc::{AllocError, Global};
 
-pub fn answer(alloc: Global, kind: &str, input: &Value) -> Result<String, CaseError> {
+pub fn answer(alloc: Global, out: &mut Out, kind: &str, input: &Value) -> Result<(), CaseError> {
+    let text = text(input)?;
     match kind {
-        "list" => list(alloc, text(input)?),
-        "message" => message(alloc, text(input)?),
-        "int" => int(alloc, text(input)?),
-        "spelling" => spelling(alloc, text(input)?),
-        _ => Err(CaseError::BadCase),
+        "list" => push_tokens(alloc, out, text),
+        "message" => out.show_or_none(first_fault(text)),
+        "int" => out.show_or_none(int_value(text)),
+        "spelling" => return spelling(alloc, out, text),
+        _ => return Err(CaseError::BadCase),
     }
+    Ok(())
 }
 
-/// The tokens of a text with their kinds and spans, and the error that follows them.
-fn list(alloc: Global, text: &str) -> Result<String, CaseError> {
-    let mut out = String::new(alloc);
-    push_tokens(alloc, &mut out, text)?;
-    Ok(out)
-}
-
-fn push_tokens(alloc: Global, out: &mut String, text: &str) -> Result<(), AllocError> {
+/// Appends the tokens of a text with their kinds and spans, and the error that follows them.
+fn push_tokens(alloc: Global, out: &mut Out, text: &str) {
     let mut tokens = Tokens::of(text);
     for _ in 0..=text.len() {
         let Some(next) = tokens.next() else {
             break;
         };
         if !out.is_empty() {
-            out.push_str(" | ")?;
+            out.say(" | ");
         }
-        push_next(alloc, out, next)?;
+        push_next(alloc, out, next);
     }
-    Ok(())
 }
 
-fn push_next(
-    alloc: Global,
-    out: &mut String,
-    next: Result<Token<'_>, LexError>,
-) -> Result<(), AllocError> {
+fn push_next(alloc: Global, out: &mut Out, next: Result<Token<'_>, LexError>) {
     match next {
         Ok(token) => push_token(alloc, out, &token),
         Err(error) => push_fault(out, error),
     }
 }
 
-fn push_token(alloc: Global, out: &mut String, token: &Token) -> Result<(), AllocError> {
-    let kind = token.kind;
-    write!(out, "{kind:?} ")?;
-    push_quoted(alloc, out, token.text)?;
-    let (start, end) = (token.span.start, token.span.end);
-    write!(out, " {start}-{end}")
+fn push_token(alloc: Global, out: &mut Out, token: &Token) {
+    out.debug(&token.kind);
+    out.say(" ");
+    out.quoted(alloc, token.text);
+    out.say(" ");
+    push_span(out, token.span.start, token.span.end);
 }
 
-/// The name of the error with its offset.
-pub fn push_fault(out: &mut String, error: LexError) -> Result<(), AllocError> {
+/// Appends a span such as `0-3`.
+pub fn push_span(out: &mut Out, start: usize, end: usize) {
+    out.show(&start);
+    out.show_after("-", &end);
+}
+
+/// Appends the name of the error with its offset.
+pub fn push_fault(out: &mut Out, error: LexError) {
+    let (word, at) = parts_of(error);
+    out.say(word);
+    out.show_after(" ", &at);
+}
+
+/// The name of an error, and its offset.
+pub fn parts_of(error: LexError) -> (&'static str, usize) {
     match error {
-        LexError::BadChar(at) => write!(out, "BadChar {at}"),
-        LexError::BadEscape(at) => write!(out, "BadEscape {at}"),
-        LexError::Unclosed(at) => write!(out, "Unclosed {at}"),
-        LexError::BadNumber(at) => write!(out, "BadNumber {at}"),
+        LexError::BadChar(at) => ("BadChar", at),
+        LexError::BadEscape(at) => ("BadEscape", at),
+        LexError::Unclosed(at) => ("Unclosed", at),
+        LexError::BadNumber(at) => ("BadNumber", at),
     }
 }
 
-/// The message of the tokens' first error, or `none`.
-fn message(alloc: Global, text: &str) -> Result<String, CaseError> {
-    match first_fault(text) {
-        Some(error) => displayed(alloc, &error),
-        None => word(alloc, "none"),
-    }
-}
-
+/// The tokens' first error.
 fn first_fault(text: &str) -> Option<LexError> {
     let mut tokens = Tokens::of(text);
     for _ in 0..=text.len() {
@@ -84,19 +81,12 @@ fn first_fault(text: &str) -> Option<LexError> {
     None
 }
 
-/// The value of a text as a whole number, or `none`.
-fn int(alloc: Global, text: &str) -> Result<String, CaseError> {
-    match int_value(text) {
-        Some(number) => displayed(alloc, &number),
-        None => word(alloc, "none"),
-    }
-}
-
-/// What a string spells, in quotes.
-fn spelling(alloc: Global, text: &str) -> Result<String, CaseError> {
+/// Appends what a string spells, in quotes.
+fn spelling(alloc: Global, out: &mut Out, text: &str) -> Result<(), CaseError> {
     let mut spelled = String::new(alloc);
     push_spelled(&mut spelled, text)?;
-    quoted(alloc, spelled.as_str())
+    out.quoted(alloc, spelled.as_str());
+    Ok(())
 }
 
 fn push_spelled(spelled: &mut String, text: &str) -> Result<(), AllocError> {
@@ -109,10 +99,4 @@ fn push_spelled(spelled: &mut String, text: &str) -> Result<(), AllocError> {
         }
     }
     Ok(())
-}
-
-fn quoted(alloc: Global, text: &str) -> Result<String, CaseError> {
-    let mut out = String::new(alloc);
-    push_quoted(alloc, &mut out, text)?;
-    Ok(out)
 }

@@ -1,34 +1,29 @@
 use crate::input::CaseError;
-use crate::shown::displayed;
+use crate::shown::Out;
 use cel_check::CheckError;
 use cel_parse::ParseError;
 use cel_value::EvalError;
 use device_selector::CompileError;
 use object_fields::{FieldError, FieldErrorKind, Stage};
-use selector_meaning::Cause;
-use std::alloc::{AllocError, Global};
+use pool_view::Cause;
+use std::alloc::Global;
 
-/// The messages of errors that no input leads to, and of those that print otherwise elsewhere.
-pub fn answer(alloc: Global, word: &str) -> Result<String, CaseError> {
+/// Appends a message of an error that no input leads to, or that prints otherwise elsewhere.
+pub fn answer(alloc: Global, out: &mut Out, word: &str) -> Result<(), CaseError> {
     match word {
-        "parse" => displayed(alloc, &ParseError::Memory),
-        "check" => displayed(alloc, &CheckError::Memory),
-        "compile" => displayed(alloc, &CompileError::Memory),
-        "field" => displayed(alloc, &FieldError::memory(alloc)),
-        "stage" => displayed(alloc, &FieldErrorKind::Selector(Stage::Parse)),
-        "evaluation" => evaluation(alloc),
-        _ => Err(CaseError::BadCase),
+        "parse" => out.show(&ParseError::Memory),
+        "check" => out.show(&CheckError::Memory),
+        "compile" => out.show(&CompileError::Memory),
+        "field" => out.show(&FieldError::memory(alloc)),
+        "stage" => out.show(&FieldErrorKind::Selector(Stage::Parse)),
+        "evaluation" => push_evaluation(out),
+        _ => return Err(CaseError::BadCase),
     }
+    Ok(())
 }
 
-/// Each error of an evaluation, and the one of a value that is no bool.
-fn evaluation(alloc: Global) -> Result<String, CaseError> {
-    let mut answer = String::new(alloc);
-    push_evaluation(&mut answer)?;
-    Ok(answer)
-}
-
-fn push_evaluation(answer: &mut String) -> Result<(), AllocError> {
+/// Appends each error of an evaluation, and the one of a value that is no bool.
+fn push_evaluation(out: &mut Out) {
     for error in [
         EvalError::NoKey,
         EvalError::NoOverload,
@@ -38,7 +33,8 @@ fn push_evaluation(answer: &mut String) -> Result<(), AllocError> {
         EvalError::BadConversion,
         EvalError::Memory,
     ] {
-        write!(answer, "{}; ", Cause::Error(error))?;
+        out.show(&Cause::Error(error));
+        out.say("; ");
     }
-    write!(answer, "{}", Cause::NotBool)
+    out.show(&Cause::NotBool);
 }

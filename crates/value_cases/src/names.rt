@@ -1,137 +1,138 @@
 use crate::fields::printed;
-use crate::input::{CaseError, number_at, text, text_at};
-use crate::shown::{displayed, word as said};
+use crate::input::{CaseError, number_at, text_at};
+use crate::shown::{Out, read};
 use api_slice::DriverName;
 use dra_values::Text;
-use object_fields::{
-    FieldError, Path, QualName, Step, dns_label, dns_subdomain, label_of, pool_name,
-};
+use object_fields::{FieldError, Path, QualName, dns_label, dns_subdomain, label_of, pool_name};
 use semver::Version;
 use serde_json::Value;
 use std::alloc::{AllocError, Global};
 
-pub fn answer(alloc: Global, word: &str, input: &Value) -> Result<String, CaseError> {
+pub fn answer(alloc: Global, out: &mut Out, word: &str, input: &Value) -> Result<(), CaseError> {
     match input.as_str() {
-        Some(text) => of_text(alloc, word, text),
-        None => of_list(alloc, word, input),
+        Some(text) => of_text(alloc, out, word, text),
+        None => of_list(alloc, out, word, input),
     }
 }
 
-fn of_text(alloc: Global, word: &str, text: &str) -> Result<String, CaseError> {
+fn of_text(alloc: Global, out: &mut Out, word: &str, text: &str) -> Result<(), CaseError> {
     match word {
-        "label" => displayed(alloc, &dns_label(text)),
-        "pool" => displayed(alloc, &pool_name(text)),
-        "driver" => driver(alloc, text),
-        "label_of" => label_at_seven(alloc, text),
-        "version" => version(alloc, text),
+        "label" => out.show(&dns_label(text)),
+        "pool" => out.show(&pool_name(text)),
+        "driver" => return driver(alloc, out, text),
+        "label_of" => return label_at_seven(alloc, out, text),
+        "version" => version(alloc, out, text),
+        _ => return Err(CaseError::BadCase),
+    }
+    Ok(())
+}
+
+fn of_list(alloc: Global, out: &mut Out, word: &str, input: &Value) -> Result<(), CaseError> {
+    match word {
+        "subdomain" => subdomain(out, input),
+        "qualified" => qualified(alloc, out, input),
+        "all" => all(alloc, out, input),
+        "steps" => steps(alloc, out),
         _ => Err(CaseError::BadCase),
     }
 }
 
-fn of_list(alloc: Global, word: &str, input: &Value) -> Result<String, CaseError> {
-    match word {
-        "subdomain" => subdomain(alloc, number_at(input, 0)?, text_at(input, 1)?),
-        "qualified" => qualified(alloc, text_at(input, 0)?, text_at(input, 1)?),
-        "all" => all(alloc, text_at(input, 0)?, text_at(input, 1)?),
-        "steps" => steps(alloc),
-        _ => Err(CaseError::BadCase),
-    }
-}
-
-fn subdomain(alloc: Global, most: u64, text: &str) -> Result<String, CaseError> {
+fn subdomain(out: &mut Out, input: &Value) -> Result<(), CaseError> {
+    let most = number_at(input, 0)?;
+    let text = text_at(input, 1)?;
     match usize::try_from(most) {
-        Ok(most) => displayed(alloc, &dns_subdomain(text, most)),
-        Err(_) => Err(CaseError::BadCase),
+        Ok(most) => out.show(&dns_subdomain(text, most)),
+        Err(_) => return Err(CaseError::BadCase),
     }
+    Ok(())
 }
 
-/// The driver's name that the text is, or `none`.
-fn driver(alloc: Global, text: &str) -> Result<String, CaseError> {
+/// Appends a copy of the driver's name that the text is, or `none`.
+fn driver(alloc: Global, out: &mut Out, text: &str) -> Result<(), CaseError> {
     match DriverName::new(Text::from_str(alloc, text)?) {
-        Some(driver) => driver_text(alloc, &driver),
-        None => said(alloc, "none"),
+        Some(driver) => Ok(push_driver(alloc, out, &driver)?),
+        None => {
+            out.say("none");
+            Ok(())
+        }
     }
 }
 
-fn driver_text(alloc: Global, driver: &DriverName) -> Result<String, CaseError> {
+fn push_driver(alloc: Global, out: &mut Out, driver: &DriverName) -> Result<(), AllocError> {
     let copy = driver.copy(alloc)?;
-    displayed(alloc, copy.as_text())
+    out.show(copy.as_text());
+    Ok(())
 }
 
-/// The qualified name that the text means in a slice of that driver, or the error.
-fn qualified(alloc: Global, driver: &str, text: &str) -> Result<String, CaseError> {
+/// Appends the qualified name that a text means in a slice of a driver, or the error.
+fn qualified(alloc: Global, out: &mut Out, input: &Value) -> Result<(), CaseError> {
+    let (driver, text) = (text_at(input, 0)?, text_at(input, 1)?);
+    push_qualified(alloc, out, driver, text)
+}
+
+fn push_qualified(alloc: Global, out: &mut Out, driver: &str, text: &str) -> Result<(), CaseError> {
     match QualName::parse(alloc, text, driver) {
-        Ok(name) => qualified_text(alloc, &name),
-        Err(error) => displayed(alloc, &error),
+        Ok(name) => Ok(push_copy(alloc, out, &name)?),
+        Err(error) => {
+            out.show(&error);
+            Ok(())
+        }
     }
 }
 
-fn qualified_text(alloc: Global, name: &QualName) -> Result<String, CaseError> {
+/// Appends a copy of a qualified name.
+fn push_copy(alloc: Global, out: &mut Out, name: &QualName) -> Result<(), AllocError> {
     let copy = name.copy(alloc)?;
-    full_name(alloc, &copy)
+    out.show(&copy.domain);
+    out.show_after("/", &copy.id);
+    Ok(())
 }
 
-fn full_name(alloc: Global, name: &QualName) -> Result<String, CaseError> {
-    Ok(format!(in alloc; "{}/{}", name.domain, name.id)?)
-}
-
-/// Whether the text is a label, a subdomain and a pool's name, and which qualified name it is.
-fn all(alloc: Global, driver: &str, text: &str) -> Result<String, CaseError> {
-    let name = qualified(alloc, driver, text)?;
-    all_text(alloc, text, name.as_str())
-}
-
-fn all_text(alloc: Global, text: &str, name: &str) -> Result<String, CaseError> {
-    let label = dns_label(text);
-    let subdomain = dns_subdomain(text, 253);
-    let pool = pool_name(text);
-    Ok(format!(in alloc; "{label} {subdomain} {pool} {name}")?)
+/// Appends whether the text is a label, a subdomain and a pool's name, and which qualified name it is.
+fn all(alloc: Global, out: &mut Out, input: &Value) -> Result<(), CaseError> {
+    let (driver, text) = (text_at(input, 0)?, text_at(input, 1)?);
+    out.show(&dns_label(text));
+    out.show_after(" ", &dns_subdomain(text, 253));
+    out.show_after(" ", &pool_name(text));
+    out.say(" ");
+    push_qualified(alloc, out, driver, text)
 }
 
 fn place_seven(alloc: Global) -> Result<Path, FieldError> {
     Path::top(alloc).place(alloc, 7)
 }
 
-/// The text as a label at index 7 of a list.
-fn label_at_seven(alloc: Global, text: &str) -> Result<String, CaseError> {
-    match place_seven(alloc) {
-        Ok(path) => printed(alloc, label_of(alloc, &path, text)),
-        Err(error) => displayed(alloc, &error),
-    }
+/// Appends the text as a label at index 7 of a list.
+fn label_at_seven(alloc: Global, out: &mut Out, text: &str) -> Result<(), CaseError> {
+    let path = read(alloc, out, place_seven(alloc))?;
+    printed(alloc, out, label_of(alloc, &path, text))
 }
 
-/// The steps of the path to index 7 of a list, one after another.
-fn steps(alloc: Global) -> Result<String, CaseError> {
-    match place_seven(alloc) {
-        Ok(path) => steps_text(alloc, path.steps()),
-        Err(error) => displayed(alloc, &error),
-    }
-}
-
-fn steps_text(alloc: Global, steps: &[Step]) -> Result<String, CaseError> {
-    let mut answer = String::new(alloc);
-    push_steps(&mut answer, steps)?;
-    Ok(answer)
-}
-
-fn push_steps(answer: &mut String, steps: &[Step]) -> Result<(), AllocError> {
-    for step in steps {
-        write!(answer, "{step}")?;
+/// Appends the steps of the path to index 7 of a list, one after another.
+fn steps(alloc: Global, out: &mut Out) -> Result<(), CaseError> {
+    let path = read(alloc, out, place_seven(alloc))?;
+    for step in path.steps() {
+        out.show(step);
     }
     Ok(())
 }
 
-/// The numbers, the pre-release and the build metadata of a version of Semantic Versioning 2.0.0, or
-/// `none` if the text is none.
-fn version(alloc: Global, text: &str) -> Result<String, CaseError> {
+/// Appends the numbers, the pre-release and the build metadata of a version of Semantic Versioning 2.0.0,
+/// or `none` if the text is none.
+fn version(alloc: Global, out: &mut Out, text: &str) {
     match Version::parse(alloc, text) {
-        Ok(version) => version_text(alloc, &version),
-        Err(_) => said(alloc, "none"),
+        Ok(version) => push_version(out, &version),
+        Err(_) => out.say("none"),
     }
 }
 
-fn version_text(alloc: Global, version: &Version) -> Result<String, CaseError> {
-    let (major, minor, patch) = (version.major, version.minor, version.patch);
-    let (pre, build) = (version.pre.as_str(), version.build.as_str());
-    Ok(format!(in alloc; "{major} {minor} {patch} [{pre}] [{build}]")?)
+fn push_version(out: &mut Out, version: &Version) {
+    out.show(&version.major);
+    out.show_after(" ", &version.minor);
+    out.show_after(" ", &version.patch);
+    out.say(" [");
+    out.say(version.pre.as_str());
+    out.say("] [");
+    out.say(version.build.as_str());
+    out.say("]");
 }

@@ -1,5 +1,5 @@
 use crate::input::{CaseError, item, text, text_at};
-use crate::shown::{Copied, displayed, error_text, shown, word};
+use crate::shown::{Copied, Out, done, read, show};
 use crate::slices::push_selector;
 use api_slice::read_selector;
 use dra_values::{Duplicate, Seq, Table, Text};
@@ -8,19 +8,25 @@ use object_fields::Path;
 use serde_json::{Map, Value};
 use std::alloc::{AllocError, Global};
 
-pub fn answer(alloc: Global, word: &str, input: &Value) -> Result<String, CaseError> {
+pub fn answer(alloc: Global, out: &mut Out, word: &str, input: &Value) -> Result<(), CaseError> {
     match word {
-        "selector" => shown(alloc, read_selector(alloc, input, &Path::top(alloc))),
-        "selects" => selects(alloc, item(input, 0)?, text_at(input, 1)?, item(input, 2)?),
-        "requirement" => requirement(
-            alloc,
-            text_at(input, 0)?,
-            text_at(input, 1)?,
-            item(input, 2)?,
-        ),
-        "number" => number(alloc, text(input)?),
+        "selector" => selector(alloc, out, input),
+        "selects" => selects(alloc, out, input),
+        "requirement" => requirement(alloc, out, input),
+        "number" => number(out, input),
         _ => Err(CaseError::BadCase),
     }
+}
+
+fn selector(alloc: Global, out: &mut Out, input: &Value) -> Result<(), CaseError> {
+    let answer = read_selector(alloc, input, &Path::top(alloc));
+    show(alloc, out, answer)
+}
+
+/// Appends the whole number of 64 bits that a text writes, or `none`.
+fn number(out: &mut Out, input: &Value) -> Result<(), CaseError> {
+    out.show_or_none(whole(text(input)?));
+    Ok(())
 }
 
 impl Copied for Selector {
@@ -28,32 +34,29 @@ impl Copied for Selector {
         self.copy(alloc)
     }
 
-    fn show(&self, text: &mut String) -> Result<(), AllocError> {
-        push_selector(text, self)
+    fn show(&self, out: &mut Out) {
+        push_selector(out, self);
     }
 }
 
-/// Whether a selector selects the node of that name and those labels, or its error.
-fn selects(
-    alloc: Global,
-    selector: &Value,
-    name: &str,
-    labels: &Value,
-) -> Result<String, CaseError> {
-    let labels = labels_of(alloc, labels)?;
-    selects_node(alloc, selector, name, &labels)
+/// Appends whether a selector selects the node of a name and labels, or its error.
+fn selects(alloc: Global, out: &mut Out, input: &Value) -> Result<(), CaseError> {
+    let name = text_at(input, 1)?;
+    let labels = labels_of(alloc, item(input, 2)?)?;
+    selects_node(alloc, out, item(input, 0)?, name, &labels)
 }
 
 fn selects_node(
     alloc: Global,
+    out: &mut Out,
     selector: &Value,
     name: &str,
     labels: &Table<Text, Text>,
-) -> Result<String, CaseError> {
-    match read_selector(alloc, selector, &Path::top(alloc)) {
-        Ok(selector) => displayed(alloc, &selector.matches(name, labels)),
-        Err(error) => error_text(alloc, &error),
-    }
+) -> Result<(), CaseError> {
+    let answer = read_selector(alloc, selector, &Path::top(alloc));
+    let selector = read(alloc, out, answer)?;
+    out.show(&selector.matches(name, labels));
+    Ok(())
 }
 
 /// The labels of an object with texts as members.
@@ -83,30 +86,30 @@ fn insert_label(
     labels.insert(key, value)
 }
 
-/// Whether a requirement on the label `k`, on a field or on nothing holds of a node whose name and
+/// Appends whether a requirement on the label `k`, on a field or on nothing holds of a node whose name and
 /// whose label `k` are that value; null is no label. The values are `7` and `b`, or the number 7.
-fn requirement(
-    alloc: Global,
-    on: &str,
-    operator: &str,
-    value: &Value,
-) -> Result<String, CaseError> {
-    let selector = selector_on(alloc, on, operator)?;
-    held(alloc, &selector, value.as_str())
-}
-
-fn held(alloc: Global, selector: &Selector, value: Option<&str>) -> Result<String, CaseError> {
+fn requirement(alloc: Global, out: &mut Out, input: &Value) -> Result<(), CaseError> {
+    let value = item(input, 2)?.as_str();
+    let selector = selector_on(alloc, text_at(input, 0)?, text_at(input, 1)?)?;
     let copy = selector.duplicate(alloc)?;
-    match value {
-        Some(value) => held_by(alloc, &copy, value),
-        None => displayed(alloc, &copy.matches("absent", &Table::new(alloc))),
-    }
+    Ok(held(alloc, out, &copy, value)?)
 }
 
-fn held_by(alloc: Global, selector: &Selector, value: &str) -> Result<String, CaseError> {
+fn held(
+    alloc: Global,
+    out: &mut Out,
+    selector: &Selector,
+    value: Option<&str>,
+) -> Result<(), AllocError> {
     let mut labels = Table::new(alloc);
-    insert_label(alloc, &mut labels, "k", value)?;
-    displayed(alloc, &selector.matches(value, &labels))
+    match value {
+        Some(value) => {
+            insert_label(alloc, &mut labels, "k", value)?;
+            out.show(&selector.matches(value, &labels));
+        }
+        None => out.show(&selector.matches("absent", &labels)),
+    }
+    Ok(())
 }
 
 fn selector_on(alloc: Global, on: &str, operator: &str) -> Result<Selector, CaseError> {
@@ -129,7 +132,7 @@ fn selector_on(alloc: Global, on: &str, operator: &str) -> Result<Selector, Case
 /// That requirement alone.
 fn one(alloc: Global, key: &str, operator: &str) -> Result<Seq<Requirement>, CaseError> {
     let test = test_of(alloc, operator)?;
-    Ok(one_of(alloc, key, test)?)
+    done(one_of(alloc, key, test))
 }
 
 fn one_of(alloc: Global, key: &str, test: Test) -> Result<Seq<Requirement>, AllocError> {
@@ -157,12 +160,4 @@ fn two(alloc: Global) -> Result<Seq<Text>, AllocError> {
     texts.push(Text::from_str(alloc, "7")?)?;
     texts.push(Text::from_str(alloc, "b")?)?;
     Ok(texts)
-}
-
-/// The whole number of 64 bits that a text writes, or `none`.
-fn number(alloc: Global, text: &str) -> Result<String, CaseError> {
-    match whole(text) {
-        Some(number) => displayed(alloc, &number),
-        None => word(alloc, "none"),
-    }
 }

@@ -1,5 +1,5 @@
 use crate::input::CaseError;
-use crate::shown::{Copied, error_text, shown, word};
+use crate::shown::{Copied, Out, read, show};
 use api_claim::ResourceClaim;
 use api_cluster::{DeviceClass, Node, Pod};
 use api_slice::ResourceSlice;
@@ -8,22 +8,25 @@ use ready_objects::ReadyClass;
 use serde_json::Value;
 use std::alloc::{AllocError, Global};
 
-/// The fields of a Node, a DeviceClass or a Pod, or the name and the path of the error; of a
+/// Appends the fields of a Node, a DeviceClass or a Pod, or the name and the path of the error; of a
 /// DeviceClass that is made ready its name and the number of its selectors.
-pub fn answer(alloc: Global, word: &str, value: &Value) -> Result<String, CaseError> {
+pub fn answer(alloc: Global, out: &mut Out, word: &str, value: &Value) -> Result<(), CaseError> {
     match word {
-        "node" => shown(alloc, Node::read(alloc, value)),
-        "class" => shown(alloc, DeviceClass::read(alloc, value)),
-        "ready_class" => ready_class(alloc, value),
-        _ => shown(alloc, Pod::read(alloc, value)),
+        "node" => show(alloc, out, Node::read(alloc, value)),
+        "class" => show(alloc, out, DeviceClass::read(alloc, value)),
+        "ready_class" => ready_class(alloc, out, value),
+        "pod" => show(alloc, out, Pod::read(alloc, value)),
+        _ => Err(CaseError::BadCase),
     }
 }
 
-/// ` @` and the version, if there is one.
-fn push_version(text: &mut String, version: Option<u64>) -> Result<(), AllocError> {
+/// Appends ` @` and the version, if there is one.
+fn push_version(out: &mut Out, version: Option<u64>) {
     match version {
-        Some(version) => write!(text, " @{version}"),
-        None => Ok(()),
+        Some(version) => {
+            out.show_after(" @", &version);
+        }
+        None => {}
     }
 }
 
@@ -32,13 +35,13 @@ impl Copied for Node {
         self.copy(alloc)
     }
 
-    fn show(&self, text: &mut String) -> Result<(), AllocError> {
-        write!(text, "{}", self.name)?;
-        push_version(text, self.version)?;
+    fn show(&self, out: &mut Out) {
+        out.show(&self.name);
+        push_version(out, self.version);
         for (key, label) in self.labels.as_map() {
-            write!(text, " {key}={label}")?;
+            out.show_after(" ", key);
+            out.show_after("=", label);
         }
-        Ok(())
     }
 }
 
@@ -47,13 +50,13 @@ impl Copied for DeviceClass {
         self.copy(alloc)
     }
 
-    fn show(&self, text: &mut String) -> Result<(), AllocError> {
-        write!(text, "{}", self.name)?;
-        push_version(text, self.version)?;
+    fn show(&self, out: &mut Out) {
+        out.show(&self.name);
+        push_version(out, self.version);
         for selector in self.selectors.as_slice() {
-            write!(text, " [{selector}]")?;
+            out.show_after(" [", selector);
+            out.say("]");
         }
-        Ok(())
     }
 }
 
@@ -62,50 +65,49 @@ impl Copied for Pod {
         self.copy(alloc)
     }
 
-    fn show(&self, text: &mut String) -> Result<(), AllocError> {
-        write!(text, "{}", self.key)?;
-        push_version(text, self.version)?;
+    fn show(&self, out: &mut Out) {
+        out.show(&self.key);
+        push_version(out, self.version);
         for claim in self.claims.as_slice() {
-            write!(text, " {}={}", claim.name, claim.claim)?;
+            out.show_after(" ", &claim.name);
+            out.show_after("=", &claim.claim);
         }
-        Ok(())
     }
 }
 
-fn ready_class(alloc: Global, value: &Value) -> Result<String, CaseError> {
-    match DeviceClass::read(alloc, value) {
-        Ok(class) => class_made_ready(alloc, class),
-        Err(error) => error_text(alloc, &error),
-    }
+/// The DeviceClass of a document, made ready.
+pub fn read_ready(alloc: Global, value: &Value) -> Result<ReadyClass, FieldError> {
+    ReadyClass::of(alloc, DeviceClass::read(alloc, value)?)
 }
 
-fn class_made_ready(alloc: Global, class: DeviceClass) -> Result<String, CaseError> {
-    match ReadyClass::of(alloc, class) {
-        Ok(ready) => ready_text(alloc, &ready),
-        Err(error) => error_text(alloc, &error),
-    }
+fn ready_class(alloc: Global, out: &mut Out, value: &Value) -> Result<(), CaseError> {
+    let ready = read(alloc, out, read_ready(alloc, value))?;
+    out.show(&ready.class().name);
+    out.show_after(" ", &ready.selectors().len());
+    Ok(())
 }
 
-fn ready_text(alloc: Global, ready: &ReadyClass) -> Result<String, CaseError> {
-    let count = ready.selectors().len();
-    Ok(format!(in alloc; "{} {count}", ready.class().name)?)
-}
-
-/// `ok` if the object of the kind that it names reads, or the name and the path of the error.
-pub fn reads(alloc: Global, value: &Value) -> Result<String, CaseError> {
+/// Appends `ok` if the object of the kind that it names reads, or the name and the path of the error.
+pub fn reads(alloc: Global, out: &mut Out, value: &Value) -> Result<(), CaseError> {
     match value.get("kind").and_then(Value::as_str) {
-        Some("Node") => read(alloc, Node::read(alloc, value)),
-        Some("DeviceClass") => read(alloc, DeviceClass::read(alloc, value)),
-        Some("Pod") => read(alloc, Pod::read(alloc, value)),
-        Some("ResourceSlice") => read(alloc, ResourceSlice::read(alloc, value)),
-        Some("ResourceClaim") => read(alloc, ResourceClaim::read(alloc, value)),
-        _ => word(alloc, "no object"),
+        Some("Node") => push_ok(alloc, out, Node::read(alloc, value)),
+        Some("DeviceClass") => push_ok(alloc, out, DeviceClass::read(alloc, value)),
+        Some("Pod") => push_ok(alloc, out, Pod::read(alloc, value)),
+        Some("ResourceSlice") => push_ok(alloc, out, ResourceSlice::read(alloc, value)),
+        Some("ResourceClaim") => push_ok(alloc, out, ResourceClaim::read(alloc, value)),
+        _ => {
+            out.say("no object");
+            Ok(())
+        }
     }
 }
 
-fn read<T: Drop>(alloc: Global, answer: Result<T, FieldError>) -> Result<String, CaseError> {
-    match answer {
-        Ok(_) => word(alloc, "ok"),
-        Err(error) => error_text(alloc, &error),
-    }
+fn push_ok<T: Drop>(
+    alloc: Global,
+    out: &mut Out,
+    answer: Result<T, FieldError>,
+) -> Result<(), CaseError> {
+    read(alloc, out, answer)?;
+    out.say("ok");
+    Ok(())
 }

@@ -1,42 +1,31 @@
 use crate::input::{CaseError, text_at};
-use crate::shown::{displayed, word};
+use crate::shown::Out;
 use quantity::{Nanos, Quantity};
 use serde_json::Value;
-use std::alloc::{AllocError, Global};
 
-pub fn answer(alloc: Global, word: &str, input: &Value) -> Result<String, CaseError> {
+pub fn answer(out: &mut Out, word: &str, input: &Value) -> Result<(), CaseError> {
     match input.as_str() {
-        Some(text) => of_text(alloc, word, text),
-        None => pair(alloc, word, text_at(input, 0)?, text_at(input, 1)?),
+        Some(text) => of_text(out, word, text),
+        None => pair(out, word, input),
     }
 }
 
-fn of_text(alloc: Global, word: &str, text: &str) -> Result<String, CaseError> {
+fn of_text(out: &mut Out, word: &str, text: &str) -> Result<(), CaseError> {
     match word {
-        "value" => value(alloc, text),
-        "message" => message(alloc, text),
-        "nanos" => nanos(alloc, parsed(text)?),
-        "whole" => whole(alloc, parsed(text)?),
-        "of_nanos" => of_nanos(alloc, count(text)?),
-        "wide" => displayed(alloc, &Nanos(count(text)?)),
-        _ => Err(CaseError::BadCase),
+        "value" | "message" => parse(out, word, text),
+        "nanos" | "whole" => of_quantity(out, word, parsed(text)?),
+        _ => of_count(out, word, count(text)?),
     }
 }
 
-/// The value as it prints, or the name of the error.
-fn value(alloc: Global, text: &str) -> Result<String, CaseError> {
+/// Appends the value as it prints, or the name of the error, or of a case of messages its message.
+fn parse(out: &mut Out, word: &str, text: &str) -> Result<(), CaseError> {
     match Quantity::parse(text.as_bytes()) {
-        Ok(quantity) => displayed(alloc, &quantity),
-        Err(error) => Ok(format!(in alloc; "{error:?}")?),
+        Ok(quantity) => out.show(&quantity),
+        Err(error) if word == "message" => out.show(&error),
+        Err(error) => out.debug(&error),
     }
-}
-
-/// The value as it prints, or the message of the error.
-fn message(alloc: Global, text: &str) -> Result<String, CaseError> {
-    match Quantity::parse(text.as_bytes()) {
-        Ok(quantity) => displayed(alloc, &quantity),
-        Err(error) => displayed(alloc, &error),
-    }
+    Ok(())
 }
 
 fn parsed(text: &str) -> Result<Quantity, CaseError> {
@@ -46,17 +35,13 @@ fn parsed(text: &str) -> Result<Quantity, CaseError> {
     }
 }
 
-/// How many 10^-9 it is.
-fn nanos(alloc: Global, quantity: Quantity) -> Result<String, CaseError> {
-    displayed(alloc, &quantity.nanos())
-}
-
-/// The whole number that it is, or `none`.
-fn whole(alloc: Global, quantity: Quantity) -> Result<String, CaseError> {
-    match quantity.as_integer() {
-        Some(number) => displayed(alloc, &number),
-        None => word(alloc, "none"),
+/// Appends how many 10^-9 a quantity is, or the whole number that it is or `none`.
+fn of_quantity(out: &mut Out, word: &str, quantity: Quantity) -> Result<(), CaseError> {
+    match word {
+        "nanos" => out.show(&quantity.nanos()),
+        _ => out.show_or_none(quantity.as_integer()),
     }
+    Ok(())
 }
 
 fn count(text: &str) -> Result<i128, CaseError> {
@@ -66,39 +51,32 @@ fn count(text: &str) -> Result<i128, CaseError> {
     }
 }
 
-/// The quantity of that many 10^-9, or `none`.
-fn of_nanos(alloc: Global, nanos: i128) -> Result<String, CaseError> {
-    match Quantity::from_nanos(nanos) {
-        Some(quantity) => displayed(alloc, &quantity),
-        None => word(alloc, "none"),
-    }
-}
-
-/// How the two compare, whether the first is below the second, their sum and their difference.
-fn pair(alloc: Global, word: &str, left: &str, right: &str) -> Result<String, CaseError> {
+/// Appends the quantity of that many 10^-9 or `none`, or that many 10^-9.
+fn of_count(out: &mut Out, word: &str, count: i128) -> Result<(), CaseError> {
     match word {
-        "pair" => pair_text(alloc, parsed(left)?, parsed(right)?),
-        _ => Err(CaseError::BadCase),
+        "of_nanos" => out.show_or_none(Quantity::from_nanos(count)),
+        "wide" => out.show(&Nanos(count)),
+        _ => return Err(CaseError::BadCase),
     }
+    Ok(())
 }
 
-fn pair_text(alloc: Global, left: Quantity, right: Quantity) -> Result<String, CaseError> {
-    let mut answer = String::new(alloc);
-    push_pair(&mut answer, left, right)?;
-    Ok(answer)
-}
-
-fn push_pair(answer: &mut String, left: Quantity, right: Quantity) -> Result<(), AllocError> {
-    let order = left.cmp(&right);
-    let below = left < right;
-    write!(answer, "{order:?} {below}")?;
-    push_amount(answer, left.checked_add(&right))?;
-    push_amount(answer, left.checked_sub(&right))
-}
-
-fn push_amount(answer: &mut String, amount: Option<Quantity>) -> Result<(), AllocError> {
-    match amount {
-        Some(amount) => write!(answer, " {amount}"),
-        None => answer.push_str(" none"),
+/// Appends how the two compare, whether the first is below the second, their sum and their difference.
+fn pair(out: &mut Out, word: &str, input: &Value) -> Result<(), CaseError> {
+    let left = parsed(text_at(input, 0)?)?;
+    let right = parsed(text_at(input, 1)?)?;
+    match word {
+        "pair" => push_pair(out, left, right),
+        _ => return Err(CaseError::BadCase),
     }
+    Ok(())
+}
+
+fn push_pair(out: &mut Out, left: Quantity, right: Quantity) {
+    out.debug(&left.cmp(&right));
+    out.show_after(" ", &(left < right));
+    out.say(" ");
+    out.show_or_none(left.checked_add(&right));
+    out.say(" ");
+    out.show_or_none(left.checked_sub(&right));
 }

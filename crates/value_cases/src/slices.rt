@@ -1,9 +1,10 @@
-use crate::shown::Copied;
+use crate::shown::{Copied, Out};
 use api_slice::{
     Attribute, CounterConsumption, CounterSet, Device, Nodes, ResourceSlice, SliceNodes,
 };
-use dra_values::{Table, Text};
+use dra_values::{Seq, Table, Text};
 use node_select::{Requirement, Selector, Test};
+use object_fields::QualName;
 use quantity::Quantity;
 use std::alloc::{AllocError, Global};
 
@@ -12,135 +13,135 @@ impl Copied for ResourceSlice {
         self.copy(alloc)
     }
 
-    fn show(&self, text: &mut String) -> Result<(), AllocError> {
-        write!(text, "{} {}", self.name, self.driver.as_text())?;
-        push_pool(text, self)?;
-        push_slice_nodes(text, &self.nodes)?;
-        push_sets(text, self.counters.as_slice())?;
-        push_devices(text, self.devices.as_slice())
+    fn show(&self, out: &mut Out) {
+        out.show(&self.name);
+        out.show_after(" ", self.driver.as_text());
+        push_pool(out, self);
+        push_slice_nodes(out, &self.nodes);
+        for set in self.counters.as_slice() {
+            push_set(out, set);
+        }
+        for device in self.devices.as_slice() {
+            push_device(out, device);
+        }
     }
 }
 
-fn push_slice_nodes(text: &mut String, nodes: &SliceNodes) -> Result<(), AllocError> {
+fn push_slice_nodes(out: &mut Out, nodes: &SliceNodes) {
     match nodes {
-        SliceNodes::Nodes(nodes) => push_nodes(text, nodes),
-        SliceNodes::PerDevice => text.push_str(" each"),
+        SliceNodes::Nodes(nodes) => push_nodes(out, nodes),
+        SliceNodes::PerDevice => out.say(" each"),
     }
 }
 
-fn push_sets(text: &mut String, sets: &[CounterSet]) -> Result<(), AllocError> {
-    for set in sets {
-        push_set(text, set)?;
-    }
-    Ok(())
-}
-
-fn push_devices(text: &mut String, devices: &[Device]) -> Result<(), AllocError> {
-    for device in devices {
-        push_device(text, device)?;
-    }
-    Ok(())
-}
-
-/// The pool, its generation and its slices, and the slice's version if there is one.
-fn push_pool(text: &mut String, slice: &ResourceSlice) -> Result<(), AllocError> {
-    let pool = &slice.pool;
-    write!(text, " {} {}/{}", pool.name, pool.generation, pool.slices)?;
+/// Appends the pool, its generation and its slices, and the slice's version if there is one.
+fn push_pool(out: &mut Out, slice: &ResourceSlice) {
+    out.show_after(" ", &slice.pool.name);
+    out.show_after(" ", &slice.pool.generation);
+    out.show_after("/", &slice.pool.slices);
     match slice.version {
-        Some(version) => write!(text, " v{version}"),
-        None => Ok(()),
+        Some(version) => out.show_after(" v", &version),
+        None => {}
     }
 }
 
-fn push_nodes(text: &mut String, nodes: &Nodes) -> Result<(), AllocError> {
+fn push_nodes(out: &mut Out, nodes: &Nodes) {
     match nodes {
-        Nodes::Named(name) => write!(text, " @{name}"),
-        Nodes::Selected(selector) => push_selector(text, selector),
-        Nodes::All => text.push_str(" all"),
+        Nodes::Named(name) => out.show_after(" @", name),
+        Nodes::Selected(selector) => push_selector(out, selector),
+        Nodes::All => out.say(" all"),
     }
 }
 
-/// The requirements on labels, ` /`, and those on fields.
-pub fn push_selector(text: &mut String, selector: &Selector) -> Result<(), AllocError> {
-    push_requirements(text, selector.expressions.as_slice())?;
-    text.push_str(" /")?;
-    push_requirements(text, selector.fields.as_slice())
+/// Appends the requirements on labels, ` /`, and those on fields.
+pub fn push_selector(out: &mut Out, selector: &Selector) {
+    push_requirements(out, selector.expressions.as_slice());
+    out.say(" /");
+    push_requirements(out, selector.fields.as_slice());
 }
 
-fn push_requirements(text: &mut String, requirements: &[Requirement]) -> Result<(), AllocError> {
+fn push_requirements(out: &mut Out, requirements: &[Requirement]) {
     for requirement in requirements {
-        push_requirement(text, requirement)?;
-    }
-    Ok(())
-}
-
-fn push_requirement(text: &mut String, requirement: &Requirement) -> Result<(), AllocError> {
-    let key = &requirement.key;
-    match &requirement.test {
-        Test::OneOf(values) => write!(text, " {key} in {values:?}"),
-        Test::NoneOf(values) => write!(text, " {key} not in {values:?}"),
-        Test::Present => write!(text, " {key}"),
-        Test::Absent => write!(text, " no {key}"),
-        Test::Above(number) => write!(text, " {key}>{number}"),
-        Test::Below(number) => write!(text, " {key}<{number}"),
+        push_requirement(out, &requirement.key, &requirement.test);
     }
 }
 
-fn push_set(text: &mut String, set: &CounterSet) -> Result<(), AllocError> {
-    write!(text, " {}:", set.name)?;
-    push_amounts(text, &set.counters)
+fn push_requirement(out: &mut Out, key: &Text, test: &Test) {
+    match test {
+        Test::OneOf(values) => push_values(out, key, " in ", values),
+        Test::NoneOf(values) => push_values(out, key, " not in ", values),
+        Test::Present => out.show_after(" ", key),
+        Test::Absent => out.show_after(" no ", key),
+        Test::Above(number) => push_bound(out, key, ">", *number),
+        Test::Below(number) => push_bound(out, key, "<", *number),
+    }
 }
 
-fn push_amounts(text: &mut String, amounts: &Table<Text, Quantity>) -> Result<(), AllocError> {
+fn push_values(out: &mut Out, key: &Text, words: &str, values: &Seq<Text>) {
+    out.show_after(" ", key);
+    out.say(words);
+    out.debug(values);
+}
+
+fn push_bound(out: &mut Out, key: &Text, sign: &str, number: i64) {
+    out.show_after(" ", key);
+    out.show_after(sign, &number);
+}
+
+fn push_set(out: &mut Out, set: &CounterSet) {
+    out.show_after(" ", &set.name);
+    out.say(":");
+    push_amounts(out, &set.counters);
+}
+
+fn push_amounts(out: &mut Out, amounts: &Table<Text, Quantity>) {
     for (name, amount) in amounts.as_map() {
-        write!(text, " {name}={amount}")?;
-    }
-    Ok(())
-}
-
-fn push_device(text: &mut String, device: &Device) -> Result<(), AllocError> {
-    write!(text, " [{}]", device.name)?;
-    push_attributes(text, device)?;
-    push_capacity(text, device)?;
-    push_draws(text, device.consumes.as_slice())?;
-    match &device.nodes {
-        Some(nodes) => push_nodes(text, nodes),
-        None => Ok(()),
+        out.show_after(" ", name);
+        out.show_after("=", amount);
     }
 }
 
-fn push_draws(text: &mut String, draws: &[CounterConsumption]) -> Result<(), AllocError> {
-    for draw in draws {
-        push_draw(text, draw)?;
-    }
-    Ok(())
-}
-
-fn push_attributes(text: &mut String, device: &Device) -> Result<(), AllocError> {
+fn push_device(out: &mut Out, device: &Device) {
+    out.show_after(" [", &device.name);
+    out.say("]");
     for (name, attribute) in device.properties.attributes().as_map() {
-        write!(text, " {}/{}", name.domain, name.id)?;
-        push_attribute(text, attribute)?;
+        push_name(out, name);
+        push_attribute(out, attribute);
     }
-    Ok(())
-}
-
-fn push_capacity(text: &mut String, device: &Device) -> Result<(), AllocError> {
     for (name, amount) in device.properties.capacity().as_map() {
-        write!(text, " {}/{}={amount}", name.domain, name.id)?;
+        push_name(out, name);
+        out.show_after("=", amount);
     }
-    Ok(())
+    push_draws(out, device.consumes.as_slice());
+    match &device.nodes {
+        Some(nodes) => push_nodes(out, nodes),
+        None => {}
+    }
 }
 
-fn push_attribute(text: &mut String, attribute: &Attribute) -> Result<(), AllocError> {
+fn push_name(out: &mut Out, name: &QualName) {
+    out.show_after(" ", &name.domain);
+    out.show_after("/", &name.id);
+}
+
+fn push_attribute(out: &mut Out, attribute: &Attribute) {
     match attribute {
-        Attribute::Int(number) => write!(text, ":{number}"),
-        Attribute::Bool(truth) => write!(text, ":{truth}"),
-        Attribute::Text(string) => write!(text, ":{string:?}"),
-        Attribute::Version(version) => write!(text, ":v{version}"),
+        Attribute::Int(number) => out.show_after(":", number),
+        Attribute::Bool(truth) => out.show_after(":", truth),
+        Attribute::Text(string) => push_string(out, string),
+        Attribute::Version(version) => out.show_after(":v", version),
     }
 }
 
-fn push_draw(text: &mut String, draw: &CounterConsumption) -> Result<(), AllocError> {
-    write!(text, " -{}:", draw.set)?;
-    push_amounts(text, &draw.amounts)
+fn push_string(out: &mut Out, string: &Text) {
+    out.say(":");
+    out.debug(string);
+}
+
+fn push_draws(out: &mut Out, draws: &[CounterConsumption]) {
+    for draw in draws {
+        out.show_after(" -", &draw.set);
+        out.say(":");
+        push_amounts(out, &draw.amounts);
+    }
 }

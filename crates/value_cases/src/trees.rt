@@ -1,37 +1,29 @@
-use crate::input::{CaseError, push_quoted, text};
+use crate::input::{CaseError, text};
+use crate::lexis::push_span;
 use crate::selectors::push_parse_error;
-use cel_parse::{ParseError, parse};
+use crate::shown::Out;
+use cel_parse::parse;
 use cel_tree::{BinaryOp, Entry, Kind, Literal, Span, Tree, UnaryOp};
 use serde_json::Value;
-use std::alloc::{AllocError, Global};
+use std::alloc::Global;
 
-pub fn answer(alloc: Global, word: &str, input: &Value) -> Result<String, CaseError> {
+pub fn answer(alloc: Global, out: &mut Out, word: &str, input: &Value) -> Result<(), CaseError> {
+    let text = text(input)?;
     match word {
-        "shape" => tree(alloc, text(input)?, false),
-        "spans" => tree(alloc, text(input)?, true),
-        _ => Err(CaseError::BadCase),
+        "shape" => push_tree(alloc, out, text, false),
+        "spans" => push_tree(alloc, out, text, true),
+        _ => return Err(CaseError::BadCase),
     }
+    Ok(())
 }
 
-/// The tree of a text, or why it is no expression. With spans each node is followed by its span, as
-/// `@0-3`.
-fn tree(alloc: Global, text: &str, spans: bool) -> Result<String, CaseError> {
+/// Appends the tree of a text, or why it is no expression. With spans each node is followed by its span,
+/// as `@0-3`.
+fn push_tree(alloc: Global, out: &mut Out, text: &str, spans: bool) {
     match parse(alloc, text) {
-        Ok(tree) => tree_text(alloc, &tree, spans),
-        Err(error) => error_text(alloc, error),
+        Ok(tree) => show(alloc, &tree, spans, out),
+        Err(error) => push_parse_error(out, error, true),
     }
-}
-
-fn tree_text(alloc: Global, tree: &Tree, spans: bool) -> Result<String, CaseError> {
-    let mut out = String::new(alloc);
-    show(alloc, tree, spans, &mut out)?;
-    Ok(out)
-}
-
-fn error_text(alloc: Global, error: ParseError) -> Result<String, CaseError> {
-    let mut out = String::new(alloc);
-    push_parse_error(&mut out, error, true)?;
-    Ok(out)
 }
 
 fn operator(op: BinaryOp) -> &'static str {
@@ -60,138 +52,95 @@ fn prefix(op: UnaryOp) -> &'static str {
     }
 }
 
-fn push_literal(alloc: Global, literal: &Literal, out: &mut String) -> Result<(), AllocError> {
+fn push_literal(alloc: Global, literal: &Literal, out: &mut Out) {
     match literal {
-        Literal::Null => out.push_str("null"),
-        Literal::Bool(truth) => write!(out, "{truth}"),
-        Literal::Int(number) => write!(out, "{number}"),
-        Literal::Text(text) => push_quoted(alloc, out, text.as_str()),
+        Literal::Null => out.say("null"),
+        Literal::Bool(truth) => out.show(truth),
+        Literal::Int(number) => out.show(number),
+        Literal::Text(text) => out.quoted(alloc, text.as_str()),
     }
 }
 
-fn push_place(spans: bool, span: Span, out: &mut String) -> Result<(), AllocError> {
+fn push_place(spans: bool, span: Span, out: &mut Out) {
     if spans {
-        let (start, end) = (span.start, span.end);
-        write!(out, "@{start}-{end}")
-    } else {
-        Ok(())
+        out.say("@");
+        push_span(out, span.start, span.end);
     }
 }
 
 /// The tree with brackets around each node with operands.
 #[cycle(show)]
-fn show(alloc: Global, tree: &Tree, spans: bool, out: &mut String) -> Result<(), AllocError> {
+fn show(alloc: Global, tree: &Tree, spans: bool, out: &mut Out) {
     match &tree.kind {
-        Kind::Literal(literal) => push_literal(alloc, literal, out)?,
-        Kind::Ident(name) => out.push_str(name.as_str())?,
+        Kind::Literal(literal) => push_literal(alloc, literal, out),
+        Kind::Ident(name) => out.say(name.as_str()),
         Kind::Unary(op, operand) => {
-            out.push_str(prefix(*op))?;
-            show_before(alloc, operand, ")", spans, out)?;
+            out.say(prefix(*op));
+            show_before(alloc, operand, ")", spans, out);
         }
         Kind::Binary(op, left, right) => {
-            out.push('(')?;
-            show_before(alloc, left, operator(*op), spans, out)?;
-            show_before(alloc, right, ")", spans, out)?;
+            out.say("(");
+            show_before(alloc, left, operator(*op), spans, out);
+            show_before(alloc, right, ")", spans, out);
         }
         Kind::Conditional(test, then, otherwise) => {
-            out.push('(')?;
-            show_before(alloc, test, " ? ", spans, out)?;
-            show_before(alloc, then, " : ", spans, out)?;
-            show_before(alloc, otherwise, ")", spans, out)?;
+            out.say("(");
+            show_before(alloc, test, " ? ", spans, out);
+            show_before(alloc, then, " : ", spans, out);
+            show_before(alloc, otherwise, ")", spans, out);
         }
         Kind::Member(object, name) => {
-            show_before(alloc, object, ".", spans, out)?;
-            out.push_str(name.as_str())?;
+            show_before(alloc, object, ".", spans, out);
+            out.say(name.as_str());
         }
         Kind::Index(object, index) => {
-            show_before(alloc, object, "[", spans, out)?;
-            show_before(alloc, index, "]", spans, out)?;
+            show_before(alloc, object, "[", spans, out);
+            show_before(alloc, index, "]", spans, out);
         }
         Kind::Call(function, arguments) => {
-            show_call(alloc, function.as_str(), arguments, spans, out)?;
+            out.say(function.as_str());
+            show_all(alloc, "(", arguments, ")", spans, out);
         }
         Kind::Method(object, function, arguments) => {
-            show_before(alloc, object, ".", spans, out)?;
-            show_call(alloc, function.as_str(), arguments, spans, out)?;
+            show_before(alloc, object, ".", spans, out);
+            out.say(function.as_str());
+            show_all(alloc, "(", arguments, ")", spans, out);
         }
-        Kind::List(items) => show_list(alloc, items, spans, out)?,
-        Kind::Map(entries) => show_map(alloc, entries, spans, out)?,
+        Kind::List(items) => show_all(alloc, "[", items, "]", spans, out),
+        Kind::Map(entries) => show_map(alloc, entries, spans, out),
     }
-    push_place(spans, tree.span, out)
+    push_place(spans, tree.span, out);
 }
 
 /// The tree, and the text after it.
 #[cycle(show)]
-fn show_before(
-    alloc: Global,
-    tree: &Tree,
-    after: &str,
-    spans: bool,
-    out: &mut String,
-) -> Result<(), AllocError> {
-    show(alloc, tree, spans, out)?;
-    out.push_str(after)
-}
-
-/// `function(arguments)`
-#[cycle(show)]
-fn show_call(
-    alloc: Global,
-    function: &str,
-    arguments: &[Tree],
-    spans: bool,
-    out: &mut String,
-) -> Result<(), AllocError> {
-    out.push_str(function)?;
-    out.push('(')?;
-    show_all(alloc, arguments, spans, out)?;
-    out.push(')')
-}
-
-/// `[item, item]`
-#[cycle(show)]
-fn show_list(
-    alloc: Global,
-    items: &[Tree],
-    spans: bool,
-    out: &mut String,
-) -> Result<(), AllocError> {
-    out.push('[')?;
-    show_all(alloc, items, spans, out)?;
-    out.push(']')
+fn show_before(alloc: Global, tree: &Tree, after: &str, spans: bool, out: &mut Out) {
+    show(alloc, tree, spans, out);
+    out.say(after);
 }
 
 /// `{key: value;key: value;}`
 #[cycle(show)]
-fn show_map(
-    alloc: Global,
-    entries: &[Entry],
-    spans: bool,
-    out: &mut String,
-) -> Result<(), AllocError> {
-    out.push('{')?;
+fn show_map(alloc: Global, entries: &[Entry], spans: bool, out: &mut Out) {
+    out.say("{");
     for entry in entries {
-        show_before(alloc, &entry.key, ": ", spans, out)?;
-        show_before(alloc, &entry.value, ";", spans, out)?;
+        show_before(alloc, &entry.key, ": ", spans, out);
+        show_before(alloc, &entry.value, ";", spans, out);
     }
-    out.push('}')
+    out.say("}");
 }
 
-/// Trees with commas between them.
+/// Trees with commas between them, between two texts.
 #[cycle(show)]
-fn show_all(
-    alloc: Global,
-    trees: &[Tree],
-    spans: bool,
-    out: &mut String,
-) -> Result<(), AllocError> {
+fn show_all(alloc: Global, before: &str, trees: &[Tree], after: &str, spans: bool, out: &mut Out) {
+    out.say(before);
     let mut first = true;
     for tree in trees {
         if !first {
-            out.push_str(", ")?;
+            out.say(", ");
         }
         first = false;
-        show(alloc, tree, spans, out)?;
+        show(alloc, tree, spans, out);
     }
-    Ok(())
+    out.say(after);
 }

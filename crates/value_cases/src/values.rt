@@ -1,71 +1,59 @@
 use crate::input::{CaseError, item, items, number_at, text, text_at};
+use crate::shown::{Out, done};
 use dra_values::{Duplicate, Seq, Table, Text};
 use serde_json::Value;
 use std::alloc::{AllocError, Global};
 
-pub fn answer(alloc: Global, word: &str, input: &Value) -> Result<String, CaseError> {
+pub fn answer(alloc: Global, out: &mut Out, word: &str, input: &Value) -> Result<(), CaseError> {
     match word {
-        "text" => text_forms(alloc, text(input)?),
-        "order" => order(alloc, text_at(input, 0)?, text_at(input, 1)?),
-        "list" => list(alloc, input),
-        "table" => table(alloc, input),
+        "text" => text_forms(alloc, out, input),
+        "order" => order(alloc, out, input),
+        "list" => list(alloc, out, input),
+        "table" => table(alloc, out, input),
         _ => Err(CaseError::BadCase),
     }
 }
 
-/// A text's copy in quotes, the text right-aligned to eight characters, and the text.
-fn text_forms(alloc: Global, chars: &str) -> Result<String, CaseError> {
-    let text = Text::new(alloc, String::from_str(alloc, chars)?)?;
-    copied_forms(alloc, &text)
-}
-
-fn copied_forms(alloc: Global, text: &Text) -> Result<String, CaseError> {
+/// Appends a text's copy in quotes, the text right-aligned to eight characters, and the text.
+fn text_forms(alloc: Global, out: &mut Out, chars: &Value) -> Result<(), CaseError> {
+    let text = Text::new(alloc, String::from_str(alloc, text(chars)?)?)?;
     let copy = text.duplicate(alloc)?;
-    forms(alloc, text, &copy)
+    out.debug(&copy);
+    out.say(" [");
+    out.wide(&text);
+    out.say("] ");
+    out.say(text.as_str());
+    Ok(())
 }
 
-fn forms(alloc: Global, text: &Text, copy: &Text) -> Result<String, CaseError> {
-    Ok(format!(in alloc; "{copy:?} [{text:>8}] {}", text.as_str())?)
-}
-
-/// Whether two texts are equal, and how they compare.
-fn order(alloc: Global, left: &str, right: &str) -> Result<String, CaseError> {
+/// Appends whether two texts are equal, and how they compare.
+fn order(alloc: Global, out: &mut Out, input: &Value) -> Result<(), CaseError> {
+    let (left, right) = (text_at(input, 0)?, text_at(input, 1)?);
     let left = Text::from_str(alloc, left)?;
-    order_with(alloc, &left, right)
-}
-
-fn order_with(alloc: Global, left: &Text, right: &str) -> Result<String, CaseError> {
     let right = Text::from_str(alloc, right)?;
-    order_text(alloc, left, &right)
+    out.debug(&left.cmp(&right));
+    out.show_after(" ", &(left == right));
+    Ok(())
 }
 
-fn order_text(alloc: Global, left: &Text, right: &Text) -> Result<String, CaseError> {
-    let order = left.cmp(right);
-    let equal = left == right;
-    Ok(format!(in alloc; "{order:?} {equal}")?)
-}
-
-/// The pairs of a list, each a number and a truth, pushed one after another, copied, and taken out
+/// Appends the pairs of a list, each a number and a truth, pushed one after another, copied, and taken out
 /// and put in again.
-fn list(alloc: Global, input: &Value) -> Result<String, CaseError> {
+fn list(alloc: Global, out: &mut Out, input: &Value) -> Result<(), CaseError> {
+    let items = items(input)?;
     let mut pairs = Seq::empty(alloc);
-    for pair in items(input)? {
-        pairs.push((number_at(pair, 0)?, truth_at(pair, 1)?))?;
+    for pair in items {
+        push_pair(&mut pairs, pair)?;
     }
-    list_text(alloc, pairs)
-}
-
-fn truth_at(value: &Value, place: usize) -> Result<bool, CaseError> {
-    match item(value, place)?.as_bool() {
-        Some(truth) => Ok(truth),
-        None => Err(CaseError::BadCase),
-    }
-}
-
-fn list_text(alloc: Global, pairs: Seq<(u64, bool)>) -> Result<String, CaseError> {
     let equal = equals_copy(alloc, &pairs)?;
-    let pairs = Seq::new(pairs.into_vec());
-    pairs_text(alloc, &pairs, equal)
+    out.debug(&Seq::new(pairs.into_vec()));
+    out.show_after(" ", &equal);
+    Ok(())
+}
+
+fn push_pair(pairs: &mut Seq<(u64, bool)>, pair: &Value) -> Result<(), CaseError> {
+    let number = number_at(pair, 0)?;
+    let truth = item(pair, 1)?.as_bool().ok_or(CaseError::BadCase)?;
+    done(pairs.push((number, truth)))
 }
 
 fn equals_copy(alloc: Global, pairs: &Seq<(u64, bool)>) -> Result<bool, AllocError> {
@@ -73,59 +61,49 @@ fn equals_copy(alloc: Global, pairs: &Seq<(u64, bool)>) -> Result<bool, AllocErr
     Ok(copy == *pairs)
 }
 
-fn pairs_text(alloc: Global, pairs: &Seq<(u64, bool)>, equal: bool) -> Result<String, CaseError> {
-    Ok(format!(in alloc; "{pairs:?} {equal}")?)
-}
-
-/// What each step on a table of numbers returns, one after another: `["insert", key, number]`,
+/// Appends what each step on a table of numbers returns, one after another: `["insert", key, number]`,
 /// `["set", key, number]`, `["get", key]`, `["remove", key]` or `["print"]`.
-fn table(alloc: Global, input: &Value) -> Result<String, CaseError> {
-    let mut answer = String::new(alloc);
-    table_steps(alloc, items(input)?, &mut answer)?;
-    Ok(answer)
-}
-
-fn table_steps(alloc: Global, steps: &[Value], answer: &mut String) -> Result<(), CaseError> {
+fn table(alloc: Global, out: &mut Out, input: &Value) -> Result<(), CaseError> {
+    let steps = items(input)?;
     let mut numbers = Table::new(alloc);
     for step in steps {
-        table_step(alloc, &mut numbers, step, answer)?;
+        table_step(alloc, out, &mut numbers, step)?;
     }
     Ok(())
 }
 
 fn table_step(
     alloc: Global,
+    out: &mut Out,
     numbers: &mut Table<Text, u64>,
     step: &Value,
-    answer: &mut String,
 ) -> Result<(), CaseError> {
-    match text_at(step, 0)? {
-        "insert" => insert(alloc, numbers, text_at(step, 1)?, number_at(step, 2)?),
-        "set" => set(alloc, numbers, text_at(step, 1)?, number_at(step, 2)?),
-        "get" => Ok(get(alloc, numbers, text_at(step, 1)?, answer)?),
-        "remove" => Ok(remove(alloc, numbers, text_at(step, 1)?, answer)?),
-        "print" => Ok(print(alloc, numbers, answer)?),
+    let verb = text_at(step, 0)?;
+    match verb {
+        "print" => done(print(alloc, out, numbers)),
+        "get" => get(alloc, out, numbers, step),
+        "remove" => remove(alloc, out, numbers, step),
+        "insert" => insert(alloc, numbers, step),
+        "set" => set(alloc, numbers, step),
         _ => Err(CaseError::BadCase),
     }
 }
 
-fn insert(
-    alloc: Global,
-    numbers: &mut Table<Text, u64>,
-    key: &str,
-    number: u64,
-) -> Result<(), CaseError> {
-    let key = Text::from_str(alloc, key)?;
-    Ok(numbers.insert(key, number)?)
+/// The key of a step.
+fn key_of(alloc: Global, step: &Value) -> Result<Text, CaseError> {
+    let text = text_at(step, 1)?;
+    done(Text::from_str(alloc, text))
 }
 
-fn set(
-    alloc: Global,
-    numbers: &mut Table<Text, u64>,
-    key: &str,
-    number: u64,
-) -> Result<(), CaseError> {
-    let key = Text::from_str(alloc, key)?;
+fn insert(alloc: Global, numbers: &mut Table<Text, u64>, step: &Value) -> Result<(), CaseError> {
+    let number = number_at(step, 2)?;
+    let key = key_of(alloc, step)?;
+    done(numbers.insert(key, number))
+}
+
+fn set(alloc: Global, numbers: &mut Table<Text, u64>, step: &Value) -> Result<(), CaseError> {
+    let number = number_at(step, 2)?;
+    let key = key_of(alloc, step)?;
     match numbers.get_mut(&key) {
         Some(place) => {
             *place = number;
@@ -137,39 +115,38 @@ fn set(
 
 fn get(
     alloc: Global,
+    out: &mut Out,
     numbers: &Table<Text, u64>,
-    key: &str,
-    answer: &mut String,
-) -> Result<(), AllocError> {
-    let key = Text::from_str(alloc, key)?;
-    let there = numbers.contains_key(&key);
-    let number = numbers.get(&key);
-    write!(answer, "{there} {number:?};")
+    step: &Value,
+) -> Result<(), CaseError> {
+    let key = key_of(alloc, step)?;
+    out.show(&numbers.contains_key(&key));
+    out.say(" ");
+    out.debug(&numbers.get(&key));
+    out.say(";");
+    Ok(())
 }
 
 fn remove(
     alloc: Global,
+    out: &mut Out,
     numbers: &mut Table<Text, u64>,
-    key: &str,
-    answer: &mut String,
-) -> Result<(), AllocError> {
-    let key = Text::from_str(alloc, key)?;
+    step: &Value,
+) -> Result<(), CaseError> {
+    let key = key_of(alloc, step)?;
     let number = numbers.remove(&key);
-    write!(answer, "{number:?};")
+    out.debug(&number);
+    out.say(";");
+    Ok(())
 }
 
-/// The table by a copy of it, and how many entries it has.
-fn print(alloc: Global, numbers: &Table<Text, u64>, answer: &mut String) -> Result<(), AllocError> {
+/// Appends the table by a copy of it, and how many entries it has.
+fn print(alloc: Global, out: &mut Out, numbers: &Table<Text, u64>) -> Result<(), AllocError> {
     let copy = Table::from_map(numbers.copy(alloc)?.into_map());
-    print_copy(numbers, &copy, answer)
-}
-
-fn print_copy(
-    numbers: &Table<Text, u64>,
-    copy: &Table<Text, u64>,
-    answer: &mut String,
-) -> Result<(), AllocError> {
-    let equal = copy == numbers;
-    let (count, empty) = (copy.len(), copy.is_empty());
-    write!(answer, "{copy:?} {equal} {count} {empty};")
+    out.debug(&copy);
+    out.show_after(" ", &(copy == *numbers));
+    out.show_after(" ", &copy.len());
+    out.show_after(" ", &copy.is_empty());
+    out.say(";");
+    Ok(())
 }

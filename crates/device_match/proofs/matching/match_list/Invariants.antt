@@ -1,5 +1,5 @@
 use Rattle.std.proofs.Common.{◌≡◌, ◌+◌, drop}
-use Rattle.selector_meaning.specs.Match.{match_from}
+use Rattle.pool_view.specs.Match.{match_from}
 use Rattle.device_match.proofs.matching.match_list.Given as goal
 
 abbrev pub invariant-loop-i : goal.invariant-loop-i

@@ -3,36 +3,40 @@ use Rattle.dra_cli.proofs.headline.runs_are_true.Goals as goal
 
 pub returns-clause-run : goal.returns-clause-run
 returns-clause-run c = true_run (record {
-  grants = c.grants_are_allocations.ensures;
-  verdicts = c.verdicts_are_true.ensures;
+  history = record {
+    grants = c.grants_are_allocations.ensures;
+    verdicts = c.verdicts_are_true.ensures;
+    steps = c.legal_steps.ensures.step;
+    adoptions = c.adoptions_are_allocations.ensures;
+    denials = c.denials_change_nothing.ensures.due;
+    holders = c.one_holder.ensures.always;
+    limits = c.objects_keep_limits.ensures.always;
+    users = c.users_are_busy.ensures.always;
+    uses = c.pods_use_claims.ensures.always;
+  };
   budgets = c.runs_search_within.ensures.verdicts;
   part_budgets = c.runs_search_within.ensures.part_verdicts;
-  steps = c.legal_steps.ensures.step;
   prefix = c.legal_steps.ensures.prefix;
-  adoptions = c.adoptions_are_allocations.ensures;
-  denials = c.denials_change_nothing.ensures.due;
-  holders = c.one_holder.ensures.always;
-  limits = c.objects_keep_limits.ensures.always;
-  users = c.users_are_busy.ensures.always;
-  uses = c.pods_use_claims.ensures.always;
   complete = c.runs_are_complete.ensures;
   undisturbed = c.single_commands_are_undisturbed.ensures.part;
 })
 
 pub returns-clause-part : goal.returns-clause-part
 returns-clause-part c = true_part (record {
-  grants = c.grants_are_allocations.ensures;
-  verdicts = c.verdicts_are_true.ensures;
+  history = record {
+    grants = c.grants_are_allocations.ensures;
+    verdicts = c.verdicts_are_true.ensures;
+    steps = c.legal_steps.ensures.step;
+    adoptions = c.adoptions_are_allocations.ensures;
+    denials = c.denials_change_nothing.ensures.due;
+    holders = c.one_holder.ensures.always;
+    limits = c.objects_keep_limits.ensures.always;
+    users = c.users_are_busy.ensures.always;
+    uses = c.pods_use_claims.ensures.always;
+  };
   budgets = c.runs_search_within.ensures.verdicts;
   part_budgets = c.runs_search_within.ensures.part_verdicts;
-  steps = c.legal_steps.ensures.step;
   prefix = c.legal_steps.ensures.prefix;
-  adoptions = c.adoptions_are_allocations.ensures;
-  denials = c.denials_change_nothing.ensures.due;
-  holders = c.one_holder.ensures.always;
-  limits = c.objects_keep_limits.ensures.always;
-  users = c.users_are_busy.ensures.always;
-  uses = c.pods_use_claims.ensures.always;
   complete = c.runs_are_complete.ensures;
   undisturbed = c.single_commands_are_undisturbed.ensures.part;
 })

@@ -1,5 +1,5 @@
 use Rattle.std.proofs.Common.{◌≡◌, ◌++◌, drop}
-use Rattle.ledger_core.specs.Holding.{lost_among}
+use Rattle.allocations.specs.Lost.{lost_among}
 use Rattle.ledger_core.proofs.holding.lost_among.Given as goal
 
 abbrev pub invariant-loop-key : goal.invariant-loop-key

@@ -12,7 +12,7 @@ pub returns-in_ok-snapshot-in-None-clause-begins : goal.returns-in_ok-snapshot-i
 returns-in_ok-snapshot-in-None-clause-begins c =
     let pod = c.args.pod.now in
     let before = c.args.self.now.entries in
-    let state_is : c.self.inside.state ≡ state_of before = c.self.invariant.state_is ∙ ap (λ (h : History). state_of h.entries) c.self.view_is in
+    let state_is : c.self.inside.state ≡ state_of before = c.self.invariant.0.state_is ∙ ap (λ (h : History). state_of h.entries) c.self.view_is in
     let unrefused : first_refusal (state_of before) (Schedule pod) ≡ None = ap (λ (s : State). first_refusal s (Schedule pod)) (sym state_is) ∙ sym c.in_ok-schedule_refusal.ensures ∙ c.in-None.is in
     let idle = idle_pod (state_of before) pod unrefused in
     record {

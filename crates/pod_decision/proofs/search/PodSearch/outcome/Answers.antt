@@ -6,25 +6,23 @@ use Rattle.pod_decision.proofs.FullNodes.{known_nothing}
 use Rattle.pod_decision.proofs.Lifted.{found_of_node}
 use Rattle.pod_decision.proofs.search.PodSearch.outcome.Goals as goal
 
-pub returns-clause-found : goal.returns-clause-found
-returns-clause-found c =
-    IfOk-weaker c.search_devices.result _ _
-    (λ found answer. found_of_node c.args.self.now.state c.self.inside.state.now c.args.self.now.claims c.args.node.now c.self.inside.pools c.self.inside.holders.now
-    c.args.totals.now c.deref-2.result.now c.has_broken-broken.result c.self.inside.wants c.args.budget found
-    (ap (λ v. v.state) c.self.view_is) c.self.invariant.pools_are (c.deref-2.ensures.value ∙ c.in_ok-devices.ensures)
-    c.has_broken-broken.ensures (ap (λ v. v.claims) c.self.view_is) c.self.invariant.classes_are c.self.invariant.holders_are c.requires.drawn answer)
-    c.search_devices.ensures.answer
-
-pub returns-clause-drawn : goal.returns-clause-drawn
-returns-clause-drawn c = record {
-  value_is = λ k. c.search_devices.ensures.value k ∙ c.requires.drawn.value_is k;
-  drawn_is = λ k. c.search_devices.ensures.drawn k ∙ c.requires.drawn.drawn_is k;
+pub returns : goal.returns
+returns c = record {
+  found =
+      IfOk-weaker c.search_among.result _ _
+      (λ found answer. found_of_node c.args.self.now.state c.self.inside.state.now c.args.self.now.claims c.args.node.now c.self.inside.pools c.self.inside.holders.now
+      c.args.totals.now c.deref-2.result.now c.has_broken-broken.result c.self.inside.wants c.args.budget found
+      (ap (λ v. v.state) c.self.view_is) c.self.invariant.pools_are (c.deref-2.ensures.value ∙ c.in_ok-devices.ensures)
+      c.has_broken-broken.ensures (ap (λ v. v.claims) c.self.view_is) c.self.invariant.classes_are c.self.invariant.holders_are c.requires.drawn answer)
+      c.search_among.ensures.answer;
 }
 
-pub returns-then-is_full-clause-found : goal.returns-then-is_full-clause-found
-returns-then-is_full-clause-found c =
-    known_nothing c.args.self.now.state c.self.inside.state.now c.args.self.now.claims c.args.node.now c.self.inside.pools c.deref.result.now c.self.inside.wants.classes c.self.inside.holders.now c.args.budget
-    c.deref-then-budget-gt0.result.now c.self.inside.known
-    (ap (λ v. v.state) c.self.view_is) c.self.invariant.pools_are c.deref.ensures c.self.invariant.classes_are (c.deref-then-budget-gt0.ensures.value ∙ c.in_ok-devices.ensures) c.self.invariant.holders_are
-    (subst (λ cs. IfSome c.self.inside.known (IsKnownOf c.self.inside.state.now.inventory.slices c.self.inside.wants.classes cs)) (ap (λ v. v.claims) c.self.view_is) c.self.invariant.known_is)
-    (c.is_full.ensures c.if-is_full.true) c.devices_differ.ensures.named c.devices_differ.ensures.listed (omega (arith, c.if-budget-gt0.true))
+pub returns-then-is_full : goal.returns-then-is_full
+returns-then-is_full c = record {
+  found =
+      known_nothing c.args.self.now.state c.self.inside.state.now c.args.self.now.claims c.args.node.now c.self.inside.pools c.deref.result.now c.self.inside.wants.classes c.self.inside.holders.now c.args.budget
+      c.deref-then-budget-gt0.result.now c.self.inside.known
+      (ap (λ v. v.state) c.self.view_is) c.self.invariant.pools_are c.deref.ensures c.self.invariant.classes_are (c.deref-then-budget-gt0.ensures.value ∙ c.in_ok-devices.ensures) c.self.invariant.holders_are
+      (subst (λ cs. IfSome c.self.inside.known (IsKnownOf c.self.inside.state.now.inventory.slices c.self.inside.wants.classes cs)) (ap (λ v. v.claims) c.self.view_is) c.self.invariant.known_is)
+      (c.is_full.ensures c.if-is_full.true) c.devices_differ.ensures.named c.devices_differ.ensures.listed (omega (arith, c.if-budget-gt0.true));
+}

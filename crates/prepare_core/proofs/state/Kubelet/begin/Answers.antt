@@ -10,6 +10,6 @@ use Rattle.prepare_core.proofs.state.Kubelet.begin.Goals as goal
 pub invariant_of-result-clause-begun : goal.invariant_of-result-clause-begun
 invariant_of-result-clause-begun g c =
     let rows = rows_in c.args.self in
-    let begun : claim_with c.in-Ok.copied c.in-Ok-record_begun.pods ≡ begun_claim c.args.pod.now c.args.claim.now rows =
-    (λ i. claim_with (c.in-Ok.ensures i) (c.in-Ok-record_begun.ensures.pods i)) in
-    begun_found rows (rows_in c.record_begun.new.self) _ (c.in-Ok-record_begun.ensures.rows ∙ ap (λ k. row_after rows (items.Begun k)) (sym begun))
+    let begun : claim_with c.in-Ok.claim c.in-Ok.pods ≡ begun_claim c.args.pod.now c.args.claim.now rows =
+    (λ i. claim_with (c.in-Ok.ensures.copied i) (c.in-Ok.ensures.pods i)) in
+    begun_found rows (rows_in c.record_begun.new.self) _ (c.in-Ok.ensures.rows ∙ ap (λ k. row_after rows (items.Begun k)) (sym begun))

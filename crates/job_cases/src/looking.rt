@@ -1,0 +1,93 @@
+use crate::input::{CaseError, cut_word};
+use crate::out::Out;
+use crate::setup::Setup;
+use crate::spelling::key;
+use api_slice::ResourceSlice;
+use cluster::{Command, Refusal, Target};
+use dra_values::Text;
+use object_fields::Key;
+use pool_view::usable;
+use std::alloc::{AllocError, Global};
+
+/// Appends the names of the slices of usable pools, in order, or `-` if there are none.
+pub fn push_usable(alloc: Global, setup: &Setup, out: &mut Out) -> Result<(), AllocError> {
+    let slices = usable(alloc, setup.ledger.state().inventory.value())?;
+    push_names(slices.as_slice(), out);
+    Ok(())
+}
+
+fn push_names(slices: &[&ResourceSlice], out: &mut Out) {
+    for slice in slices {
+        out.show_after(" ", &slice.name);
+    }
+    if slices.is_empty() {
+        out.say(" -");
+    }
+}
+
+/// Appends the first refusal of a command such as `delete-node n1` or `schedule default/p`.
+pub fn push_refusal(
+    alloc: Global,
+    setup: &Setup,
+    text: &str,
+    out: &mut Out,
+) -> Result<(), CaseError> {
+    let (verb, name) = cut_word(text);
+    let command = command_of(alloc, verb, name)?;
+    match setup.ledger.state().first_refusal(alloc, &command)? {
+        None => out.say(" ok"),
+        Some(refusal) => push_word(&refusal, out),
+    }
+    Ok(())
+}
+
+fn command_of(alloc: Global, verb: &str, name: &str) -> Result<Command, CaseError> {
+    match verb {
+        "schedule" | "release" | "delete-claim" | "delete-pod" => of_key(verb, key(alloc, name)?),
+        _ => of_name(verb, Text::from_str(alloc, name)?),
+    }
+}
+
+fn of_key(verb: &str, key: Key) -> Result<Command, CaseError> {
+    match verb {
+        "schedule" => Ok(Command::Schedule(key)),
+        "release" => Ok(Command::Release(key)),
+        "delete-claim" => Ok(Command::Delete(Target::Claim(key))),
+        _ => Ok(Command::Delete(Target::Pod(key))),
+    }
+}
+
+fn of_name(verb: &str, name: Text) -> Result<Command, CaseError> {
+    match verb {
+        "delete-node" => Ok(Command::Delete(Target::Node(name))),
+        "delete-slice" => Ok(Command::Delete(Target::Slice(name))),
+        "delete-class" => Ok(Command::Delete(Target::Class(name))),
+        _ => Err(CaseError::BadCase),
+    }
+}
+
+/// Appends the word of a refusal, and with Bound the node.
+fn push_word(refusal: &Refusal, out: &mut Out) {
+    out.say(" ");
+    out.say(word_of(refusal));
+    match refusal {
+        Refusal::Bound(node) => out.show_after(" ", node),
+        _ => {}
+    }
+}
+
+fn word_of(refusal: &Refusal) -> &'static str {
+    match refusal {
+        Refusal::Invalid => "Invalid",
+        Refusal::NotFound => "NotFound",
+        Refusal::Exists => "Exists",
+        Refusal::Conflict { .. } => "Conflict",
+        Refusal::Immutable => "Immutable",
+        Refusal::InUse => "InUse",
+        Refusal::Devices => "Devices",
+        Refusal::Busy(_) => "Busy",
+        Refusal::Bound(_) => "Bound",
+        Refusal::NotBound => "NotBound",
+        Refusal::Failure(_) => "Failure",
+    }
+}

@@ -1,9 +1,0 @@
-use Rattle.std.proofs.Common.{◌+◌, ◌-◌, length}
-use Rattle.mem_disk.specs.Stages.{StartsWith}
-use Rattle.mem_disk.proofs.moment.Moment.lengthen.Given as goal
-
-abbrev pub invariant-loop-image : goal.invariant-loop-image
-invariant-loop-image l = StartsWith l.image.items l.fn.image.items
-
-abbrev pub decreases-loop-image : goal.decreases-loop-image
-decreases-loop-image l = length l.fn.self.bytes.items + l.more - length l.image.items

@@ -1,0 +1,3 @@
+pub mod PoolDates
+pub mod Places
+pub mod Rows

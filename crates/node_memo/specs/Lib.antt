@@ -1,0 +1,3 @@
+pub mod Dated
+pub mod Placed
+pub mod Memo

@@ -1,3 +1,0 @@
-pub mod Matches
-pub mod Match
-pub mod Devices

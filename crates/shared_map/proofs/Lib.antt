@@ -1,0 +1,5 @@
+pub mod Between
+pub mod Hitting
+pub mod Joining
+pub mod Placing
+pub mod Sorting
