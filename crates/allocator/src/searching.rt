@@ -22,11 +22,11 @@ use crate::held::HeldDevices;
 use crate::outcome::Outcome;
 use counter_sets::{Held, Totals};
 use deep_search::Answer;
+use device_match::Verdicts;
 use pool_view::DeviceRef;
 use request_rows::{Rows, Wants};
 use std::alloc::{AllocError, Global};
 use std::mem;
-use verdict_memo::Verdicts;
 use walk::{outcome_is_exact, walk_has_each_item};
 
 /// What the search of a board came to.

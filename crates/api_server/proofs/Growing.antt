@@ -16,8 +16,8 @@ use Rattle.api_requests.specs.declared.task.Task.{Task}
 use Rattle.api_requests.specs.declared.task.Task.TheVariants.{Run as Carry, Show, List as Listing, History}
 use Rattle.api_server.specs.Requests.{ServesBy, ServesRequest}
 use Rattle.api_server.specs.Served.{Looked, run_for}
-use Rattle.api_server.specs.declared.serve.Unreplied.{Unreplied}
-use Rattle.api_server.specs.declared.serve.Unreplied.TheVariants as why
+use Rattle.api_server.specs.declared.task.Unreplied.{Unreplied}
+use Rattle.api_server.specs.declared.task.Unreplied.TheVariants as why
 use Rattle.api_server.specs.Connections.{Replies, job_of}
 use Rattle.api_server.specs.Entries.{AreEntries, Grew, IsOfOne}
 use Rattle.api_server.specs.declared.service.Service.{Service}

@@ -7,8 +7,8 @@ use Rattle.http_wire.specs.Requests.{AreRequests, Ending, Lie, LieAfter, Message
 use Rattle.http_wire.specs.Requests.Ending.{Closed, BadHead, NoLength, TooLong, EndedEarly}
 use Rattle.http_wire.specs.declared.error.WireError.TheVariants as wire
 use Rattle.api_routes.specs.declared.unserved.Unserved.{Unserved}
-use Rattle.api_server.specs.declared.serve.Unreplied.{Unreplied}
-use Rattle.api_server.specs.declared.serve.Unreplied.TheVariants as why
+use Rattle.api_server.specs.declared.task.Unreplied.{Unreplied}
+use Rattle.api_server.specs.declared.task.Unreplied.TheVariants as why
 use Rattle.api_server.specs.Connections.{BeginsWith, Connected, HasServed, IsCut, IsDone, IsLate, IsStopped, NextUnreplied}
 use Rattle.api_server.specs.Entries.{Begin, Grew, HasMade}
 use Rattle.api_server.specs.declared.end.ConnEnd.{ConnEnd}

@@ -18,7 +18,7 @@ use Rattle.api_replies.specs.Answers.{answer_of}
 use Rattle.api_server.specs.Requests.{ServesBy}
 use Rattle.api_server.specs.Served.{IsCarried, IsEndReply, Looked, run_for}
 use Rattle.sched_job.specs.Going.{with_added}
-use Rattle.api_server.specs.declared.serve.Unreplied.TheVariants as why
+use Rattle.api_server.specs.declared.task.Unreplied.TheVariants as why
 use Rattle.api_server.specs.Connections.{IsReplied, IsUnreplied, Replies, job_of}
 use Rattle.api_server.specs.Entries.{AreEntries, IsOfOne}
 use Rattle.api_server.specs.Standing.{AllStand, AllTheirs, AnswersAt, IsFullFor, RanFor}

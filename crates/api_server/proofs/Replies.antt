@@ -24,8 +24,8 @@ use Rattle.api_print.specs.Parts.{part_json}
 use Rattle.api_replies.specs.Answers.{Answer, answer_of, ended, json_after}
 use Rattle.api_server.specs.declared.once.Acted.TheVariants as acted
 use Rattle.api_server.specs.declared.once.Ended.{Ended}
-use Rattle.api_server.specs.declared.serve.Unreplied.{Unreplied}
-use Rattle.api_server.specs.declared.serve.Unreplied.TheVariants as why
+use Rattle.api_server.specs.declared.task.Unreplied.{Unreplied}
+use Rattle.api_server.specs.declared.task.Unreplied.TheVariants as why
 use Rattle.api_server.specs.Once.{IsCaptured, IsMade, TookOnce, entry_of, event_of, unreplied}
 use Rattle.api_server.specs.Served.{IsCarried, IsEnd, IsEndReply, IsJob, IsPlaced, IsUncarried, Looked, run_for}
 use Rattle.api_server.proofs.Made.{Begins, BegunMore, Grows, NoneMore, Starts, prefix_length, run_made, worked_failed, worked_made}

@@ -18,7 +18,7 @@ use Rattle.http_wire.specs.declared.reply.Reply.{Reply}
 use Rattle.api_replies.specs.Answers.{answer_of, refused}
 use Rattle.api_routes.specs.declared.unserved.Unserved.{Unserved}
 use Rattle.api_routes.specs.declared.unserved.Unserved.TheVariants as unserved
-use Rattle.api_server.specs.declared.serve.Unreplied.TheVariants as why
+use Rattle.api_server.specs.declared.task.Unreplied.TheVariants as why
 use Rattle.api_server.specs.Connections.{Connected, HasServed, IsCut, IsReplied, IsStopped, IsUnread, IsUnreplied, OnWay, Refusing, Serving, Stopping, has_last}
 use Rattle.api_server.specs.declared.end.ConnEnd.{ConnEnd}
 use Rattle.api_server.specs.declared.end.ConnEnd.TheVariants as end

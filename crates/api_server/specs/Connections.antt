@@ -16,8 +16,8 @@ use Rattle.api_replies.specs.Answers.{answer_of, refused}
 use Rattle.api_routes.specs.declared.unserved.Unserved.{Unserved}
 use Rattle.api_routes.specs.declared.unserved.Unserved.TheVariants as unserved
 use Rattle.api_server.specs.Requests.{ServesRequest}
-use Rattle.api_server.specs.declared.serve.Unreplied.{Unreplied}
-use Rattle.api_server.specs.declared.serve.Unreplied.TheVariants as why
+use Rattle.api_server.specs.declared.task.Unreplied.{Unreplied}
+use Rattle.api_server.specs.declared.task.Unreplied.TheVariants as why
 use Rattle.api_server.specs.declared.end.ConnEnd.{ConnEnd}
 use Rattle.api_server.specs.declared.end.ConnEnd.TheVariants as end
 use Rattle.api_server.specs.declared.service.Service.{Service}

@@ -7,3 +7,11 @@ pub mod Once
 pub mod Served
 pub mod Requests
 pub mod Ledgers
+pub mod Parts
+pub mod Passes
+pub mod Printing
+pub mod Serving
+pub mod Together
+pub mod Visits
+pub mod Whole
+pub mod Workers

@@ -21,8 +21,8 @@ use Rattle.sched_job.specs.Ledgers.ledger_error as ledger_error
 use Rattle.turn_lock.specs.Known.{Known, entered, left}
 use Rattle.api_print.specs.Parts.{part_json}
 use Rattle.api_replies.specs.Answers.{json_after}
-use Rattle.api_server.specs.declared.serve.Unreplied.{Unreplied}
-use Rattle.api_server.specs.declared.serve.Unreplied.TheVariants as why
+use Rattle.api_server.specs.declared.task.Unreplied.{Unreplied}
+use Rattle.api_server.specs.declared.task.Unreplied.TheVariants as why
 use Rattle.api_server.specs.declared.once.Acted.{Acted}
 use Rattle.api_server.specs.declared.once.Acted.TheVariants as acted
 use Rattle.api_server.specs.declared.once.Ended.{Ended}

@@ -7,8 +7,8 @@ use Rattle.api_routes.specs.declared.unserved.Unserved.{Unserved}
 use Rattle.api_requests.specs.declared.task.Task.{Task}
 use Rattle.api_replies.specs.Answers.{answer_of, refused}
 use Rattle.api_server.specs.Served.{Serves}
-use Rattle.api_server.specs.declared.serve.Unreplied.{Unreplied}
-use Rattle.api_server.specs.declared.serve.Unreplied.TheVariants as why
+use Rattle.api_server.specs.declared.task.Unreplied.{Unreplied}
+use Rattle.api_server.specs.declared.task.Unreplied.TheVariants as why
 
 -- the reply to a request that is refused before it is a command
 abbrev pub IsRefused : Unserved → Result Reply Unreplied → Type 0

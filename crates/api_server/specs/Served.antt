@@ -17,8 +17,8 @@ use Rattle.api_requests.specs.declared.task.Task.{Task}
 use Rattle.api_requests.specs.declared.task.Task.TheVariants.{Run as Carry, Show, List as Listing, History}
 use Rattle.api_replies.specs.Answers.{Answer, answer_of, ended, journal, object_answer, refused}
 use Rattle.api_replies.specs.Lists.{listed}
-use Rattle.api_server.specs.declared.serve.Unreplied.{Unreplied}
-use Rattle.api_server.specs.declared.serve.Unreplied.TheVariants as why
+use Rattle.api_server.specs.declared.task.Unreplied.{Unreplied}
+use Rattle.api_server.specs.declared.task.Unreplied.TheVariants as why
 
 -- ---- replies
 

@@ -9,7 +9,7 @@ ghost use Rattle.api_server.specs.Served.{IsJob, IsPlaced, run_for};
 
 use crate::look::look_at;
 use crate::once::{Acted, Ended, take_turn};
-use crate::serve::Unreplied;
+use crate::task::Unreplied;
 use api_print::Part;
 use api_replies::ended;
 use cluster::{Entry, Event};

@@ -3,7 +3,7 @@ ghost use Rattle.turn_lock.specs.Known.{IsFree, IsOf};
 ghost use Rattle.api_requests.specs.Tasks as asked;
 ghost use Rattle.api_server.specs.Requests.{IsRefused, ServesRequest};
 
-use crate::serve::{Unreplied, serve_task};
+use crate::task::{Unreplied, serve_task};
 use api_replies::refused;
 use api_requests::task_of;
 use api_routes::Unserved;

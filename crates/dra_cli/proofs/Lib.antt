@@ -1,3 +1,9 @@
+pub mod Small
+pub mod Script
+pub mod Counting
+pub mod Lines
+pub mod Ended
+pub mod Printing
 pub mod Asked
 pub mod Tasks
 pub mod Told

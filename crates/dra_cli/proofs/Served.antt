@@ -9,10 +9,12 @@ use Rattle.plan_rules.specs.Plans.{VerdictBy}
 use Rattle.histories.specs.Histories.{Each}
 use Rattle.histories.specs.JobRuns.{JobKept, JobStep, Run}
 use Rattle.http_wire.specs.Requests.{Message}
-use Rattle.server_core.specs.Connections.{Service, Terms, job_for}
-use Rattle.server_core.specs.Serving.{IsFull, IsServed, terms_of}
-use Rattle.server_core.specs.Visits.{MetLimit, OfMet, OfRuns, OfSome, OfVisit, Visit, service_of}
-use Rattle.server_core.specs.declared.options.ServeOptions.{ServeOptions}
+use Rattle.api_server.specs.declared.service.Service.{Service}
+use Rattle.api_server.specs.Standing.{job_for}
+use Rattle.api_server.specs.Talks.{Terms}
+use Rattle.api_server.specs.Serving.{IsFull, IsServed, terms_of}
+use Rattle.api_server.specs.Visits.{MetLimit, OfMet, OfRuns, OfSome, OfVisit, Visit, service_of}
+use Rattle.api_server.specs.declared.options.ServeOptions.{ServeOptions}
 use Rattle.dra_cli.specs.Headline.{IsTrueHistory}
 use Rattle.dra_cli.proofs.Truths.{HistoryLaws, SearchedBy, true_history}
 

@@ -3,11 +3,11 @@ use Rattle.std.proofs.Common.{ℕ, ◌≡◌, ◌∙◌, ◌⊎◌, inl, inr, Li
 use Rattle.std.specs.Prelude.{Option}
 use Rattle.cluster.specs.declared.entry.Entry.{Entry}
 use Rattle.dra_ports.specs.Causes.{Rose}
-use Rattle.server_core.specs.Serving.{IsFull, IsFullText, IsServed, IsText, Prints, PrintsPart, PrintsSo}
-use Rattle.server_core.specs.Visits.{Visit}
-use Rattle.server_core.specs.declared.options.ServeOptions.{ServeOptions}
-use Rattle.server_core.specs.declared.options.ServeStatus.{ServeStatus}
-use Rattle.server_core.specs.declared.options.ServeStatus.TheVariants as serve
+use Rattle.api_server.specs.Serving.{IsFull, IsFullText, IsServed, IsText, Prints, PrintsPart, PrintsSo}
+use Rattle.api_server.specs.Visits.{Visit}
+use Rattle.api_server.specs.declared.options.ServeOptions.{ServeOptions}
+use Rattle.api_server.specs.declared.options.ServeStatus.{ServeStatus}
+use Rattle.api_server.specs.declared.options.ServeStatus.TheVariants as serve
 use Rattle.replay_core.specs.declared.status.Status.{Status}
 use Rattle.replay_core.specs.declared.status.Status.TheVariants as status
 use Rattle.dra_cli.specs.Headline.{IsTrueHistory}

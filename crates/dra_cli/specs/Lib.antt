@@ -1,3 +1,6 @@
+pub mod Memory
+pub mod Lines
+pub mod Exercise
 pub mod Task
 pub mod Program
 pub mod Headline

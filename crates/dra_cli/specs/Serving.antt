@@ -3,10 +3,10 @@ use Rattle.std.specs.Prelude.{ℕ, ◌≡◌, ◌⊎◌, ◌+◌, ◌-◌, ◌^�
 use Rattle.dra_ports.specs.Prefixes.{AppendsPrefix}
 use Rattle.cli_words.specs.declared.command.ServeWords.{ServeWords}
 use Rattle.door_ports.specs.Visits.{Ended}
-use Rattle.server_core.specs.Serving.{IsFullText, IsText, Prints}
-use Rattle.server_core.specs.declared.options.ServeOptions.{ServeOptions}
-use Rattle.server_core.specs.declared.options.ServeStatus.{ServeStatus}
-use Rattle.server_core.specs.declared.options.ServeStatus.TheVariants as serve
+use Rattle.api_server.specs.Serving.{IsFullText, IsText, Prints}
+use Rattle.api_server.specs.declared.options.ServeOptions.{ServeOptions}
+use Rattle.api_server.specs.declared.options.ServeStatus.{ServeStatus}
+use Rattle.api_server.specs.declared.options.ServeStatus.TheVariants as serve
 use Rattle.replay_core.specs.declared.status.Status.{Status}
 use Rattle.replay_core.specs.declared.status.Status.TheVariants as status
 use Rattle.dra_cli.specs.Headline.{IsTrueHistory}

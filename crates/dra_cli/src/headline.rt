@@ -3,9 +3,9 @@ ghost use Rattle.cluster.specs.declared.entry.Entry.{Entry};
 ghost use Rattle.commands.specs.declared.given.Given.{Given};
 ghost use Rattle.replay_core.specs.declared.options.ReplayOptions.{ReplayOptions};
 ghost use Rattle.replay_core.specs.Replay.{IsPart, IsRun};
-ghost use Rattle.server_core.specs.Serving.{IsFull, IsServed};
-ghost use Rattle.server_core.specs.Visits.{Visit};
-ghost use Rattle.server_core.specs.declared.options.ServeOptions.{ServeOptions};
+ghost use Rattle.api_server.specs.Serving.{IsFull, IsServed};
+ghost use Rattle.api_server.specs.Visits.{Visit};
+ghost use Rattle.api_server.specs.declared.options.ServeOptions.{ServeOptions};
 ghost use Rattle.dra_cli.specs.Headline.{IsTrueHistory, IsTruePart, IsTrueRun};
 
 use histories::{

@@ -7,9 +7,14 @@
 
 mod announced;
 mod denials;
+mod exercise;
 mod file_disk;
 mod headline;
+mod last_line;
+mod laws;
+mod memory;
 mod message;
+mod nowhere;
 mod position;
 mod program;
 mod serving;

@@ -4,11 +4,11 @@ ghost use Rattle.dra_cli.specs.Serving.{ServesSo, seen_as, serve_options, serve_
 ghost use Rattle.dra_cli.specs.Task.{AreServed};
 
 use crate::headline::served_are_true;
+use api_server::{ServeOptions, ServeStatus, serve};
 use cli_words::ServeWords;
 use door_ports::Doors;
 use dra_ports::{Gate, Sink};
 use replay_core::Status;
-use server_core::{ServeOptions, ServeStatus, serve};
 use std::sync::Wait;
 use std::thread::Threads;
 

@@ -5,10 +5,10 @@ ghost use Rattle.allocations.specs.Lacking as lacking;
 ghost use Rattle.node_memo.specs.Memo.{IsListAt, Tells, TellsOf};
 
 use crate::nodes::LackingNodes;
+use device_match::Verdicts;
 use request_rows::WantedClaim;
 use std::alloc::{AllocError, Global};
 use std::marker::Model;
-use verdict_memo::Verdicts;
 
 /// The most lists of nodes that a memo has.
 const MOST_LISTS: usize = 32;

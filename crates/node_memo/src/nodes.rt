@@ -19,13 +19,13 @@ use crate::pools::pools_of;
 use crate::same::{ask_the_same, copies_of};
 use allocations::lacking_is_found;
 use api_claim::ResourceClaim;
+use device_match::Verdicts;
 use dra_values::{Seq, Text};
 use pool_view::{DeviceRef, PoolName};
 use request_rows::WantedClaim;
 use std::alloc::{AllocError, Global};
 use std::marker::Model;
 use std::mem;
-use verdict_memo::Verdicts;
 
 /// A node that had no allocation at an index of the history.
 #[derive(Drop)]

@@ -20,6 +20,7 @@ use api_cluster::Pod;
 use api_slice::ResourceSlice;
 use cluster::State;
 use counter_sets::{Held, Totals};
+use device_match::Verdicts;
 use dra_values::{Seq, Text};
 use full_nodes::{is_full, known_for};
 use node_inputs::{devices_differ, wanted_claims};
@@ -28,7 +29,6 @@ use request_rows::Wants;
 use request_rules::more_held_draw_more;
 use std::alloc::{AllocError, Global};
 use std::marker::Model;
-use verdict_memo::Verdicts;
 
 /// What the searches of all nodes for one pod share: the pools, the claims that need devices, and the
 /// devices that claims hold. Contracts see the state and the claims.

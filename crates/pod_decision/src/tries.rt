@@ -20,11 +20,11 @@ use allocator::Outcome;
 use api_cluster::Pod;
 use cluster::State;
 use counter_sets::{Held, Totals};
+use device_match::Verdicts;
 use dra_values::Text;
 use node_memo::{Dates, LackingNodes};
 use std::alloc::{AllocError, Global};
 use std::marker::Model;
-use verdict_memo::Verdicts;
 
 /// What nodes are tried with for a pod: what is known of nodes without an allocation, if something is kept of that, and
 /// a search, which is made only if a node is searched. Contracts see what it is for.

@@ -18,9 +18,9 @@ use Rattle.commands.specs.declared.command.Command.TheVariants.{Schedule}
 use Rattle.commands.specs.declared.given.Given.{Given}
 use Rattle.commands.specs.declared.given.Given.TheVariants.{One}
 use Rattle.histories.specs.Alone.{Alone, NeverSetBack}
-use Rattle.job_crew.specs.Jobs.{AllSettle, BoundTo, Decided, JudgedBy, PassedAll, RanAlone, first_fit}
+use Rattle.sched_job.specs.Complete.{AllSettle, BoundTo, Decided, JudgedBy, PassedAll, RanAlone, first_fit}
 use Rattle.histories.specs.JobRuns.{JobBegun, JobKept, JobRun, Run}
-use Rattle.job_crew.specs.Jobs.{AllOf, Extends}
+use Rattle.sched_job.specs.Steps.{AllOf, Extends}
 use Rattle.replay_core.specs.Complete.{IsComplete, Scheduled}
 use Rattle.replay_core.specs.Forms.{count_of, width}
 use Rattle.replay_core.specs.Jobs.{AllBegun, AllOwn, AllRun, RunFrom, RunOf, SegmentBegun, SegmentRun, run_after}

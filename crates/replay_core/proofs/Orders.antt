@@ -7,14 +7,14 @@ use Rattle.cluster.specs.declared.entry.Entry.{Entry}
 use Rattle.cluster.specs.declared.entry.JobState.{JobState}
 use Rattle.cluster.specs.declared.entry.JobState.TheVariants as job_state
 use Rattle.cluster.specs.History.{job_state_of}
-use Rattle.job_crew.specs.Jobs.{History}
+use Rattle.sched_job.specs.Ledgers.{History}
 use Rattle.commands.specs.declared.command.Command.{Command}
 use Rattle.commands.specs.declared.given.Given.{Given}
 use Rattle.commands.specs.declared.given.Given.TheVariants.{One, Together, Prepare, Unprepare, Reopen}
 use Rattle.histories.specs.JobRuns.{JobBegun, JobRun, is_ended}
-use Rattle.job_crew.specs.Jobs.{Work}
-use Rattle.job_crew.specs.Jobs.{AllEnds, AllNew, AllOf, Differ, Extends, jobs_of}
-use Rattle.job_crew.specs.Together.{AllEnded, RanTogether, SomeOpen}
+use Rattle.sched_job.specs.declared.work.Work.{Work}
+use Rattle.sched_job.specs.Steps.{AllEnds, AllNew, AllOf, Differ, Extends, jobs_of}
+use Rattle.sched_job.specs.Together.{AllEnded, RanTogether, SomeOpen}
 use Rattle.replay_core.specs.Attempts.{AllTry}
 use Rattle.replay_core.specs.Doing.{Met, Ran, works_from}
 use Rattle.replay_core.specs.Forms.{is_of_kubelet}

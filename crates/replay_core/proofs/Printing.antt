@@ -7,7 +7,7 @@ use Rattle.dra_ports.specs.DiskContent.{Content}
 use Rattle.dra_ports.specs.declared.error.PortError.{PortError}
 use Rattle.dra_ports.specs.declared.error.PortError.TheVariants as port
 use Rattle.cluster.specs.declared.entry.Entry.{Entry}
-use Rattle.job_crew.specs.Jobs.{History}
+use Rattle.sched_job.specs.Ledgers.{History}
 use Rattle.commands.specs.declared.given.Given.{Given}
 use Rattle.commands.specs.declared.given.Given.TheVariants as given
 use Rattle.journal_text.specs.Journal.{lines_from}

@@ -3,7 +3,7 @@ use Rattle.std.proofs.Common.{ℕ, ◌+◌, ◌^◌, ◌<◌, ◌≤◌, ◌≡�
 use Rattle.std.proofs.lemmas.List.{append_cancel_left}
 use Rattle.std.specs.Prelude.{Option, None}
 use Rattle.cluster.specs.declared.entry.Entry.{Entry}
-use Rattle.job_crew.specs.Jobs.{History}
+use Rattle.sched_job.specs.Ledgers.{History}
 use Rattle.cluster.specs.declared.entry.JobState.TheVariants.{Fresh}
 use Rattle.cluster.specs.History.{job_state_of}
 use Rattle.commands.specs.declared.given.Given.{Given}

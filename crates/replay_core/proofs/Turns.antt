@@ -11,7 +11,7 @@ use Rattle.doc_split.specs.Limits.{the_limits}
 use Rattle.doc_split.specs.Split.{Split, remaining}
 use Rattle.cluster.specs.declared.entry.Entry.{Entry}
 use Rattle.cluster.specs.declared.entry.JobState.TheVariants.{Fresh}
-use Rattle.job_crew.specs.Jobs.{History}
+use Rattle.sched_job.specs.Ledgers.{History}
 use Rattle.histories.specs.Legal.{Legal, LegalAfter}
 use Rattle.cluster.specs.History.{job_state_of}
 use Rattle.commands.specs.declared.given.Given.{Given}

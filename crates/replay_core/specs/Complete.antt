@@ -15,7 +15,7 @@ use Rattle.commands.specs.declared.given.Given.{Given}
 use Rattle.commands.specs.declared.given.Given.TheVariants.{One}
 use Rattle.histories.specs.Alone.{NeverSetBack}
 use Rattle.histories.specs.JobRuns.{Run}
-use Rattle.job_crew.specs.Jobs.{AllSettle, BoundTo, Decided, JudgedBy, PassedAll, first_fit}
+use Rattle.sched_job.specs.Complete.{AllSettle, BoundTo, Decided, JudgedBy, PassedAll, first_fit}
 use Rattle.replay_core.specs.Forms.{count_of}
 use Rattle.replay_core.specs.Jobs.{RunOf, SegmentRun, run_after}
 

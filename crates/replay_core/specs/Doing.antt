@@ -3,9 +3,9 @@ use Rattle.std.specs.Prelude.{ℕ, ◌≡◌, ◌+◌, ◌≤◌, List, [], ◌�
 use Rattle.cluster.specs.declared.entry.Entry.{Entry}
 use Rattle.commands.specs.declared.command.Command.{Command}
 use Rattle.commands.specs.declared.given.Given.{Given}
-use Rattle.job_crew.specs.Jobs.{History}
-use Rattle.job_crew.specs.Jobs.stage.{Ready}
-use Rattle.job_crew.specs.Jobs.{Work}
+use Rattle.sched_job.specs.Ledgers.{History}
+use Rattle.sched_job.specs.declared.work.Stage.TheVariants.{Ready}
+use Rattle.sched_job.specs.declared.work.Work.{Work}
 use Rattle.replay_core.specs.Jobs.{SegmentRun, SegmentBegun}
 
 -- the works of jobs that haven't begun, numbered on from n

@@ -6,7 +6,7 @@ use Rattle.dra_ports.specs.declared.error.PortError.{PortError}
 use Rattle.dra_ports.specs.declared.error.PortError.TheVariants as port
 use Rattle.doc_split.specs.declared.error.DocError.{DocError}
 use Rattle.doc_split.specs.declared.error.DocError.TheVariants as doc
-use Rattle.job_crew.specs.Jobs.{History}
+use Rattle.sched_job.specs.Ledgers.{History}
 use Rattle.journal_text.specs.Journal.{lines_from, summary_of}
 use Rattle.commands.specs.declared.given.Given.{Given}
 use Rattle.replay_core.specs.declared.options.ReplayOptions.{ReplayOptions}

@@ -4,7 +4,7 @@ use Rattle.std.specs.Io.KnownBytes.{Appends, Consumes}
 use Rattle.cluster.specs.declared.entry.JobState.TheVariants.{Fresh}
 use Rattle.cluster.specs.History.{job_state_of}
 use Rattle.histories.specs.Legal.{Legal}
-use Rattle.job_crew.specs.Jobs.{History}
+use Rattle.sched_job.specs.Ledgers.{History}
 use Rattle.pod_prepare.specs.Words.{TellsStill}
 use Rattle.replay_core.specs.Kubelet.{IsShown, Node}
 use Rattle.commands.specs.declared.given.Given.{Given}

@@ -1,6 +1,6 @@
 -- Why a command wasn't done, by what the ledger says.
-use Rattle.job_crew.specs.Jobs.{LedgerError}
-use Rattle.job_crew.specs.Jobs.ledger_error as error
+use Rattle.sched_job.specs.Ledgers.{LedgerError}
+use Rattle.sched_job.specs.Ledgers.ledger_error as error
 use Rattle.replay_core.specs.declared.stop.Stop.{Stop}
 use Rattle.replay_core.specs.declared.stop.Stop.TheVariants as stop
 

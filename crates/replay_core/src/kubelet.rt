@@ -13,9 +13,9 @@ ghost use Rattle.replay_core.specs.Kubelets.{kubelet_status};
 use crate::{ReplayOptions, Status};
 use commands::Given;
 use dra_ports::Disk;
-use job_crew::Ledger;
 use pod_prepare::LazyKubelet;
 use prepare_core::{Driver, KubeletError};
+use sched_job::Ledger;
 use std::alloc::Global;
 
 /// Whether a command is one of the kubelet, which has no entries.

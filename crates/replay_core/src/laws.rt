@@ -22,7 +22,7 @@ ghost use Rattle.replay_core.specs.declared.status.Status.{Status};
 ghost use Rattle.replay_core.specs.declared.status.Status.TheVariants as status;
 
 use histories::{histories_grow, legal_steps};
-use job_crew::{alone_is_undisturbed, schedules_are_complete};
+use sched_job::{alone_is_undisturbed, schedules_are_complete};
 
 /// In the run of commands with a budget, each plan and each verdict is what searches of the nodes
 /// within that budget return at its index. So it is in the run of commands and then of a part of one more, or of

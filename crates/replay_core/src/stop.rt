@@ -1,7 +1,7 @@
 ghost use Rattle.std.specs.Prelude.{◌≡◌};
 ghost use Rattle.replay_core.specs.declared.stop.Stop.TheVariants.{Memory};
 
-use job_crew::LedgerError;
+use sched_job::LedgerError;
 use std::alloc::{AllocError, AllocFailed};
 
 /// Why a command wasn't done.

@@ -18,7 +18,7 @@ use Rattle.request_rules.specs.Match.{ClassTable, match_class, matched_by}
 use Rattle.request_rows.specs.Columns.{cell, cell_by, columns_for, fault_from, match_got, match_in, parts_in, selectors_of, yes_from}
 use Rattle.request_rows.specs.Rows.{first_fault, row_by, row_for, rows_from}
 use Rattle.request_rows.specs.Taints.{if_tainted, tolerates_device}
-use Rattle.verdict_memo.specs.Selected.{device_in, says, says_by}
+use Rattle.device_match.specs.Selected.{device_in, says, says_by}
 use Rattle.request_rows.proofs.Lists.{get_seam, longer, map_map, moved}
 
 -- ---- columns

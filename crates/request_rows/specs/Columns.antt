@@ -8,8 +8,8 @@ use Rattle.pool_view.specs.Names.{at_name}
 use Rattle.pool_view.specs.Pools.{Offered}
 use Rattle.request_rules.specs.Asked.{Asked, is_fault, is_yes}
 use Rattle.request_rules.specs.Match.{ClassTable}
-use Rattle.verdict_memo.specs.Selected.{SelectionTexts, device_in, says}
-pub use Rattle.verdict_memo.specs.Selected.{has_any}
+use Rattle.device_match.specs.Selected.{SelectionTexts, device_in, says}
+pub use Rattle.device_match.specs.Selected.{has_any}
 
 -- the selectors of a class that exists
 abbrev pub selectors_of : Option (Stored DeviceClass) → Option (List (List ℕ))

@@ -3,12 +3,12 @@ ghost use Rattle.request_rows.specs.Columns.{columns_for, parts_in, selectors_of
 
 use crate::wants::{Classes, Wants};
 use crate::ways::Way;
+use device_match::{Selection, Verdicts};
 use device_selector::DeviceSelector;
 use dra_values::{Seq, Shared};
 use pool_view::{DeviceRef, Match, Stored};
 use ready_objects::ReadyClass;
 use std::alloc::{AllocError, Global};
-use verdict_memo::{Selection, Verdicts};
 
 fn selectors_of(class: Option<&Stored<Shared<ReadyClass>>>) -> Option<&[DeviceSelector]>
     ensures { option_copied result ≡ selectors_of (option_copied class.entry) }

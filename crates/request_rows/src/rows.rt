@@ -17,12 +17,12 @@ use crate::taints::{flag_at, tainted_devices, tolerated_of};
 use crate::wants::Wants;
 use crate::ways::{RequestRows, Way, options_of, request_rows_of, ways_of, wishes_of};
 use api_claim::AllocationMode;
+use device_match::Verdicts;
 use dra_values::{Seq, Text};
 use object_fields::Key;
 use pool_view::{DeviceRef, Match};
 use std::alloc::{AllocError, Global};
 use std::marker::Model;
-use verdict_memo::Verdicts;
 
 /// What one way to meet a request asks of the devices of a node.
 #[derive(Drop)]

@@ -21,3 +21,12 @@ pub mod Taking
 mod Setting
 pub mod Knowing
 pub mod Sends
+pub mod Attributing
+pub mod Laning
+pub mod Dealing
+pub mod Resulting
+pub mod Passing
+pub mod Failing
+pub mod Under
+pub mod Closing
+pub mod Sending

@@ -6,3 +6,8 @@ pub mod Complete
 pub mod Owned
 pub mod Going
 pub mod Ledgers
+pub mod Members
+pub mod Dealt
+pub mod Passes
+pub mod Parts
+pub mod Together

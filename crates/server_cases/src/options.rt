@@ -1,8 +1,8 @@
 ghost use Rattle.std.specs.Prelude.{◌<◌, ◌≤◌, ◌^◌};
 
 use crate::gates::Gates;
+use api_server::ServeOptions;
 use dra_ports::{HoldGate, Point};
-use server_core::ServeOptions;
 
 /// No history may have room for this many entries.
 const ENTRIES_BOUND: u64 = 281_474_976_710_656;

@@ -1,9 +1,9 @@
 ghost use Rattle.std.specs.Prelude.{◌<◌};
 
 use crate::options::Options;
+use api_server::{ServeStatus, serve};
 use door_ports::{MemDoors, MemInput};
 use dra_ports::{MemSink, PortError};
-use server_core::{ServeStatus, serve};
 use std::alloc::{AllocError, Global};
 use std::sync::Wait;
 use std::thread::Threads;

@@ -1,6 +1,6 @@
 use Rattle.std.proofs.Common.{Err, Result, sym, subst}
 use Rattle.api_server.specs.Served.{IsJob, run_for}
-use Rattle.api_server.specs.declared.serve.Unreplied.{Unreplied}
+use Rattle.api_server.specs.declared.task.Unreplied.{Unreplied}
 use Rattle.api_server.proofs.Replies.{attempts_once, once_ended, once_failed, once_made}
 use Rattle.api_server.proofs.job.run_once.Goals as goal
 

@@ -1,7 +1,7 @@
 use Rattle.std.proofs.Common.{ℕ, ◌∙◌, ◌+◌, List, Option, ap, arith}
 use Rattle.door_ports.specs.Visits.{Ended, ending, with_conn, with_ended}
 use Rattle.api_server.specs.Talks.{seen}
-use Rattle.api_server.proofs.Serving.{next_by}
+use Rattle.api_server.proofs.Sharing.{next_by}
 use Rattle.api_server.proofs.share.serve_next.Goals as goal
 
 pub returns-in-Ok-clause-did : goal.returns-in-Ok-clause-did

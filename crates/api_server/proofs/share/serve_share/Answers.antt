@@ -2,7 +2,7 @@ use Rattle.std.proofs.Common.{◌∙◌, Option, None, ap, arith, subst}
 use Rattle.door_ports.specs.Shares.{advanced}
 use Rattle.api_server.specs.Talks.{NextDid, seen}
 use Rattle.api_server.specs.declared.share_end.ShareEnd.{ShareEnd}
-use Rattle.api_server.proofs.Serving.{next_share, went_more}
+use Rattle.api_server.proofs.Sharing.{next_share, went_more}
 use Rattle.api_server.proofs.share.serve_share.Goals as goal
 
 pub connections-preserved : goal.connections-preserved

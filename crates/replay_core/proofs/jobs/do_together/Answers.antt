@@ -1,5 +1,5 @@
 use Rattle.std.proofs.Common.{rules, ◌≡◌, ◌≤◌, length}
-use Rattle.job_crew.specs.Together.{RanTogether, SomeOpen}
+use Rattle.sched_job.specs.Together.{RanTogether, SomeOpen}
 use Rattle.replay_core.proofs.Orders.{all_differ, all_new, met_together, ran_together}
 use Rattle.replay_core.proofs.jobs.do_together.Goals as goal
 

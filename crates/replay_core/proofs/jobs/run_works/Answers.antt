@@ -1,7 +1,7 @@
 use Rattle.std.proofs.Common.{Result, Ok, Err, subst}
 use Rattle.std.specs.Prelude.{OnOk}
-use Rattle.job_crew.specs.Jobs.{History}
-use Rattle.job_crew.specs.Together.{RanTogether}
+use Rattle.sched_job.specs.Ledgers.{History}
+use Rattle.sched_job.specs.Together.{RanTogether}
 use Rattle.replay_core.proofs.jobs.run_works.Goals as goal
 
 on_ok : {A E : Type 0} (r : Result A E) (P : Type 0) → P → OnOk r P

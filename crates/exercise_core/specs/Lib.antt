@@ -1,3 +1,0 @@
-pub mod Memory
-pub mod Lines
-pub mod Exercise

@@ -1,9 +1,0 @@
-pub mod Attributing
-pub mod Laning
-pub mod Dealing
-pub mod Resulting
-pub mod Passing
-pub mod Failing
-pub mod Under
-pub mod Closing
-pub mod Sending

@@ -1,9 +1,0 @@
-pub mod Parts
-pub mod Passes
-pub mod Printing
-pub mod Serving
-pub mod Together
-pub mod Visits
-pub mod Whole
-pub mod Workers
-pub mod Connections

@@ -1,5 +1,0 @@
-use Rattle.std.proofs.Common.{◌≡◌}
-use Rattle.verdict_memo.proofs.same.are_quantities.Given as goal
-
-abbrev pub invariant-loop-name : goal.invariant-loop-name
-invariant-loop-name l = l.rest ≡ l.name-iterator → l.entries ≡ l.table

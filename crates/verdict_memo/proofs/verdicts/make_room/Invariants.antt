@@ -1,5 +1,0 @@
-use Rattle.std.proofs.Common.{◌+◌, ◌-◌, length}
-use Rattle.verdict_memo.proofs.verdicts.make_room.Given as goal
-
-abbrev pub decreases-loop-known : goal.decreases-loop-known
-decreases-loop-known l = l.position + 1 - length l.known.items
