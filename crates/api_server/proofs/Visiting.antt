@@ -22,8 +22,8 @@ use Rattle.api_requests.specs.Tasks.{task_of}
 use Rattle.api_requests.specs.declared.task.Task.{Task}
 use Rattle.api_requests.specs.declared.task.Task.TheVariants.{Run as Carry}
 use Rattle.api_routes.specs.declared.unserved.Unserved.{Unserved}
-use Rattle.api_server.specs.declared.serve.Unreplied.{Unreplied}
-use Rattle.api_server.specs.declared.serve.Unreplied.TheVariants as why
+use Rattle.api_server.specs.declared.task.Unreplied.{Unreplied}
+use Rattle.api_server.specs.declared.task.Unreplied.TheVariants as why
 use Rattle.api_server.specs.Connections.{Connected, IsDone as Done, IsStopped as Stopped, IsHalted as Halted, IsCut as Cut, IsFull as Full, IsNext, IsReplied, IsUnreplied, Replies, job_of}
 use Rattle.api_server.specs.Entries.{AreEntries, Grew, IsEntry, IsOfOne, IsOfRequest}
 use Rattle.api_server.specs.Standing.{AllStand, AllTheirs, IsFullFor, RanFor, Stands, job_for}
