@@ -56,7 +56,7 @@ impl<D: Disk> Kubelet<D> {
     {
         self.keeps();
         let uid = Text::from_str(alloc, uid)?;
-        match self.record(alloc, &Record::Leaving(uid)) {
+        match self.record_item(alloc, Record::Leaving(uid)) {
             Ok(()) => Ok(()),
             Err(why) => Err(why),
         }
@@ -79,7 +79,7 @@ impl<D: Disk> Kubelet<D> {
     {
         self.keeps();
         let uid = Text::from_str(alloc, uid)?;
-        match self.record(alloc, &Record::Gone(uid)) {
+        match self.record_item(alloc, Record::Gone(uid)) {
             Ok(()) => Ok(()),
             Err(why) => Err(why),
         }
@@ -171,12 +171,13 @@ impl<D: Disk> Kubelet<D> {
         let mut kubelet = self;
         match way {
             WayBack::Keep(item) => {
-                let result = kubelet.record(alloc, &item);
+                let result = kubelet.record_item(alloc, item);
                 kubelet.keeps();
                 (kubelet, result)
             }
             WayBack::Leave(claim) => {
                 let result = kubelet.take_back(alloc, uid, &claim, driver);
+                drop(claim);
                 kubelet.keeps();
                 (kubelet, result)
             }

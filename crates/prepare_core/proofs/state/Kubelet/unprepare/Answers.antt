@@ -9,15 +9,15 @@ use Rattle.prepare_core.proofs.Backs.{keep_reads, keep_sets, leave_uid}
 use Rattle.prepare_core.proofs.Ends.{with_same}
 use Rattle.prepare_core.proofs.state.Kubelet.unprepare.Goals as goal
 
-pub record-result-requires : goal.record-result-requires
-record-result-requires g c =
+pub record_item-result-requires : goal.record_item-result-requires
+record_item-result-requires g c =
     keep_reads (node_in c.args.self) c.args.pod.now c.args.uid.now (rows_in c.args.self) c.in-Keep.item c.keeps.ensures.readable
     (c.in-Ok.ensures.way ∙ ap (λ (w : WayBack). Some w) c.in-Keep.is)
 
 pub returns-in-Keep-clause-kept : goal.returns-in-Keep-clause-kept
 returns-in-Keep-clause-kept g c =
-    kept_by (rows_in c.args.self) (rows_in c.record-result.new.self) (unprepare_records (node_in c.args.self) c.args.pod.now c.args.uid.now (rows_in c.args.self))
-    c.record-result.result c.record-result.ensures.kept
+    kept_by (rows_in c.args.self) (rows_in c.record_item-result.new.self) (unprepare_records (node_in c.args.self) c.args.pod.now c.args.uid.now (rows_in c.args.self))
+    c.record_item-result.result c.record_item-result.ensures.kept
 
 pub take_back-result-requires-clause-uid : goal.take_back-result-requires-clause-uid
 take_back-result-requires-clause-uid g c =
@@ -27,8 +27,8 @@ pub returns-in-Keep-clause-held : goal.returns-in-Keep-clause-held
 returns-in-Keep-clause-held g c = λ going.
     let rows = rows_in c.args.self in
     let x = g.D.Disk.content (disk_in c.args.self) in
-    let y = g.D.Disk.content (disk_in c.record-result.new.self) in
+    let y = g.D.Disk.content (disk_in c.record_item-result.new.self) in
     let sets = keep_sets (node_in c.args.self) c.args.pod.now (row_of c.args.uid.now rows) c.in-Keep.item (c.in-Ok.ensures.way ∙ ap (λ (w : WayBack). Some w) c.in-Keep.is) in
     let told = g.V.Driver.calls c.args.driver.now in
     with_same (λ before after. LosesHeld rows before after x y) told told (λ i. told)
-    (λ calls. record { during = (c.held_claims_stay.ensures.set rows c.in-Keep.item calls x y sets (c.record-result.ensures.any_moment going)).during })
+    (λ calls. record { during = (c.held_claims_stay.ensures.set rows c.in-Keep.item calls x y sets (c.record_item-result.ensures.any_moment going)).during })
