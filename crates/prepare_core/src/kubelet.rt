@@ -139,6 +139,8 @@ impl<D: Disk> Kubelet<D> {
         ensures no_fault { (IsErrOf result KubeletError.DiskFault → ⊥) → D.faults (disk_in self.new) ≡ D.faults (disk_in self.old) }
         ensures only { IfErr result IsOfJournal }
     {
-        self.record(alloc, &item)
+        let result = self.record(alloc, &item);
+        drop(item);
+        result
     }
 }
