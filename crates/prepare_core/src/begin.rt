@@ -61,10 +61,10 @@ fn begun_parts(
     ensures full { IsErrOf result KubeletError.Full → (is_none (row_of claim.now.uid rows.now) && is_crowded rows.now) ≡ true }
     ensures only { IfErr result (λ e. (e ≡ KubeletError.Full) ⊎ (e ≡ KubeletError.Memory)) }
 {
-    let copied = claim.copy(alloc)?;
     if is_crowded_for(rows, claim.uid.as_str()) {
         return Err(KubeletError::Full);
     }
+    let copied = claim.copy(alloc)?;
     let (pods, item) = pods_and_record(alloc, rows, pod, claim)?;
     Ok((copied, pods, item))
 }
@@ -116,7 +116,10 @@ impl<D: Disk> Kubelet<D> {
         let (copied, pods, item) = begun_parts(alloc, self.claims(), pod, claim)?;
         match self.record_item(alloc, item) {
             Ok(()) => Ok((copied, pods)),
-            Err(why) => Err(why),
+            Err(why) => {
+                drop((copied, pods));
+                Err(why)
+            }
         }
     }
 }
