@@ -18,12 +18,6 @@ pub asked_joined : (a b c : Option (List DriverCall)) (x y : List DriverCall) �
 asked_joined None b c x y p q = q ∙ ap (λ (o : Option (List DriverCall)). option_map (λ l. l ++ y) o) p
 asked_joined (Some l) b c x y p q = q ∙ ap (λ (o : Option (List DriverCall)). option_map (λ l. l ++ y) o) p ∙ ap (λ (m : List DriverCall). Some m) (append_assoc l x y)
 
-pub more_none : (calls : Option (List DriverCall)) → AskedMore calls calls
-more_none calls = record { more = []; are = asked_none calls }
-
-pub more_joined : (a b c : Option (List DriverCall)) → AskedMore a b → AskedMore b c → AskedMore a c
-more_joined a b c p q = record { more = p.more ++ q.more; are = asked_joined a b c p.more q.more p.are q.are }
-
 by_ok : (b : Bool) (n m k : ℕ) → n ≡ m + k → (if b then n else 1 + n) ≡ (if b then m else 1 + m) + k
 by_ok true n m k e = e
 by_ok false n m k e = omega (arith, e)
@@ -38,6 +32,17 @@ rose_none n = omega arith
 
 pub rose_joined : (m n a b c : ℕ) → RoseBy m a b → RoseBy n b c → RoseBy (m + n) a c
 rose_joined m n a b c p q = omega (arith, p, q)
+
+-- a count that rose by some errors didn't fall
+rose_some : (n a b : ℕ) → RoseBy n a b → RoseBy 0 a b
+rose_some n a b p = omega (arith, p)
+
+pub more_joined : (a b c : Option (List DriverCall)) (f g h : ℕ) → AskedMore a b f g → AskedMore b c g h → AskedMore a c f h
+more_joined a b c f g h p q = record {
+  more = p.more ++ q.more;
+  are = asked_joined a b c p.more q.more p.are q.are;
+  counted = rose_joined 0 0 f g h p.counted q.counted;
+}
 
 -- ---- claims
 
@@ -103,8 +108,8 @@ so_far_all turn claims old now text a b f g s = record {
   counted = subst (λ (l : List DriverCall). RoseBy (failed l) f g) (sym (append-nil s.done.calls)) s.counted;
 }
 
-pub calls_so_far : (turn : List Row → Key → Bool → Turn) (claims left : List Key) (old now : List Row) (text : List ℕ) (a b : Option (List DriverCall)) (f g : ℕ) → IsSoFar turn claims left old now text a b f g → AskedMore a b
-calls_so_far turn claims left old now text a b f g s = record { more = s.done.calls; are = s.asked }
+pub calls_so_far : (turn : List Row → Key → Bool → Turn) (claims left : List Key) (old now : List Row) (text : List ℕ) (a b : Option (List DriverCall)) (f g : ℕ) → IsSoFar turn claims left old now text a b f g → AskedMore a b f g
+calls_so_far turn claims left old now text a b f g s = record { more = s.done.calls; are = s.asked; counted = rose_some (failed s.done.calls) f g s.counted }
 
 -- nothing is written yet
 pub so_far_first : (turn : List Row → Key → Bool → Turn) (claims : List Key) (rows : List Row) (text : List ℕ) (calls : Option (List DriverCall)) (faults : ℕ) → text ≡ [] → IsSoFar turn claims claims rows rows text calls calls faults faults

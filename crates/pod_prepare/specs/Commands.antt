@@ -111,10 +111,11 @@ failed (c ∷ calls) = if c.ok then failed calls else 1 + failed calls
 abbrev pub RoseBy : ℕ → ℕ → ℕ → Type 0
 RoseBy n old new = min (old + n) (2 ^ 64 - 1) ≤ new
 
--- some more calls of the driver
-pub record AskedMore (old new : Option (List DriverCall)) : Type 0 where
+-- some more calls of the driver, whose count of errors doesn't fall
+pub record AskedMore (calls_old calls_new : Option (List DriverCall)) (faults_old faults_new : ℕ) : Type 0 where
   pub more : List DriverCall
-  pub are : new ≡ option_map (λ calls. calls ++ more) old
+  pub are : calls_new ≡ option_map (λ calls. calls ++ more) calls_old
+  pub counted : RoseBy 0 faults_old faults_new
 
 -- one claim came to a turn, whatever the driver returned
 pub record IsTurn (turn : Bool → Turn) (rows : List Row) (text : List ℕ) (goes : Bool) (calls_old calls_new : Option (List DriverCall)) (faults_old faults_new : ℕ) : Type 0 where

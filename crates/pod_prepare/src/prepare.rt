@@ -37,7 +37,7 @@ fn prepare_told<D: Disk, V: Driver>(
     ensures done { IfOk result.1 (λ l. IsTurn (λ ok. turn_of job (prepared_text pod.now claim.now) (prepare_run (half_in kubelet) false (node_in kubelet) (rows_in kubelet) pod.now told.now ok)) (rows_in result.0) l.text.items l.goes (V.calls driver.old) (V.calls driver.new) (V.faults driver.old) (V.faults driver.new)) }
     ensures stays { OnOk result.1 ((has_ended result.0 ≡ false) × (half_in result.0 ≡ half_in kubelet) × (node_in result.0 ≡ node_in kubelet)) }
     ensures tells { TellsStill (D.content (disk_in kubelet)) (D.content (disk_in result.0)) }
-    ensures asked { AskedMore (V.calls driver.old) (V.calls driver.new) }
+    ensures asked { AskedMore (V.calls driver.old) (V.calls driver.new) (V.faults driver.old) (V.faults driver.new) }
     ensures fault { IsErrOf result.1 errors.DiskFault → Rose (D.faults (disk_in kubelet)) (D.faults (disk_in result.0)) }
     ensures no_fault { (IsErrOf result.1 errors.DiskFault → ⊥) → D.faults (disk_in result.0) ≡ D.faults (disk_in kubelet) }
     ensures only { IfErr result.1 EndsCommand }
@@ -63,7 +63,7 @@ fn prepare_claim<D: Disk, V: Driver>(
     ensures done { IfOk result.1 (λ l. IsTurn (prepare_turn (asked_of (half_in kubelet) (node_in kubelet) state.now job) pod.now (rows_in kubelet) claim.now) (rows_in result.0) l.text.items l.goes (V.calls driver.old) (V.calls driver.new) (V.faults driver.old) (V.faults driver.new)) }
     ensures stays { OnOk result.1 ((has_ended result.0 ≡ false) × (half_in result.0 ≡ half_in kubelet) × (node_in result.0 ≡ node_in kubelet)) }
     ensures tells { TellsStill (D.content (disk_in kubelet)) (D.content (disk_in result.0)) }
-    ensures asked { AskedMore (V.calls driver.old) (V.calls driver.new) }
+    ensures asked { AskedMore (V.calls driver.old) (V.calls driver.new) (V.faults driver.old) (V.faults driver.new) }
     ensures fault { IsErrOf result.1 errors.DiskFault → Rose (D.faults (disk_in kubelet)) (D.faults (disk_in result.0)) }
     ensures no_fault { (IsErrOf result.1 errors.DiskFault → ⊥) → D.faults (disk_in result.0) ≡ D.faults (disk_in kubelet) }
     ensures only { IfErr result.1 EndsCommand }
@@ -94,7 +94,7 @@ fn prepare_claims<D: Disk, V: Driver>(
     ensures done { IfOk result.1 (λ text. Did (Does (prepare_turn (asked_of (half_in kubelet) (node_in kubelet) state.now job) pod.now) claims.now) (rows_in kubelet) (rows_in result.0) text.items (V.calls driver.old) (V.calls driver.new) (V.faults driver.old) (V.faults driver.new)) }
     ensures stays { OnOk result.1 ((has_ended result.0 ≡ false) × (half_in result.0 ≡ half_in kubelet) × (node_in result.0 ≡ node_in kubelet)) }
     ensures tells { TellsStill (D.content (disk_in kubelet)) (D.content (disk_in result.0)) }
-    ensures asked { AskedMore (V.calls driver.old) (V.calls driver.new) }
+    ensures asked { AskedMore (V.calls driver.old) (V.calls driver.new) (V.faults driver.old) (V.faults driver.new) }
     ensures fault { IsErrOf result.1 errors.DiskFault → Rose (D.faults (disk_in kubelet)) (D.faults (disk_in result.0)) }
     ensures no_fault { (IsErrOf result.1 errors.DiskFault → ⊥) → D.faults (disk_in result.0) ≡ D.faults (disk_in kubelet) }
     ensures only { IfErr result.1 EndsCommand }
@@ -133,7 +133,7 @@ fn prepare_pod<D: Disk, V: Driver>(
     ensures done { IfOk result.1 (λ text. Did (Prepares (asked_of (half_in kubelet) (node_in kubelet) state.now job) pod.now) (rows_in kubelet) (rows_in result.0) text.items (V.calls driver.old) (V.calls driver.new) (V.faults driver.old) (V.faults driver.new)) }
     ensures stays { OnOk result.1 ((has_ended result.0 ≡ false) × (half_in result.0 ≡ half_in kubelet) × (node_in result.0 ≡ node_in kubelet)) }
     ensures tells { TellsStill (D.content (disk_in kubelet)) (D.content (disk_in result.0)) }
-    ensures asked { AskedMore (V.calls driver.old) (V.calls driver.new) }
+    ensures asked { AskedMore (V.calls driver.old) (V.calls driver.new) (V.faults driver.old) (V.faults driver.new) }
     ensures fault { IsErrOf result.1 errors.DiskFault → Rose (D.faults (disk_in kubelet)) (D.faults (disk_in result.0)) }
     ensures no_fault { (IsErrOf result.1 errors.DiskFault → ⊥) → D.faults (disk_in result.0) ≡ D.faults (disk_in kubelet) }
     ensures only { IfErr result.1 EndsCommand }
@@ -168,7 +168,7 @@ impl<D: Disk> LazyKubelet<D> {
         ensures done { IfOk result.1 (λ text. DidFrom Prepares node.now state.now job pod.now (table_of self) (D.content (disk_of self)) (table_of result.0) text.items (V.calls driver.old) (V.calls driver.new) (V.faults driver.old) (V.faults driver.new)) }
         ensures going { OnOk result.1 (IsGoing node.now result.0) }
         ensures tells { OnOk result.1 (TellsStill (D.content (disk_of self)) (D.content (disk_of result.0))) }
-        ensures asked { AskedMore (V.calls driver.old) (V.calls driver.new) }
+        ensures asked { AskedMore (V.calls driver.old) (V.calls driver.new) (V.faults driver.old) (V.faults driver.new) }
         ensures fault { IsErrOf result.1 errors.DiskFault → Rose (D.faults (disk_of self)) (D.faults (disk_of result.0)) }
         ensures no_fault { (IsErrOf result.1 errors.DiskFault → ⊥) → D.faults (disk_of result.0) ≡ D.faults (disk_of self) }
         ensures bytes { (at : ℕ) → IsErrOf result.1 (errors.NotAJournal at) → IsRefusedDisk at (table_of self) (D.content (disk_of self)) }

@@ -33,7 +33,7 @@ fn unprepare_uid<D: Disk, V: Driver>(
     ensures done { IfOk result.1 (λ l. IsTurn (λ ok. turn_of job (unprepared_text pod.now claim.now) (unprepare_run (half_in kubelet) false (node_in kubelet) (rows_in kubelet) pod.now uid.now ok)) (rows_in result.0) l.text.items l.goes (V.calls driver.old) (V.calls driver.new) (V.faults driver.old) (V.faults driver.new)) }
     ensures stays { OnOk result.1 ((has_ended result.0 ≡ false) × (half_in result.0 ≡ half_in kubelet) × (node_in result.0 ≡ node_in kubelet)) }
     ensures tells { TellsStill (D.content (disk_in kubelet)) (D.content (disk_in result.0)) }
-    ensures asked { AskedMore (V.calls driver.old) (V.calls driver.new) }
+    ensures asked { AskedMore (V.calls driver.old) (V.calls driver.new) (V.faults driver.old) (V.faults driver.new) }
     ensures fault { IsErrOf result.1 errors.DiskFault → Rose (D.faults (disk_in kubelet)) (D.faults (disk_in result.0)) }
     ensures no_fault { (IsErrOf result.1 errors.DiskFault → ⊥) → D.faults (disk_in result.0) ≡ D.faults (disk_in kubelet) }
     ensures only { IfErr result.1 EndsCommand }
@@ -57,7 +57,7 @@ fn unprepare_claim<D: Disk, V: Driver>(
     ensures done { IfOk result.1 (λ l. IsTurn (unprepare_turn (asked_of (half_in kubelet) (node_in kubelet) state.now job) pod.now (rows_in kubelet) claim.now) (rows_in result.0) l.text.items l.goes (V.calls driver.old) (V.calls driver.new) (V.faults driver.old) (V.faults driver.new)) }
     ensures stays { OnOk result.1 ((has_ended result.0 ≡ false) × (half_in result.0 ≡ half_in kubelet) × (node_in result.0 ≡ node_in kubelet)) }
     ensures tells { TellsStill (D.content (disk_in kubelet)) (D.content (disk_in result.0)) }
-    ensures asked { AskedMore (V.calls driver.old) (V.calls driver.new) }
+    ensures asked { AskedMore (V.calls driver.old) (V.calls driver.new) (V.faults driver.old) (V.faults driver.new) }
     ensures fault { IsErrOf result.1 errors.DiskFault → Rose (D.faults (disk_in kubelet)) (D.faults (disk_in result.0)) }
     ensures no_fault { (IsErrOf result.1 errors.DiskFault → ⊥) → D.faults (disk_in result.0) ≡ D.faults (disk_in kubelet) }
     ensures only { IfErr result.1 EndsCommand }
@@ -86,7 +86,7 @@ fn unprepare_claims<D: Disk, V: Driver>(
     ensures done { IfOk result.1 (λ text. Did (Does (unprepare_turn (asked_of (half_in kubelet) (node_in kubelet) state.now job) pod.now) claims.now) (rows_in kubelet) (rows_in result.0) text.items (V.calls driver.old) (V.calls driver.new) (V.faults driver.old) (V.faults driver.new)) }
     ensures stays { OnOk result.1 ((has_ended result.0 ≡ false) × (half_in result.0 ≡ half_in kubelet) × (node_in result.0 ≡ node_in kubelet)) }
     ensures tells { TellsStill (D.content (disk_in kubelet)) (D.content (disk_in result.0)) }
-    ensures asked { AskedMore (V.calls driver.old) (V.calls driver.new) }
+    ensures asked { AskedMore (V.calls driver.old) (V.calls driver.new) (V.faults driver.old) (V.faults driver.new) }
     ensures fault { IsErrOf result.1 errors.DiskFault → Rose (D.faults (disk_in kubelet)) (D.faults (disk_in result.0)) }
     ensures no_fault { (IsErrOf result.1 errors.DiskFault → ⊥) → D.faults (disk_in result.0) ≡ D.faults (disk_in kubelet) }
     ensures only { IfErr result.1 EndsCommand }
@@ -124,7 +124,7 @@ fn unprepare_pod<D: Disk, V: Driver>(
     ensures done { IfOk result.1 (λ text. Did (Unprepares (asked_of (half_in kubelet) (node_in kubelet) state.now job) pod.now) (rows_in kubelet) (rows_in result.0) text.items (V.calls driver.old) (V.calls driver.new) (V.faults driver.old) (V.faults driver.new)) }
     ensures stays { OnOk result.1 ((has_ended result.0 ≡ false) × (half_in result.0 ≡ half_in kubelet) × (node_in result.0 ≡ node_in kubelet)) }
     ensures tells { TellsStill (D.content (disk_in kubelet)) (D.content (disk_in result.0)) }
-    ensures asked { AskedMore (V.calls driver.old) (V.calls driver.new) }
+    ensures asked { AskedMore (V.calls driver.old) (V.calls driver.new) (V.faults driver.old) (V.faults driver.new) }
     ensures fault { IsErrOf result.1 errors.DiskFault → Rose (D.faults (disk_in kubelet)) (D.faults (disk_in result.0)) }
     ensures no_fault { (IsErrOf result.1 errors.DiskFault → ⊥) → D.faults (disk_in result.0) ≡ D.faults (disk_in kubelet) }
     ensures only { IfErr result.1 EndsCommand }
@@ -158,7 +158,7 @@ impl<D: Disk> LazyKubelet<D> {
         ensures done { IfOk result.1 (λ text. DidFrom Unprepares node.now state.now job pod.now (table_of self) (D.content (disk_of self)) (table_of result.0) text.items (V.calls driver.old) (V.calls driver.new) (V.faults driver.old) (V.faults driver.new)) }
         ensures going { OnOk result.1 (IsGoing node.now result.0) }
         ensures tells { OnOk result.1 (TellsStill (D.content (disk_of self)) (D.content (disk_of result.0))) }
-        ensures asked { AskedMore (V.calls driver.old) (V.calls driver.new) }
+        ensures asked { AskedMore (V.calls driver.old) (V.calls driver.new) (V.faults driver.old) (V.faults driver.new) }
         ensures fault { IsErrOf result.1 errors.DiskFault → Rose (D.faults (disk_of self)) (D.faults (disk_of result.0)) }
         ensures no_fault { (IsErrOf result.1 errors.DiskFault → ⊥) → D.faults (disk_of result.0) ≡ D.faults (disk_of self) }
         ensures bytes { (at : ℕ) → IsErrOf result.1 (errors.NotAJournal at) → IsRefusedDisk at (table_of self) (D.content (disk_of self)) }

@@ -5,7 +5,7 @@ use Rattle.prepare_core.specs.Words.{half_in, has_ended, node_in, rows_in}
 use Rattle.prepare_core.specs.declared.error.KubeletError.TheVariants as errors
 use Rattle.pod_prepare.specs.Texts.{prepared_text}
 use Rattle.prepare_core.specs.declared.driver.CallKind.TheVariants as kinds
-use Rattle.pod_prepare.proofs.Asking.{more_at_most}
+use Rattle.pod_prepare.proofs.Asking.{more_at_most, never_falls}
 use Rattle.pod_prepare.proofs.Failing.{prepare_few}
 use Rattle.pod_prepare.proofs.Moments.{tells_still}
 use Rattle.pod_prepare.proofs.Turning.{if_ok, on_ok, turned}
@@ -20,7 +20,7 @@ returns-clause-done g c =
     (prepare_few (half_in k) false (node_in k) (rows_in k) c.args.pod.now c.args.told.now) follows c.prepare-kubelet.ensures.driver_fault c.prepare-kubelet.ensures.no_driver_fault line) c.prepared.ensures.line
 
 pub returns-clause-asked : goal.returns-clause-asked
-returns-clause-asked g c = more_at_most _ kinds.Prepare c.args.told.now _ _ c.prepare-kubelet.ensures.asked
+returns-clause-asked g c = more_at_most _ kinds.Prepare c.args.told.now _ _ _ _ c.prepare-kubelet.ensures.asked (never_falls c.prepare-kubelet.result.1 _ _ c.prepare-kubelet.ensures.driver_fault c.prepare-kubelet.ensures.no_driver_fault)
 
 pub returns-clause-tells : goal.returns-clause-tells
 returns-clause-tells g c = tells_still _ _ _ (c.prepare-kubelet.ensures.any_moment c.requires.going)

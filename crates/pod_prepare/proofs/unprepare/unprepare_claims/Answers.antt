@@ -16,13 +16,13 @@ loop-claim-init g c = record {
 }
 
 pub returns-then-is_err-clause-asked : goal.returns-then-is_err-clause-asked
-returns-then-is_err-clause-asked g c = more_joined _ _ _ (calls_so_far _ _ _ _ _ _ _ _ _ _ c.loop-claim.invariant.far) c.unprepare_claim-next.ensures.asked
+returns-then-is_err-clause-asked g c = more_joined _ _ _ _ _ _ (calls_so_far _ _ _ _ _ _ _ _ _ _ c.loop-claim.invariant.far) c.unprepare_claim-next.ensures.asked
 
 pub returns-then-not-line-clause-asked : goal.returns-then-not-line-clause-asked
-returns-then-not-line-clause-asked g c = more_joined _ _ _ (calls_so_far _ _ _ _ _ _ _ _ _ _ c.loop-claim.invariant.far) c.unprepare_claim-next.ensures.asked
+returns-then-not-line-clause-asked g c = more_joined _ _ _ _ _ _ (calls_so_far _ _ _ _ _ _ _ _ _ _ c.loop-claim.invariant.far) c.unprepare_claim-next.ensures.asked
 
 pub returns-in-Err-clause-asked : goal.returns-in-Err-clause-asked
-returns-in-Err-clause-asked g c = more_joined _ _ _ (calls_so_far _ _ _ _ _ _ _ _ _ _ c.loop-claim.invariant.far) c.unprepare_claim-next.ensures.asked
+returns-in-Err-clause-asked g c = more_joined _ _ _ _ _ _ (calls_so_far _ _ _ _ _ _ _ _ _ _ c.loop-claim.invariant.far) c.unprepare_claim-next.ensures.asked
 
 pub returns-clause-asked : goal.returns-clause-asked
 returns-clause-asked g c = calls_so_far _ _ _ _ _ _ _ _ _ _ c.loop-claim.invariant.far

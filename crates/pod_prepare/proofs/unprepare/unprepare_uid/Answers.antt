@@ -4,7 +4,7 @@ use Rattle.prepare_core.specs.Runs.{Follows}
 use Rattle.prepare_core.specs.Words.{half_in, has_ended, node_in, rows_in}
 use Rattle.prepare_core.specs.declared.error.KubeletError.TheVariants as errors
 use Rattle.pod_prepare.specs.Texts.{unprepared_text}
-use Rattle.pod_prepare.proofs.Asking.{more_back}
+use Rattle.pod_prepare.proofs.Asking.{more_back, never_falls}
 use Rattle.pod_prepare.proofs.Failing.{unprepare_few}
 use Rattle.pod_prepare.proofs.Moments.{tells_still}
 use Rattle.pod_prepare.proofs.Turning.{if_ok, on_ok, turned}
@@ -19,7 +19,7 @@ returns-clause-done g c =
     (unprepare_few (half_in k) false (node_in k) (rows_in k) c.args.pod.now c.args.uid.now) follows c.unprepare-kubelet.ensures.driver_fault c.unprepare-kubelet.ensures.no_driver_fault line) c.unprepared.ensures.line
 
 pub returns-clause-asked : goal.returns-clause-asked
-returns-clause-asked g c = more_back _ _ _ c.unprepare-kubelet.ensures.asked
+returns-clause-asked g c = more_back _ _ _ _ _ c.unprepare-kubelet.ensures.asked (never_falls c.unprepare-kubelet.result.1 _ _ c.unprepare-kubelet.ensures.driver_fault c.unprepare-kubelet.ensures.no_driver_fault)
 
 pub returns-clause-tells : goal.returns-clause-tells
 returns-clause-tells g c = tells_still _ _ _ (c.unprepare-kubelet.ensures.any_moment c.requires.going)
