@@ -41,18 +41,21 @@ none_shown name disk calls faults = record {
 -- nothing was done, and nothing written
 none_done : (options : ReplayOptions) (left before : Option (List ℕ)) (disk : Option Content) (calls : Option (List DriverCall)) (faults : ℕ)
     → EndsShort options left before before (node_with None disk calls faults) (node_with None disk calls faults)
-none_done options left before disk calls faults = record {
-  text = [];
-  between = node_with None disk calls faults;
-  due = inl (record {
-    done = [];
-    script = λ bytes e. (script_of options.attempts bytes, refl);
-    history = [];
-    so = record { run = empty_run options; shown = none_shown options.node disk calls faults };
-  });
-  asked = record { more = []; are = unasked calls };
-  written = (0, appends_none before);
-}
+none_done options left before disk calls faults =
+    let shown = none_shown options.node disk calls faults in
+    record {
+      text = [];
+      between = node_with None disk calls faults;
+      due = inl (record {
+        done = [];
+        script = λ bytes e. (script_of options.attempts bytes, refl);
+        history = [];
+        so = record { run = empty_run options; shown = shown };
+      });
+      asked = record { more = []; are = unasked calls; counted = omega arith };
+      counted = shown.counted;
+      written = (0, appends_none before);
+    }
 
 pub nothing_done : RunTruth → (options : ReplayOptions) (left left_now before : Option (List ℕ)) (disk : Option Content) (calls : Option (List DriverCall)) (faults : ℕ)
     → ReplaysSo options left left_now before before disk disk calls calls faults faults status.Memory

@@ -17,7 +17,7 @@ use Rattle.pod_prepare.specs.Opening.{HasOpened, Table}
 use Rattle.pod_prepare.specs.Reopening.{DidReopen}
 use Rattle.pod_prepare.specs.Words.{TellsStill, tells}
 use Rattle.replay_core.specs.declared.options.ReplayOptions.{ReplayOptions}
-use Rattle.replay_core.specs.Kubelet.{AskedOn, DoesPod, DoesReopen, Node, Setting, Shown, opened}
+use Rattle.replay_core.specs.Kubelet.{DoesPod, DoesReopen, Node, Setting, Shown, opened}
 use Rattle.replay_core.specs.Lines.{BeginsHere, ShownBy}
 
 -- no call more
@@ -27,9 +27,6 @@ none_asked (Some xs) = ap (λ (l : List DriverCall). Some l) (sym (append-nil xs
 
 pub none_failed : (n : ℕ) → RoseBy 0 n n
 none_failed n = omega arith
-
-pub asked_same : (x y : Node) → y.calls ≡ x.calls → AskedOn x y
-asked_same x y same = record { more = []; are = same ∙ none_asked x.calls }
 
 -- what it has, once it is opened
 opened_is : (x : Setting) (old : Option Table) (found : Option Content) → HasOpened old found x.start → opened x old ≡ x.start

@@ -29,7 +29,7 @@ use Rattle.replay_core.specs.Turns.{DocumentDid, DocumentStops, Unread}
 use Rattle.replay_core.proofs.Known.{appends_prefix, appends_kept, appends_more, consumes_more, prefix_all, rest_of}
 use Rattle.replay_core.proofs.Running.{commands_each, commands_joined, done_more, kubelet_joined}
 use Rattle.replay_core.proofs.Scripts.{document_is, document_is_none, next_script, prepend_more, prepend_nothing, prepend_up_to, tells_by}
-use Rattle.replay_core.proofs.Showing.{asked_on_none}
+use Rattle.replay_core.proofs.Showing.{asked_on_none, counted_on}
 
 -- the script as far as it was done, and then a document and something more
 abbrev pub TellsDocument : ReplayOptions → Option (List ℕ) → List (ℕ × Given) → ℕ → List ℕ → Type 0
@@ -58,11 +58,13 @@ so_far options found x before now done work s = record { run = s.run; shown = s.
 -- what isn't done leaves the commands before it
 short_lines : (options : ReplayOptions) (left before now next : Option (List ℕ)) (found x y : Node) (done : List (ℕ × Given)) (old : Work) → Standing options found x before now done old → TellsFirst options left done → AskedOn x y → Appends now next []
     → EndsShort options left before next found y
+unfolding so_far
 short_lines options left before now next found x y done old s tells asked kept = record {
   text = s.text;
   between = x;
   due = inl (record { done = done; script = tells; history = old.ledger.entries; so = so_far options found x before now done old s });
   asked = asked;
+  counted = counted_on s.shown.calls found x y s.shown.counted asked;
   written = prefix_all before next s.text (appends_kept before now next s.text s.printed kept);
 }
 
@@ -95,41 +97,42 @@ part_lines options c old new n met =
 short_command : (options : ReplayOptions) (left before now next : Option (List ℕ)) (found x y : Node) (done : List (ℕ × Given)) (at : ℕ) (c : Given) (old new : Work) → Standing options found x before now done old
     → TellsFirst options left (done ++ (at, c) ∷ []) → IsSound new.ledger → PrintedShort options c old new x y now next → EndsShortAll options left before next found y
 unfolding part_of
-short_command options left before now next found x y done at c old new s tells sound (inl ran) = record {
-  ends = record {
-    text = s.text ++ ran.text;
-    between = y;
-    due = inl (record {
-      done = done ++ (at, c) ∷ [];
-      script = tells;
-      history = new.ledger.entries;
-      so = done_more options found x y done at c old new s.text ran.text (so_far options found x before now done old s) s.still s.untouched s.count_is s.limit_is sound ran.ran ran.shown;
-    });
-    asked = asked_on_none y;
-    written = appends_prefix before now next s.text ran.text s.printed ran.printed;
-  };
-  all = refl;
-}
-short_command options left before now next found x y done at c old new s tells sound (inr met) = record {
-  ends = record {
-    text = s.text ++ new_lines old.ledger new.ledger;
-    between = y;
-    due = inr (inl (record {
-      done = done;
-      at = at;
-      command = c;
-      script = tells;
-      history = new.ledger.entries;
-      part = part_of options found x before now done c old new met.count s sound met.met;
-      first = s.text;
-      shown = subst (λ (z : Node). IsShown options.node found z (commands_of done) old.ledger.entries s.text) (sym met.same) s.shown;
-      is = ap (λ (t : List ℕ). s.text ++ t) (part_lines options c old new met.count met.met);
-    }));
-    asked = asked_on_none y;
-    written = appends_prefix before now next s.text (new_lines old.ledger new.ledger) s.printed met.printed;
-  };
-  all = refl;
-}
+short_command options left before now next found x y done at c old new s tells sound (inl ran) =
+    let so = done_more options found x y done at c old new s.text ran.text (so_far options found x before now done old s) s.still s.untouched s.count_is s.limit_is sound ran.ran ran.shown in
+    record {
+      ends = record {
+        text = s.text ++ ran.text;
+        between = y;
+        due = inl (record { done = done ++ (at, c) ∷ []; script = tells; history = new.ledger.entries; so = so });
+        asked = asked_on_none y;
+        counted = so.shown.counted;
+        written = appends_prefix before now next s.text ran.text s.printed ran.printed;
+      };
+      all = refl;
+    }
+short_command options left before now next found x y done at c old new s tells sound (inr met) =
+    let shown = subst (λ (z : Node). IsShown options.node found z (commands_of done) old.ledger.entries s.text) (sym met.same) s.shown in
+    record {
+      ends = record {
+        text = s.text ++ new_lines old.ledger new.ledger;
+        between = y;
+        due = inr (inl (record {
+          done = done;
+          at = at;
+          command = c;
+          script = tells;
+          history = new.ledger.entries;
+          part = part_of options found x before now done c old new met.count s sound met.met;
+          first = s.text;
+          shown = shown;
+          is = ap (λ (t : List ℕ). s.text ++ t) (part_lines options c old new met.count met.met);
+        }));
+        asked = asked_on_none y;
+        counted = shown.counted;
+        written = appends_prefix before now next s.text (new_lines old.ledger new.ledger) s.printed met.printed;
+      };
+      all = refl;
+    }
 
 full_command : (options : ReplayOptions) (left before now next : Option (List ℕ)) (found x y : Node) (done : List (ℕ × Given)) (at : ℕ) (c : Given) (old new : Work) (n : ℕ) → Standing options found x before now done old
     → TellsFirst options left (done ++ (at, c) ∷ []) → IsSound new.ledger → MetPrinted options c old new x y now next n → EndsFull options n left before next found y
@@ -151,6 +154,7 @@ full_command options left before now next found x y done at c old new n s tells 
 -- a command of the kubelet that the disk ended
 kubelet_command : (options : ReplayOptions) (left before now next : Option (List ℕ)) (found x y : Node) (done : List (ℕ × Given)) (at : ℕ) (c : Given) (old new : Work) → Standing options found x before now done old
     → TellsFirst options left (done ++ (at, c) ∷ []) → EndedByDisk c old new x y now next → EndsAtKubelet options left before next found y
+unfolding so_far
 kubelet_command options left before now next found x y done at c old new s tells e = record {
   done = done;
   at = at;
@@ -162,6 +166,7 @@ kubelet_command options left before now next found x y done at c old new s tells
   between = x;
   so = so_far options found x before now done old s;
   asked = e.ended.asked;
+  counted = counted_on s.shown.calls found x y s.shown.counted e.ended.asked;
   written = appends_kept before now next s.text s.printed e.ended.printed;
 }
 
@@ -281,6 +286,7 @@ over_document once options left before was written found x y a b left_a left_b w
 
 -- out of memory between two commands
 pub memory_short : (options : ReplayOptions) (left now before written : Option (List ℕ)) (found x : Node) (at : ℕ) (work : Work) → Progress options found x left now before written at work → EndsShort options left before written found x
+unfolding so_far
 memory_short options left now before written found x at work p = record {
   text = p.standing.text;
   between = x;
@@ -291,6 +297,7 @@ memory_short options left now before written found x at work p = record {
     so = so_far options found x before written p.done work p.standing;
   });
   asked = asked_on_none x;
+  counted = p.standing.shown.counted;
   written = prefix_all before written p.standing.text p.standing.printed;
 }
 
@@ -332,6 +339,7 @@ ends_at options left before written found x a left_a work ending p none = record
 
 short_text : (options : ReplayOptions) (left before now next : Option (List ℕ)) (found x : Node) (done : List (ℕ × Given)) (work : Work) → Standing options found x before now done work
     → Tells options left (record { commands = done; ending = Clean }) → AppendsPrefix now next (summary_of work.ledger.entries work.commands) → EndsShortAll options left before next found x
+unfolding so_far
 short_text options left before now next found x done work standing tells printed = record {
   ends = record {
     text = standing.text ++ summary_of work.ledger.entries work.commands;
@@ -345,6 +353,7 @@ short_text options left before now next found x done work standing tells printed
       is = ap (λ (k : ℕ). standing.text ++ summary_of work.ledger.entries k) standing.count_is;
     }));
     asked = asked_on_none x;
+    counted = standing.shown.counted;
     written = appends_prefix before now next standing.text (summary_of work.ledger.entries work.commands) standing.printed printed;
   };
   all = refl;

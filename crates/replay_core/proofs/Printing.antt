@@ -21,7 +21,8 @@ use Rattle.replay_core.specs.declared.work.Work.{Work}
 use Rattle.replay_core.specs.Forms.{is_of_kubelet, width}
 use Rattle.replay_core.specs.Kubelet.{Node, Shown, Shows, Setting, entries_shown}
 use Rattle.replay_core.specs.Lines.{BeginsHere, Did, JobsShort, JobsStop, PrintedShort, RanNext, RanPrinted, ShownBy, ShownNext, Stops, new_lines, output_status}
-use Rattle.replay_core.proofs.Asking.{asked_same, none_asked, none_failed}
+use Rattle.replay_core.proofs.Asking.{none_asked, none_failed}
+use Rattle.replay_core.proofs.Showing.{asked_on_none}
 use Rattle.replay_core.proofs.Orders.{ran_nothing}
 
 -- ---- commands of the kubelet
@@ -134,7 +135,7 @@ pub jobs_stopped : (options : ReplayOptions) (c : Given) (old new : Work) (x : N
 jobs_stopped options c old new x before after status.Done not kept stop = stop
 jobs_stopped options c old new x before after status.Usage not kept stop = stop
 jobs_stopped options c old new x before after (status.Document index why) not kept stop = stop
-jobs_stopped options c old new x before after status.Memory not kept (inl printed) = inl (printed, asked_same x x refl)
+jobs_stopped options c old new x before after status.Memory not kept (inl printed) = inl (printed, asked_on_none x)
 jobs_stopped options c old new x before after status.Memory not kept (inr short) = inr (jobs_short options c old new x before after not short kept)
 jobs_stopped options c old new x before after status.Read not kept stop = stop
 jobs_stopped options c old new x before after status.Write not kept short = jobs_short options c old new x before after not short kept

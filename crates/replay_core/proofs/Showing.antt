@@ -27,10 +27,6 @@ pub asked_joined : (a b c : Option (List DriverCall)) (x y : List DriverCall) �
 asked_joined None b c x y p q = q ∙ ap (λ (o : Option (List DriverCall)). option_map (λ l. l ++ y) o) p
 asked_joined (Some l) b c x y p q = q ∙ ap (λ (o : Option (List DriverCall)). option_map (λ l. l ++ y) o) p ∙ ap (λ (m : List DriverCall). Some m) (append_assoc l x y)
 
--- the driver got no more calls
-pub asked_on_none : (x : Node) → AskedOn x x
-asked_on_none x = record { more = []; are = asked_none x.calls }
-
 by_ok : (b : Bool) (n m k : ℕ) → n ≡ m + k → (if b then n else 1 + n) ≡ (if b then m else 1 + m) + k
 by_ok true n m k e = e
 by_ok false n m k e = omega (arith, e)
@@ -48,6 +44,17 @@ rose_joined m n a b c p q = omega (arith, p, q)
 
 counted_joined : (xs ys : List DriverCall) (a b c : ℕ) → RoseBy (failed xs) a b → RoseBy (failed ys) b c → RoseBy (failed (xs ++ ys)) a c
 counted_joined xs ys a b c p q = subst (λ (n : ℕ). RoseBy n a c) (sym (failed_joined xs ys)) (rose_joined (failed xs) (failed ys) a b c p q)
+
+-- the driver got no more calls
+pub asked_on_none : (x : Node) → AskedOn x x
+asked_on_none x = record { more = []; are = asked_none x.calls; counted = rose_none x.faults }
+
+rose_on : (n a b c : ℕ) → RoseBy n a b → RoseBy 0 b c → RoseBy n a c
+rose_on n a b c p q = omega (arith, p, q)
+
+-- what was counted of a run stays counted
+pub counted_on : (calls : List DriverCall) (found x y : Node) → RoseBy (failed calls) found.faults x.faults → AskedOn x y → RoseBy (failed calls) found.faults y.faults
+counted_on calls found x y counted asked = rose_on (failed calls) found.faults x.faults y.faults counted asked.counted
 
 -- ---- a kubelet that is open, or isn't
 

@@ -167,10 +167,13 @@ ready_at options left now before written found x at work p within =
 
 -- nothing was done, and nothing written
 pub nothing_done : (options : ReplayOptions) (left before : Option (List ℕ)) (found : Node) → found.table ≡ None → EndsShort options left before before found found
-nothing_done options left before found closed = record {
-  text = [];
-  between = found;
-  due = inl (record { done = []; script = λ bytes e. (script_of options.attempts bytes, refl); history = []; so = record { run = empty_run options; shown = shown_none options.node found closed } });
-  asked = asked_on_none found;
-  written = (0, appends_none before);
-}
+nothing_done options left before found closed =
+    let shown = shown_none options.node found closed in
+    record {
+      text = [];
+      between = found;
+      due = inl (record { done = []; script = λ bytes e. (script_of options.attempts bytes, refl); history = []; so = record { run = empty_run options; shown = shown } });
+      asked = asked_on_none found;
+      counted = shown.counted;
+      written = (0, appends_none before);
+    }

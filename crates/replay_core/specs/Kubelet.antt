@@ -113,7 +113,8 @@ pub record IsShown (name : List ℕ) (found left : Node) (commands : List Given)
   -- a kubelet that is open has the table of its disk, whatever a crash leaves
   pub kept : IfSome left.table (λ t. IfSome left.content (Keeps t.rows))
 
--- the driver got some more calls, by a command that wasn't done
+-- the driver got some more calls, by a command that wasn't done, and its count of errors didn't fall
 pub record AskedOn (old new : Node) : Type 0 where
   pub more : List DriverCall
   pub are : new.calls ≡ option_map (λ before. before ++ more) old.calls
+  pub counted : RoseBy 0 old.faults new.faults

@@ -1,4 +1,5 @@
 -- What a replay promises.
+use mathlib.Core.Logic.{inl, inr}
 use Rattle.std.specs.Prelude.{ℕ, ◌≡◌, ◌≤◌, ◌⊎◌, true, List, [], ◌∷◌, ◌++◌, Option, None, Some, length}
 use Rattle.std.specs.Io.KnownBytes.{Appends, Consumes}
 use Rattle.dra_ports.specs.Prefixes.{AppendsPrefix}
@@ -15,6 +16,7 @@ use Rattle.replay_core.specs.Forms.{count_of, is_of_kubelet, kubelet_count}
 use Rattle.replay_core.specs.Kubelet.{AskedOn, IsShown, Node, node_with}
 use Rattle.dra_ports.specs.DiskContent.{Content}
 use Rattle.prepare_core.specs.declared.driver.DriverCall.{DriverCall}
+use Rattle.pod_prepare.specs.Commands.{RoseBy, failed}
 use Rattle.pod_prepare.specs.Opening.{IsRefusedDisk, Table}
 use Rattle.pod_prepare.specs.Words.{TellsStill}
 use Rattle.commands.specs.declared.given.Given.TheVariants.{Reopen}
@@ -81,6 +83,8 @@ pub record EndsAtKubelet (options : ReplayOptions) (left before after : Option (
   pub between : Node
   pub so : IsDone options found between done history text
   pub asked : AskedOn between now
+  -- each failed call, after which a line that was written has the word DriverFault, is counted when the run ends
+  pub counted : RoseBy (failed so.shown.calls) found.faults now.faults
   pub written : Appends before after text
 
 -- the same, and that command, which opened the kubelet, or opened it again, found bytes that are no journal
@@ -147,6 +151,12 @@ pub record IsText (options : ReplayOptions) (left : Option (List ℕ)) (found no
   pub so : IsDone options found now done history lines
   pub is : text ≡ lines ++ summary_of history (count_of (commands_of done))
 
+-- the driver's calls of the commands that such lines, or the whole text, are of
+abbrev pub calls_of : (options : ReplayOptions) (left : Option (List ℕ)) (found now : Node) (text : List ℕ) → IsLines options left found now text ⊎ (IsPartLines options left found now text ⊎ IsText options left found now text) → List DriverCall
+calls_of options left found now text (inl lines) = lines.so.shown.calls
+calls_of options left found now text (inr (inl part)) = part.shown.calls
+calls_of options left found now text (inr (inr whole)) = whole.so.shown.calls
+
 -- What was written is a prefix of such lines, or of the whole text, as they were when the node was left like this. The
 -- driver may have got more calls since, by a command of the kubelet that wasn't done.
 pub record EndsShort (options : ReplayOptions) (left before after : Option (List ℕ)) (found now : Node) : Type 0 where
@@ -154,6 +164,8 @@ pub record EndsShort (options : ReplayOptions) (left before after : Option (List
   pub between : Node
   pub due : IsLines options left found between text ⊎ (IsPartLines options left found between text ⊎ IsText options left found between text)
   pub asked : AskedOn between now
+  -- each failed call, after which a line of the text has the word DriverFault, is counted when the run ends
+  pub counted : RoseBy (failed (calls_of options left found between text due)) found.faults now.faults
   pub written : AppendsPrefix before after text
 
 -- the same, where all of the driver's calls are those of the commands
