@@ -10,6 +10,7 @@ pub mod Freeing
 pub mod Unsliced
 pub mod Keeping
 pub mod Remembering
+pub mod Putting
 pub mod Taking
 pub mod Reserving
 pub mod Passing

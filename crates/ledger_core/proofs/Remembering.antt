@@ -1,5 +1,5 @@
 -- What a ledger remembers, with one entry more.
-use Rattle.std.proofs.Common.{ℕ, ◌+◌, ◌<◌, ◌≤◌, ◌≡◌, ◌∙◌, List, [], ◌∷◌, ◌++◌, Bool, true, false, ◌&&◌, ◌||◌, cond, length, refl, sym, ap, subst, arith, drop, get_or, length-append, append_assoc}
+use Rattle.std.proofs.Common.{ℕ, zero, suc, ◌+◌, ◌<◌, ◌≤◌, ◌≡◌, ◌∙◌, List, [], ◌∷◌, ◌++◌, Bool, true, false, ◌&&◌, ◌||◌, cond, length, refl, sym, ap, subst, arith, drop, get_or, length-append, append_assoc}
 use Rattle.std.specs.List.{list_any}
 use Rattle.std.proofs.lemmas.Cmp.{nat_list_eq_equiv}
 use Rattle.std.proofs.lemmas.List.{drop_all, take_all, take-append-le}
@@ -29,7 +29,7 @@ use Rattle.node_memo.specs.declared.nodes.LackingNode.{LackingNode}
 use Rattle.node_memo.specs.Dated.{has_row, names}
 use Rattle.node_memo.specs.Memo.{IsAmong, NodesFields, TellsRow, lacking_by}
 use Rattle.ledger_core.specs.Ledger.{IsKept}
-use Rattle.ledger_core.specs.Remembered.{AreSet, GoesOn, HaveRows, IsSame, IsTrueOf, Remembers, pool_of, pools_held, pools_lost, set_in}
+use Rattle.ledger_core.specs.Remembered.{AreSet, AreTrueOf, GoesOn, HaveRows, IsSame, IsTrueOf, Remembers, pool_of, pools_held, pools_lost, set_in}
 use Rattle.ledger_core.proofs.Giving.{item_at}
 use Rattle.ledger_core.proofs.Histories.{Legal-more}
 
@@ -137,58 +137,78 @@ dated_more objects freed h e d later are set = record {
       ∙ sym (freed h e p);
 }
 
-before_last : (h : List Entry) (e : Entry) → state_at (h ++ e ∷ []) (length h) ≡ state_of h
-before_last h e = ap state_of (take-append-le (length h) h (e ∷ []) (omega arith) ∙ take_all (length h) h (omega arith))
+before_more : (h more : List Entry) → state_at (h ++ more) (length h) ≡ state_of h
+before_more h more = ap state_of (take-append-le (length h) h more (omega arith) ∙ take_all (length h) h (omega arith))
 
--- the nodes, slices and classes are the same before the last entry, if it isn't past their date
-same_last : SameLaw → (h : List Entry) (e : Entry) → Legal (h ++ e ∷ []) → objects_at (h ++ e ∷ []) ≤ length h → (state_of h).inventory ≡ (state_of (h ++ e ∷ [])).inventory
-same_last law h e legal le =
-    let n = length-append h (e ∷ []) in
-    ap (λ (s : State). s.inventory) (sym (before_last h e)) ∙ sym (law (h ++ e ∷ []) (length h) legal (omega (arith, n)) le).inventory
+-- the nodes, slices and classes are the same before entries more, if none of these is their date
+same_before : SameLaw → (h more : List Entry) → Legal (h ++ more) → objects_at (h ++ more) ≤ length h → (state_of h).inventory ≡ (state_of (h ++ more)).inventory
+same_before law h more legal le =
+    let n = length-append h more in
+    ap (λ (s : State). s.inventory) (sym (before_more h more)) ∙ sym (law (h ++ more) (length h) legal (omega (arith, n)) le).inventory
 
-row_more : RiseLaw → SameLaw → LackingLaw → (h : List Entry) (e : Entry) (d later : Dates) (specs : List ClaimSpec) (budget : ℕ) (row : LackingNode) → Legal (h ++ e ∷ []) → AreDatesOf h d → AreDatesOf (h ++ e ∷ []) later
-    → TellsRow (state_of h) d specs budget row (length h) → TellsRow (state_of (h ++ e ∷ [])) later specs budget row (length (h ++ e ∷ []))
-row_more rise law lacking h e d later specs budget row legal are will old =
-    let n = length-append h (e ∷ []) in
+row_more : RiseLaw → SameLaw → LackingLaw → (h more : List Entry) (d later : Dates) (specs : List ClaimSpec) (budget : ℕ) (row : LackingNode) → Legal (h ++ more) → AreDatesOf h d → AreDatesOf (h ++ more) later
+    → TellsRow (state_of h) d specs budget row (length h) → TellsRow (state_of (h ++ more)) later specs budget row (length (h ++ more))
+row_more rise law lacking h more d later specs budget row legal are will old =
+    let n = length-append h more in
     let within = old.within in
     let objects = are.objects in
     let dated = will.objects in
-    let risen = rise h (e ∷ []) in
+    let risen = rise h more in
     record {
       within = omega (arith, n, within);
       pools = λ le.
-          subst (λ (i : Inventory). Each (λ o. IsAmong row.pools (pool_named o.slice)) (node_devices i row.node)) (same_last law h e legal (omega (arith, dated, le, within)))
+          subst (λ (i : Inventory). Each (λ o. IsAmong row.pools (pool_named o.slice)) (node_devices i row.node)) (same_before law h more legal (omega (arith, dated, le, within)))
           (old.pools (omega (arith, objects, dated, risen, le)));
-      lacking = lacking h (e ∷ []) d later (lacking_by specs budget row) legal are will old.within old.lacking;
+      lacking = lacking h more d later (lacking_by specs budget row) legal are will old.within old.lacking;
     }
 
-pub known_more : RiseLaw → SameLaw → LackingLaw → (h : List Entry) (e : Entry) (d : Dates) (memo : List NodesFields) → Legal (h ++ e ∷ []) → AreDatesOf h d → IsTrueOf h memo → IsTrueOf (h ++ e ∷ []) memo
-known_more rise law lacking h e d memo legal are known = record {
+pub known_more : RiseLaw → SameLaw → LackingLaw → (h more : List Entry) (d : Dates) (memo : List NodesFields) → Legal (h ++ more) → AreDatesOf h d → IsTrueOf h memo → IsTrueOf (h ++ more) memo
+known_more rise law lacking h more d memo legal are known = record {
   tells = λ later will. record {
     each = λ i n is. record {
-      each = λ j row at. row_more rise law lacking h e d later n.specs n.budget row legal are will (((known.tells d are).each i n is).each j row at);
+      each = λ j row at. row_more rise law lacking h more d later n.specs n.budget row legal are will (((known.tells d are).each i n is).each j row at);
     };
   };
 }
 
--- ---- a ledger
+-- ---- lists of memos
 
 pub nothing_known : (h : List Entry) → IsTrueOf h []
 nothing_known h = record { tells = λ d are. record { each = λ i n is. absurd cc } }
 
+pub none_known : (h : List Entry) → AreTrueOf h []
+none_known h = λ i memo at. absurd cc
+
+pub each_before : {X : Type 0} (P : X → Type 0) (xs ys : List X) → Each P (xs ++ ys) → Each P xs
+each_before P [] ys h i x at = absurd cc
+each_before P (z ∷ zs) ys h zero x at = h 0 x at
+each_before P (z ∷ zs) ys h (suc i) x at = each_before P zs ys (λ j w is. h (suc j) w is) i x at
+
+pub last_of_each : {X : Type 0} (P : X → Type 0) (xs : List X) (y : X) → Each P (xs ++ y ∷ []) → P y
+last_of_each P [] y h = h 0 y refl
+last_of_each P (z ∷ zs) y h = last_of_each P zs y (λ j w is. h (suc j) w is)
+
+pub each_with : {X : Type 0} (P : X → Type 0) (xs : List X) (y : X) → Each P xs → P y → Each P (xs ++ y ∷ [])
+each_with {X} P [] y h p zero x at = let f : y ≡ x = cc in subst P f p
+each_with P [] y h p (suc i) x at = absurd cc
+each_with P (z ∷ zs) y h p zero x at = h 0 x at
+each_with P (z ∷ zs) y h p (suc i) x at = each_with P zs y (λ j w is. h (suc j) w is) p i x at
+
+-- ---- a ledger
+
 pub unset : (index : ℕ) (d : Dates) → AreSet false [] index d d
 unset index d = record { date = refl; freed = λ p. refl }
 
-pub remembers_same : (h : List Entry) (d later : Dates) (memo : List NodesFields) → IsSame d later → Remembers h d memo → Remembers h later memo
-remembers_same h d later memo same was = record {
+pub remembers_same : (h : List Entry) (d later : Dates) (memos : List (List NodesFields)) → IsSame d later → Remembers h d memos → Remembers h later memos
+remembers_same h d later memos same was = record {
   dated = record { objects = same.objects ∙ was.dated.objects; freed = λ p. same.freed p ∙ was.dated.freed p };
   known = was.known;
 }
 
 -- it remembers with one entry more what it has to
-pub remembers_more : GoesOn → (es : List Entry) (e : Entry) (s : State) (hs : Holders) (ts : KeptCounters) (job_states : List (ℕ × JobState)) (limit : ℕ) (d later : Dates) (memo : List NodesFields) → IsKept es s hs ts job_states limit
-    → Remembers es d memo → Step es e → AreSet (changes_objects e.event) (lost_by s e.event) (length es + 1) d later → Remembers (es ++ e ∷ []) later memo
-remembers_more law es e s hs ts job_states limit d later memo kept was step set = record {
+pub remembers_more : GoesOn → (es : List Entry) (e : Entry) (s : State) (hs : Holders) (ts : KeptCounters) (job_states : List (ℕ × JobState)) (limit : ℕ) (d later : Dates) (memos : List (List NodesFields)) → IsKept es s hs ts job_states limit
+    → Remembers es d memos → Step es e → AreSet (changes_objects e.event) (lost_by s e.event) (length es + 1) d later → Remembers (es ++ e ∷ []) later memos
+remembers_more law es e s hs ts job_states limit d later memos kept was step set = record {
   dated = law.dated es e d later was.dated (subst (λ (t : State). AreSet (changes_objects e.event) (lost_by t e.event) (length es + 1) d later) kept.state_is set);
-  known = law.known es e d memo (Legal-more es e kept.legal step) was.dated was.known;
+  known = λ i memo at. law.known es (e ∷ []) d memo (Legal-more es e kept.legal step) was.dated (was.known i memo at);
 }

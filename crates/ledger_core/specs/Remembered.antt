@@ -6,6 +6,7 @@ use Rattle.cluster.specs.declared.entry.Entry.{Entry}
 use Rattle.cluster.specs.declared.plan.DeviceResult.{DeviceResult}
 use Rattle.cluster.specs.declared.state.Granted.{Granted}
 use Rattle.cluster.specs.History.{state_of}
+use Rattle.request_rules.specs.Lists.{Each}
 use Rattle.allocations.specs.Lacking.{Dates, freed_for}
 use Rattle.histories.specs.Growth.{AreDatesOf, changes_objects, lost_by}
 use Rattle.histories.specs.Legal.{Legal}
@@ -16,10 +17,14 @@ use Rattle.node_memo.specs.Memo.{NodesFields, Tells}
 pub record IsTrueOf (h : List Entry) (rows : List NodesFields) : Type 0 where
   pub tells : (d : Dates) → AreDatesOf h d → Tells (state_of h) d rows (length h)
 
+-- so is each memo of a list
+abbrev pub AreTrueOf : List Entry → List (List NodesFields) → Type 0
+AreTrueOf h memos = Each (IsTrueOf h) memos
+
 -- The dates are those of the entries, and what is remembered is true.
-pub record Remembers (h : List Entry) (d : Dates) (rows : List NodesFields) : Type 0 where
+pub record Remembers (h : List Entry) (d : Dates) (memos : List (List NodesFields)) : Type 0 where
   pub dated : AreDatesOf h d
-  pub known : IsTrueOf h rows
+  pub known : AreTrueOf h memos
 
 -- ---- the pools of devices
 
@@ -58,8 +63,8 @@ pub record IsSame (d later : Dates) : Type 0 where
   pub objects : later.objects ≡ d.objects
   pub freed : (pool : PoolName) → freed_for later pool ≡ freed_for d pool
 
--- One entry more keeps dates that it sets, and what is known if the history stays legal.
+-- One entry more keeps dates that it sets, and entries more keep what is known if the history stays legal.
 pub record GoesOn : Type 0 where
   pub none : AreDatesOf [] (record { objects = 0; freed = [] })
   pub dated : (h : List Entry) (e : Entry) (d later : Dates) → AreDatesOf h d → AreSet (changes_objects e.event) (lost_by (state_of h) e.event) (length h + 1) d later → AreDatesOf (h ++ e ∷ []) later
-  pub known : (h : List Entry) (e : Entry) (d : Dates) (rows : List NodesFields) → Legal (h ++ e ∷ []) → AreDatesOf h d → IsTrueOf h rows → IsTrueOf (h ++ e ∷ []) rows
+  pub known : (h more : List Entry) (d : Dates) (rows : List NodesFields) → Legal (h ++ more) → AreDatesOf h d → IsTrueOf h rows → IsTrueOf (h ++ more) rows

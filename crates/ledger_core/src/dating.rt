@@ -1,6 +1,6 @@
 //! The dates that a ledger keeps: which nodes, slices and classes an entry changes, and in which pools it frees devices.
 
-ghost use Rattle.std.specs.Prelude.{◌≡◌, ◌++◌, ◌∷◌, [], IfOk, OnOk, if◌then◌else◌};
+ghost use Rattle.std.specs.Prelude.{◌≡◌, ◌++◌, ◌∷◌, [], IfOk, OnOk};
 ghost use Rattle.pool_view.specs.declared.names.PoolName.{PoolName};
 ghost use Rattle.cluster.specs.Ready.{object_of};
 ghost use Rattle.allocations.specs.Lacking.{freed_for};
@@ -141,14 +141,4 @@ fn make_pool_row(alloc: Global, dates: &mut Dates, slice: &ResourceSlice) -> Res
 {
     let pool = PoolName::of(alloc, slice)?;
     dates.make_room(alloc, &pool)
-}
-
-/// Sets the date of nodes, slices and classes, if one of them changes.
-pub fn set_objects(dates: &mut Dates, changes: bool, index: u64)
-    ensures objects { dates.new.objects ≡ (if changes then index else dates.old.objects) }
-    ensures freed { dates.new.freed ≡ dates.old.freed }
-{
-    if changes {
-        dates.set_objects(index);
-    }
 }

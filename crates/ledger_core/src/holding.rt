@@ -333,7 +333,7 @@ pub fn free(
     state: &mut State,
     holders: &mut Shared<Held>,
     totals: &mut Shared<Totals>,
-    dates: &mut Dates,
+    dates: &mut Shared<Dates>,
     index: u64,
     pod: &Key,
 ) -> Result<Key, AllocError>
@@ -353,6 +353,7 @@ pub fn free(
     let pools = Pools::of(alloc, &inventory)?;
     let holders = holders.change(alloc)?;
     let totals = totals.change(alloc)?;
+    let dates = dates.change(alloc)?;
     free_held(alloc, state, &pools, holders, totals, dates, index, pod)?;
     Ok(kept)
 }
@@ -467,7 +468,7 @@ fn remove_dated(
     state: &mut State,
     holders: &mut Shared<Held>,
     totals: &mut Shared<Totals>,
-    dates: &mut Dates,
+    dates: &mut Shared<Dates>,
     index: u64,
     target: &Target,
     key: &Key,
@@ -484,6 +485,7 @@ fn remove_dated(
 {
     let grant = grant_at(alloc, &state.claims, key)?;
     let freed = pools_of_grant(alloc, &grant)?;
+    let dates = dates.change(alloc)?;
     make_rows(alloc, dates, &freed)?;
     remove_claim(alloc, state, holders, totals, target, key, &grant)?;
     set_freed(dates, &freed, index);
@@ -496,7 +498,7 @@ fn remove_searched(
     state: &mut State,
     holders: &Held,
     totals: &mut Shared<Totals>,
-    dates: &mut Dates,
+    dates: &mut Shared<Dates>,
     index: u64,
     target: &Target,
 ) -> Result<(), AllocError>
@@ -507,6 +509,7 @@ fn remove_searched(
     ensures undated { OnErr result (IsSame dates.old dates.new) }
     ensures counted { AreCounted state.new.inventory holders.now totals.new }
 {
+    let dates = dates.change(alloc)?;
     counting::remove(alloc, state, holders, totals, target)?;
     dates.set_objects(index);
     Ok(())
@@ -517,7 +520,7 @@ fn remove_by(
     state: &mut State,
     holders: &mut Shared<Held>,
     totals: &mut Shared<Totals>,
-    dates: &mut Dates,
+    dates: &mut Shared<Dates>,
     index: u64,
     target: &Target,
 ) -> Result<(), AllocError>
@@ -548,7 +551,7 @@ pub fn remove(
     state: &mut State,
     holders: &mut Shared<Held>,
     totals: &mut Shared<Totals>,
-    dates: &mut Dates,
+    dates: &mut Shared<Dates>,
     index: u64,
     target: &Target,
 ) -> Result<Target, AllocError>

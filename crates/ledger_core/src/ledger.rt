@@ -38,12 +38,13 @@ ghost use Rattle.histories.specs.Wrote.{MayWrite};
 
 use crate::LedgerError;
 use crate::counting::{new_totals, put};
-use crate::dating::{is_searched, make_slice_row, memory_goes_on, set_objects};
+use crate::dating::{is_searched, make_slice_row, memory_goes_on};
 use crate::holding::{adopt, free, remove, reserve};
+use crate::memos::{put_last, take_last};
 use crate::plans::true_plans_pass;
 use crate::room::{JobStates, append, failures, job_state_in, make_room};
 use crate::snapshot::Snapshot;
-use alloc_rules::{check, check_status};
+use alloc_rules::{check_again, check_status};
 use api_claim::ClaimStatus;
 use cluster::{
     Command, Entry, Event, Failure, JobState, Kept, Mode, Outcome, Phase, Plan, Ready, ReadyParts,
@@ -89,8 +90,9 @@ pub struct Ledger {
     totals: Shared<Totals>,
     job_states: JobStates,
     limit: u64,
-    dates: Dates,
-    memo: Memo,
+    dates: Shared<Dates>,
+    /// Each is of a worker that isn't searching now.
+    memos: Vec<Memo>,
     /// Whether what is remembered of nodes was put back since the last snapshot: whoever decides by it has no use for
     /// what the inventory finds out about full slices.
     is_by_memo: bool,
@@ -104,7 +106,7 @@ impl Model for Ledger {
 
     ghost view = { λ l. record { entries = l.entries.items; limit = l.limit } };
 
-    ghost invariant = { λ l. IsKept l.entries.items l.state l.holders l.totals l.job_states l.limit × Remembers l.entries.items l.dates l.memo };
+    ghost invariant = { λ l. IsKept l.entries.items l.state l.holders l.totals l.job_states l.limit × Remembers l.entries.items l.dates l.memos.items };
 }
 
 impl Ledger {
@@ -117,6 +119,7 @@ impl Ledger {
         let state = State::new(alloc)?;
         let holders = no_holders(alloc)?;
         let totals = new_totals(alloc, &state, &holders)?;
+        let dates = Shared::new(alloc, Dates::new(alloc))?;
         Ok(Ledger {
             entries: Vec::new(alloc),
             state,
@@ -124,8 +127,8 @@ impl Ledger {
             totals,
             job_states: Table::new(alloc),
             limit,
-            dates: Dates::new(alloc),
-            memo: Memo::new(alloc),
+            dates,
+            memos: Vec::new(alloc),
             is_by_memo: false,
         })
     }
@@ -184,21 +187,30 @@ impl Ledger {
         &self.dates
     }
 
-    /// Takes out what is remembered of nodes that have no allocation. It is true of the present state by its dates, and
-    /// the ledger remembers nothing until it is put back. Allocates nothing.
+    /// The same dates, which stay as they are while the ledger goes on. Allocates nothing; `AllocError` only if a count of
+    /// owners is full.
+    pub fn share_dates(&self) -> Result<Shared<Dates>, AllocError>
+        ensures { IfOk result (AreDatesOf self.now.entries) }
+    {
+        self.dates.share()
+    }
+
+    /// Takes out what is remembered of nodes that have no allocation: what was put back last, or nothing if others have it
+    /// all. It is true of the present state by its dates. Allocates nothing.
     pub fn take_memo(&mut self, alloc: Global) -> Memo
         ensures same { self.new ≡ self.old }
         ensures known { IsTrueOf self.old.entries result }
     {
-        mem::replace(&mut self.memo, Memo::new(alloc))
+        take_last(alloc, &mut self.memos)
     }
 
-    /// Remembers of nodes what is true of the present state, in place of what was remembered. Allocates nothing.
+    /// Remembers of nodes what is true of the present state, beside what others put back. It is forgotten if memory runs
+    /// out.
     pub fn put_memo(&mut self, memo: Memo)
         requires { IsTrueOf self.old.entries memo }
         ensures { self.new ≡ self.old }
     {
-        self.memo = memo;
+        put_last(&mut self.memos, memo);
         self.is_by_memo = true;
     }
 
@@ -663,18 +675,23 @@ impl Ledger {
         }
     }
 
-    /// The first failure of a plan, which was true at its index, against the present state. If nothing was appended
-    /// since, it has none, and nothing is looked at.
+    /// The first failure of a plan, which was true at its index, against the present state.
     fn failure(&self, alloc: Global, pod: &Key, plan: &Plan) -> Result<Option<Failure>, AllocError>
         requires { IsPlanned self.now.entries pod.now plan.now }
         ensures first { IfOk result (λ found. found ≡ failing (state_of self.now.entries) pod.now plan.now) }
         ensures legal { Legal self.now.entries }
     {
         true_plans_pass();
-        if plan.at == self.len() {
-            return Ok(None);
-        }
-        check(alloc, &self.state, &self.holders, &self.totals, pod, plan)
+        let at = self.len();
+        check_again(
+            alloc,
+            &self.state,
+            &self.holders,
+            &self.totals,
+            pod,
+            plan,
+            at,
+        )
     }
 
     /// Records why a plan fails.
@@ -930,7 +947,7 @@ fn put_object(
     state: &mut State,
     holders: &Held,
     totals: &mut Shared<Totals>,
-    dates: &mut Dates,
+    dates: &mut Shared<Dates>,
     limit: u64,
     job: u64,
     kept: Kept,
@@ -952,11 +969,37 @@ fn put_object(
     ensures counted { AreCounted state.new.inventory holders.now totals.new }
 {
     let index = make_room(entries, job_states, limit, job)?;
-    make_slice_row(alloc, dates, &kept)?;
-    let changes = is_searched(&kept);
-    put(alloc, state, holders, totals, index, kept)?;
-    set_objects(dates, changes, index);
+    if is_searched(&kept) {
+        let dates = dates.change(alloc)?;
+        put_searched(alloc, state, holders, totals, dates, index, kept)?;
+    } else {
+        put(alloc, state, holders, totals, index, kept)?;
+    }
     Ok(index)
+}
+
+/// Puts a node, a slice or a class by the entry at this index, and sets their date.
+fn put_searched(
+    alloc: Global,
+    state: &mut State,
+    holders: &Held,
+    totals: &mut Shared<Totals>,
+    dates: &mut Dates,
+    index: u64,
+    kept: Kept,
+) -> Result<(), AllocError>
+    requires free { has_room state.old (object_of kept) ≡ true }
+    requires counted { AreCounted state.old.inventory holders.now totals.old }
+    ensures ok { OnOk result (state.new ≡ with_object index (object_of kept) state.old) }
+    ensures dated { OnOk result (AreSet true [] index dates.old dates.new) }
+    ensures err { OnErr result (state.new ≡ state.old) }
+    ensures undated { OnErr result (IsSame dates.old dates.new) }
+    ensures counted { AreCounted state.new.inventory holders.now totals.new }
+{
+    make_slice_row(alloc, dates, &kept)?;
+    put(alloc, state, holders, totals, index, kept)?;
+    dates.set_objects(index);
+    Ok(())
 }
 
 /// The version of a claim that is there.

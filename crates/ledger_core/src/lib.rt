@@ -6,11 +6,13 @@ mod dating;
 mod error;
 mod holding;
 mod ledger;
+mod memos;
 mod plans;
 mod recorded;
 mod room;
 mod snapshot;
 
+pub use dating::memory_goes_on;
 pub use error::LedgerError;
 pub use ledger::{Done, Ledger, Start};
 pub use snapshot::Snapshot;

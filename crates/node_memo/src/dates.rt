@@ -7,7 +7,7 @@ ghost use Rattle.allocations.specs.Lacking.{freed_for};
 ghost use Rattle.node_memo.specs.Dated.{at, has_row, index_in, names};
 ghost use Rattle.node_memo.specs.Placed.{AreRowsOf, IsSetFrom, set_for};
 
-use dra_values::Table;
+use dra_values::{Duplicate, Table};
 use pool_view::PoolName;
 use std::alloc::{AllocError, Global};
 use std::marker::Model;
@@ -22,7 +22,7 @@ pub struct Dates {
     latest: u64,
     /// The rows of `freed`, each at a place that stays.
     rows: Vec<PoolDate>,
-    places: Table<PoolName, usize>,
+    places: Table<PoolName, u64>,
 }
 
 /// The index of a pool.
@@ -94,7 +94,10 @@ impl Dates {
     /// Where `freed_at` finds the index of a pool, if there is room for it. Allocates nothing. Any other place is as
     /// right, but slower.
     pub(crate) fn place(&self, pool: &PoolName) -> Option<usize> {
-        self.places.get(pool).copied()
+        match self.places.get(pool) {
+            None => None,
+            Some(place) => Some(*place as usize),
+        }
     }
 
     /// An index that is at least that of each pool. Allocates nothing.
@@ -145,6 +148,34 @@ impl Dates {
     }
 }
 
+/// Equal dates, which share the names of pools.
+impl Duplicate for Dates {
+    fn duplicate(&self, alloc: Global) -> Result<Dates, AllocError> {
+        let (freed, places, rows) = copies(alloc, &self.freed, &self.places, &self.rows)?;
+        Ok(Dates {
+            objects: self.objects,
+            freed,
+            latest: self.latest,
+            rows,
+            places,
+        })
+    }
+}
+
+fn copies(
+    alloc: Global,
+    freed: &Table<PoolName, u64>,
+    places: &Table<PoolName, u64>,
+    rows: &[PoolDate],
+) -> Result<(Table<PoolName, u64>, Table<PoolName, u64>, Vec<PoolDate>), AllocError>
+    ensures { IfOk result (λ copies. (copies.0 ≡ freed.now) × (copies.1 ≡ places.now) × (copies.2.items ≡ rows.now)) }
+{
+    let freed = copy_table(alloc, freed)?;
+    let places = copy_table(alloc, places)?;
+    let rows = copy_rows(alloc, rows)?;
+    Ok((freed, places, rows))
+}
+
 fn copy_name(alloc: Global, pool: &PoolName) -> Result<PoolName, AllocError>
     ensures { IfOk result (λ name. name ≡ pool.now) }
 {
@@ -154,11 +185,37 @@ fn copy_name(alloc: Global, pool: &PoolName) -> Result<PoolName, AllocError>
     })
 }
 
+fn copy_table(
+    alloc: Global,
+    table: &Table<PoolName, u64>,
+) -> Result<Table<PoolName, u64>, AllocError>
+    ensures { IfOk result (λ copy. copy ≡ table.now) }
+{
+    let mut copy = Table::new(alloc);
+    for (pool, value) in table.as_map() {
+        copy.insert(copy_name(alloc, pool)?, *value)?;
+    }
+    Ok(copy)
+}
+
+fn copy_rows(alloc: Global, rows: &[PoolDate]) -> Result<Vec<PoolDate>, AllocError>
+    ensures { IfOk result (λ copies. copies.items ≡ rows.now) }
+{
+    let mut copies = Vec::with_capacity(alloc, rows.len())?;
+    for row in rows {
+        copies.push(PoolDate {
+            pool: copy_name(alloc, &row.pool)?,
+            index: row.index,
+        })?;
+    }
+    Ok(copies)
+}
+
 /// Makes a row for a pool, which has none.
 fn add_row(
     alloc: Global,
     freed: &mut Table<PoolName, u64>,
-    places: &mut Table<PoolName, usize>,
+    places: &mut Table<PoolName, u64>,
     rows: &mut Vec<PoolDate>,
     pool: &PoolName,
 ) -> Result<(), AllocError>
@@ -174,7 +231,7 @@ fn add_row(
         index: 0,
     };
     let name = copy_name(alloc, pool)?;
-    let place = rows.as_slice().len();
+    let place = rows.as_slice().len() as u64;
     places.insert(copy_name(alloc, pool)?, place)?;
     freed.insert(name, 0)?;
     rows.push(row)?;
@@ -199,16 +256,11 @@ fn is_pool(name: &PoolName, pool: &PoolName) -> bool
 }
 
 /// Sets the index of a pool at its place, if it has one.
-fn set_placed(
-    rows: &mut Vec<PoolDate>,
-    places: &Table<PoolName, usize>,
-    pool: &PoolName,
-    index: u64,
-)
+fn set_placed(rows: &mut Vec<PoolDate>, places: &Table<PoolName, u64>, pool: &PoolName, index: u64)
     ensures { (freed : List (PoolName × ℕ)) → is_some (at pool.now freed) ≡ true → AreRowsOf freed places.now rows.old.items → AreRowsOf (set_value (is_at (pool_cmp pool.now)) freed index) places.now rows.new.items }
 {
     if let Some(place) = places.get(pool) {
-        set_at(rows, *place, pool, index);
+        set_at(rows, *place as usize, pool, index);
     }
 }
 

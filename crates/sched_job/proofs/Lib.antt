@@ -20,6 +20,7 @@ pub mod Earlier
 pub mod Taking
 mod Setting
 pub mod Knowing
+pub mod Noting
 pub mod Sends
 pub mod Attributing
 pub mod Laning

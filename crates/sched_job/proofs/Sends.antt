@@ -91,9 +91,9 @@ ledger_send = view_send _ _ _ _ _ (declared_send LedgerInside.the_type (
           (
             search sendable depth 60 fits 20000,
             (
-              search (dates.the_send, sendable) depth 60 fits 20000,
+              search (dates.the_send, dates.the_sync, crosses, sendable) depth 60 fits 20000,
               (
-                search (memo.the_send, sendable) depth 60 fits 20000,
+                search (memo.the_send, crosses, sendable) depth 60 fits 20000,
                 (search sendable depth 60 fits 20000, tt),
               ),
             ),

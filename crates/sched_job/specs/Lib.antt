@@ -1,6 +1,7 @@
 pub mod Moves
 pub mod Runs
 pub mod Steps
+pub mod Noted
 pub mod Turns
 pub mod Complete
 pub mod Owned

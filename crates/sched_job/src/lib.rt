@@ -11,6 +11,7 @@ mod deal;
 mod due;
 mod laws;
 mod member;
+mod notes;
 mod passes;
 mod past;
 mod run;

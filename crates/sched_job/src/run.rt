@@ -8,9 +8,11 @@ ghost use Rattle.sched_job.specs.Going.{Going, TookTurn, Worked, end_for};
 ghost use Rattle.sched_job.specs.Moves.{answer, moved, move_of, stage_after, Fits};
 ghost use Rattle.sched_job.specs.Runs.{Running};
 ghost use Rattle.histories.specs.JobRuns.{Run, attempts_of};
-ghost use Rattle.sched_job.specs.Steps.{run_of};
+ghost use Rattle.sched_job.specs.Noted.{AreNotesOf, AreSince};
+ghost use Rattle.sched_job.specs.Steps.{IsPresent, run_of};
 ghost use Rattle.sched_job.specs.declared.work.Stage.TheVariants.{Ready};
 
+use crate::notes::{Notes, give_back, notes_for};
 use crate::{Next, Work};
 use cluster::JobState;
 use dra_ports::{Gate, Point};
@@ -58,6 +60,7 @@ fn act(alloc: Global, ledger: &mut Ledger, work: &mut Work) -> Turned
     ensures err { OnErr result.next (ledger.new ≡ ledger.old) }
     ensures running { (c : Run) → Running c ledger.old.entries work.old → Running c ledger.new.entries work.new }
     ensures legal { Legal ledger.new.entries }
+    ensures present { OnOk result.next (IsPresent ledger.new.entries work.new.stage) }
 {
     let had_reserved = is_reserved(ledger.job_state(work.job));
     let next = work.turn(alloc, ledger);
@@ -68,6 +71,34 @@ fn act(alloc: Global, ledger: &mut Ledger, work: &mut Work) -> Turned
     }
 }
 
+/// One turn of the work, before which the ledger gets back what was remembered of nodes, and after which it is taken out
+/// again if a search is next.
+fn act_with(
+    alloc: Global,
+    ledger: &mut Ledger,
+    work: &mut Work,
+    notes: &mut Option<Notes>,
+) -> Turned
+    requires fits { Fits ledger.old.entries work.old }
+    requires notes { AreSince ledger.old.entries notes.old }
+    ensures ok { OnOk result.next (ledger.new ≡ moved ledger.old work.old.job (move_of ledger.old.entries work.old)) }
+    ensures job { work.new.job ≡ work.old.job }
+    ensures command { work.new.command ≡ work.old.command }
+    ensures stage { OnOk result.next (work.new.stage ≡ stage_after ledger.old.entries work.old) }
+    ensures answer { IfOk result.next (λ next. next ≡ answer (job_state_of ledger.new.entries work.old.job) work.new.stage) }
+    ensures full { (n : ℕ) → IsErrOf result.next (LedgerError.Full n) → (length ledger.old.entries ≡ n) × (ledger.old.limit ≤ n) }
+    ensures err { OnErr result.next (ledger.new ≡ ledger.old) }
+    ensures running { (c : Run) → Running c ledger.old.entries work.old → Running c ledger.new.entries work.new }
+    ensures legal { Legal ledger.new.entries }
+    ensures present { OnOk result.next (IsPresent ledger.new.entries work.new.stage) }
+    ensures notes { AreNotesOf ledger.new.entries notes.new }
+{
+    give_back(ledger, notes);
+    let turned = act(alloc, ledger, work);
+    *notes = notes_for(alloc, ledger, &turned.next);
+    turned
+}
+
 /// One turn of the work under the lock.
 fn take_turn<R: Wait>(
     rt: &R,
@@ -75,15 +106,19 @@ fn take_turn<R: Wait>(
     lock: &TurnLock<Ledger>,
     pass: &mut Pass<Ledger>,
     work: &mut Work,
+    notes: &mut Option<Notes>,
 ) -> Turned
     requires of { IsOf lock.now pass.old }
     requires free { IsFree pass.old }
     requires fits { (more : List Entry) → Fits (pass.old.front ++ more) work.old }
+    requires notes { AreSince pass.old.front notes.old }
     ensures of { IsOf lock.now pass.new }
     ensures took { TookTurn lock.now.number pass.old pass.new work.old work.new result.next }
+    ensures present { OnOk result.next (IsPresent pass.new.front work.new.stage) }
+    ensures notes { AreNotesOf pass.new.front notes.new }
 {
     let mut turn = lock.enter(rt, pass);
-    let turned = act(alloc, turn.state(), work);
+    let turned = act_with(alloc, turn.state(), work, notes);
     lock.leave(turn, pass);
     turned
 }
@@ -97,17 +132,20 @@ fn go_on<R: Wait, G: Gate>(
     pass: &mut Pass<Ledger>,
     gate: &G,
     work: &mut Work,
+    notes: &mut Option<Notes>,
     budget: u64,
 ) -> Option<JobEnd>
     requires of { IsOf lock.now pass.old }
     requires free { IsFree pass.old }
     requires fits { (more : List Entry) → Fits (pass.old.front ++ more) work.old }
+    requires notes { AreSince pass.old.front notes.old }
     ensures of { IsOf lock.now pass.new }
+    ensures notes { AreSince pass.new.front notes.new }
     ensures on { IfNone result ((c : Run) (began : Known Entry) → c.budget ≡ budget → Going c began pass.old work.old → Going c began pass.new work.new) }
     ensures over { IfSome result (λ end. (c : Run) (began : Known Entry) → c.budget ≡ budget → Going c began pass.old work.old → Worked c began pass.new end) }
 {
     histories_grow();
-    let turned = take_turn(rt, alloc, lock, pass, work);
+    let turned = take_turn(rt, alloc, lock, pass, work, notes);
     if turned.reserved {
         gate.reached(work.job, Point::Reserved);
     }
@@ -118,7 +156,7 @@ fn go_on<R: Wait, G: Gate>(
                 Some(JobEnd::Ended(index))
             }
             Next::Again => None,
-            Next::Think => match work.think(alloc, gate, budget) {
+            Next::Think => match work.think_with(alloc, gate, budget, notes) {
                 Ok(()) => None,
                 Err(_) => Some(JobEnd::Memory),
             },
@@ -166,8 +204,32 @@ pub fn run_job<R: Wait, G: Gate>(
     ensures worked { Worked (run_of (length pass.old.front) budget work) pass.old pass.new result }
 {
     let mut work = work;
+    let mut notes = None;
+    run_on(rt, alloc, lock, pass, gate, &mut work, &mut notes, budget)
+}
+
+/// Runs the work of a job to the job's end, with what is remembered of nodes between two turns.
+fn run_on<R: Wait, G: Gate>(
+    rt: &R,
+    alloc: Global,
+    lock: &TurnLock<Ledger>,
+    pass: &mut Pass<Ledger>,
+    gate: &G,
+    work: &mut Work,
+    notes: &mut Option<Notes>,
+    budget: u64,
+) -> JobEnd
+    requires of { IsOf lock.now pass.old }
+    requires free { IsFree pass.old }
+    requires ready { work.old.stage ≡ Ready }
+    requires attempts { 0 < attempts_of work.old.command }
+    requires notes { AreSince pass.old.front notes.old }
+    ensures of { IsOf lock.now pass.new }
+    ensures free { IsFree pass.new }
+    ensures worked { Worked (run_of (length pass.old.front) budget work.old) pass.old pass.new result }
+{
     for _ in rt.forever() {
-        if let Some(end) = go_on(rt, alloc, lock, pass, gate, &mut work, budget) {
+        if let Some(end) = go_on(rt, alloc, lock, pass, gate, work, notes, budget) {
             return end;
         }
     }

@@ -7,8 +7,10 @@ ghost use Rattle.sched_job.specs.Runs.{Running, IsStaged};
 ghost use Rattle.histories.specs.JobRuns.{Run};
 ghost use Rattle.pod_decision.specs.Decisions.{IsDecision};
 ghost use Rattle.plan_rules.specs.Idle.{is_idle_pod};
+ghost use Rattle.sched_job.specs.Noted.{AreNotesOf, AreOf, AreOfSeen, MaySearch, MayThink};
 ghost use Rattle.sched_job.specs.Steps.{IsNow, IsPresent, IsSearched, Thought, ThoughtOf};
 
+use crate::notes::{Notes, give_back, take_notes};
 use crate::turns::step;
 use cluster::JobState;
 use commands::Command;
@@ -18,7 +20,6 @@ use ledger_core::{Ledger, LedgerError, Snapshot};
 use object_fields::Key;
 use pod_decision::{Decision, decide, decide_with, may_schedule};
 use std::alloc::{AllocError, Global};
-use std::mem;
 
 /// What a work keeps between two turns.
 #[derive(Drop)]
@@ -99,8 +100,26 @@ impl Work {
         ensures thought { OnOk result (Thought budget self.old.command self.old.stage self.new.stage) }
         ensures running { (c : Run) (h : List Entry) → c.budget ≡ budget → Running c h self.old → Running c h self.new }
     {
-        let stage = mem::replace(&mut self.stage, Stage::Ready);
-        self.stage = thought(alloc, &self.command, stage, budget)?;
+        let mut notes = None;
+        self.think_with(alloc, gate, budget, &mut notes)
+    }
+
+    /// Makes the search that is next as `think` does, with what is remembered of nodes without an allocation.
+    pub(crate) fn think_with<G: Gate>(
+        &mut self,
+        alloc: Global,
+        gate: &G,
+        budget: u64,
+        notes: &mut Option<Notes>,
+    ) -> Result<(), AllocError>
+        requires { MayThink self.old.stage notes.old }
+        ensures job { self.new.job ≡ self.old.job }
+        ensures command { self.new.command ≡ self.old.command }
+        ensures thought { OnOk result (Thought budget self.old.command self.old.stage self.new.stage) }
+        ensures running { (c : Run) (h : List Entry) → c.budget ≡ budget → Running c h self.old → Running c h self.new }
+        ensures notes { (h : List Entry) → IsPresent h self.old.stage → AreNotesOf h notes.old → AreNotesOf h notes.new }
+    {
+        search(alloc, &self.command, &mut self.stage, notes, budget)?;
         gate.reached(self.job, Point::Searched);
         Ok(())
     }
@@ -120,9 +139,10 @@ impl Work {
         ensures thought { OnOk result (Thought budget self.old.command self.old.stage self.new.stage) }
         ensures running { (c : Run) (h : List Entry) → c.budget ≡ budget → Running c h self.old → Running c h self.new }
     {
-        let stage = mem::replace(&mut self.stage, Stage::Ready);
-        self.stage = thought_over(alloc, ledger, &self.command, stage, budget)?;
-        Ok(())
+        let mut notes = take_notes(alloc, ledger);
+        let made = search(alloc, &self.command, &mut self.stage, &mut notes, budget);
+        give_back(ledger, &mut notes);
+        made
     }
 }
 
@@ -139,34 +159,87 @@ fn answer(job_state: JobState, stage: &Stage) -> Next
     }
 }
 
-fn thought(alloc: Global, command: &Command, stage: Stage, budget: u64) -> Result<Stage, AllocError>
-    ensures thought { IfOk result (λ made. Thought budget command.now stage made) }
+/// Makes the search that is next for a command, if one is.
+fn search(
+    alloc: Global,
+    command: &Command,
+    stage: &mut Stage,
+    notes: &mut Option<Notes>,
+    budget: u64,
+) -> Result<(), AllocError>
+    requires { MayThink stage.old notes.old }
+    ensures thought { OnOk result (Thought budget command.now stage.old stage.new) }
+    ensures err { OnErr result (stage.new ≡ stage.old) }
+    ensures notes { (h : List Entry) → IsPresent h stage.old → AreNotesOf h notes.old → AreNotesOf h notes.new }
 {
     match command {
-        Command::Schedule(pod, _) => searched(alloc, pod, stage, budget),
+        Command::Schedule(pod, _) => search_for(alloc, pod, stage, notes, budget),
         Command::Apply(..)
         | Command::Invalid(_)
         | Command::Delete(_)
         | Command::Release(_)
-        | Command::Adopt(..) => Ok(stage),
+        | Command::Adopt(..) => Ok(()),
     }
 }
 
-fn searched(alloc: Global, pod: &Key, stage: Stage, budget: u64) -> Result<Stage, AllocError>
-    ensures thought { IfOk result (λ made. ThoughtOf budget pod.now stage made) }
+fn search_for(
+    alloc: Global,
+    pod: &Key,
+    stage: &mut Stage,
+    notes: &mut Option<Notes>,
+    budget: u64,
+) -> Result<(), AllocError>
+    requires { MayThink stage.old notes.old }
+    ensures thought { OnOk result (ThoughtOf budget pod.now stage.old stage.new) }
+    ensures err { OnErr result (stage.new ≡ stage.old) }
+    ensures notes { (h : List Entry) → IsPresent h stage.old → AreNotesOf h notes.old → AreNotesOf h notes.new }
 {
     match stage {
-        Stage::Seen(snapshot) => choose(alloc, pod, &snapshot, budget),
-        Stage::Ready | Stage::Chosen(_) => Ok(stage),
+        Stage::Seen(snapshot) => {
+            let made = choose(alloc, pod, snapshot, notes, budget)?;
+            *stage = made;
+            Ok(())
+        }
+        Stage::Ready | Stage::Chosen(_) => Ok(()),
     }
 }
 
 /// Decides on a pod over a snapshot, if the pod is there and Idle.
-fn choose(alloc: Global, pod: &Key, snapshot: &Snapshot, budget: u64) -> Result<Stage, AllocError>
-    ensures { IfOk result (λ made. IsSearched snapshot.now pod.now budget made) }
+fn choose(
+    alloc: Global,
+    pod: &Key,
+    snapshot: &Snapshot,
+    notes: &mut Option<Notes>,
+    budget: u64,
+) -> Result<Stage, AllocError>
+    requires { MaySearch snapshot.now notes.old }
+    ensures searched { IfOk result (λ made. IsSearched snapshot.now pod.now budget made) }
+    ensures notes { (h : List Entry) → IsNow h snapshot.now → AreNotesOf h notes.old → AreNotesOf h notes.new }
 {
     if may_schedule(snapshot.state(), pod) {
-        let decision = decide(
+        let decision = decide_for(alloc, pod, snapshot, notes, budget)?;
+        Ok(Stage::Chosen(decision))
+    } else {
+        Ok(Stage::Ready)
+    }
+}
+
+/// Decides on a pod that is there and Idle, with what is remembered, if anything is.
+fn decide_for(
+    alloc: Global,
+    pod: &Key,
+    snapshot: &Snapshot,
+    notes: &mut Option<Notes>,
+    budget: u64,
+) -> Result<Decision, AllocError>
+    requires idle { is_idle_pod snapshot.now.state pod.now ≡ true }
+    requires notes { MaySearch snapshot.now notes.old }
+    ensures decision { IfOk result (IsDecision snapshot.now.state pod.now budget snapshot.now.at) }
+    ensures notes { (h : List Entry) → IsNow h snapshot.now → AreNotesOf h notes.old → AreNotesOf h notes.new }
+{
+    match notes {
+        Some(notes) => decide_by(alloc, pod, snapshot, notes, budget),
+        None => decide(
             alloc,
             snapshot.state(),
             snapshot.holders(),
@@ -174,86 +247,24 @@ fn choose(alloc: Global, pod: &Key, snapshot: &Snapshot, budget: u64) -> Result<
             pod,
             snapshot.at(),
             budget,
-        )?;
-        Ok(Stage::Chosen(decision))
-    } else {
-        Ok(Stage::Ready)
+        ),
     }
 }
 
-fn thought_over(
+/// Decides on a pod that is there and Idle, with what is remembered, which then is more.
+fn decide_by(
     alloc: Global,
-    ledger: &mut Ledger,
-    command: &Command,
-    stage: Stage,
-    budget: u64,
-) -> Result<Stage, AllocError>
-    requires { IsPresent ledger.old.entries stage }
-    ensures thought { IfOk result (λ made. Thought budget command.now stage made) }
-    ensures ledger { ledger.new ≡ ledger.old }
-{
-    match command {
-        Command::Schedule(pod, _) => searched_over(alloc, ledger, pod, stage, budget),
-        Command::Apply(..)
-        | Command::Invalid(_)
-        | Command::Delete(_)
-        | Command::Release(_)
-        | Command::Adopt(..) => Ok(stage),
-    }
-}
-
-fn searched_over(
-    alloc: Global,
-    ledger: &mut Ledger,
-    pod: &Key,
-    stage: Stage,
-    budget: u64,
-) -> Result<Stage, AllocError>
-    requires { IsPresent ledger.old.entries stage }
-    ensures thought { IfOk result (λ made. ThoughtOf budget pod.now stage made) }
-    ensures ledger { ledger.new ≡ ledger.old }
-{
-    match stage {
-        Stage::Seen(snapshot) => choose_over(alloc, ledger, pod, &snapshot, budget),
-        Stage::Ready | Stage::Chosen(_) => Ok(stage),
-    }
-}
-
-/// Decides on a pod over a snapshot of the present state, if the pod is there and Idle.
-fn choose_over(
-    alloc: Global,
-    ledger: &mut Ledger,
     pod: &Key,
     snapshot: &Snapshot,
-    budget: u64,
-) -> Result<Stage, AllocError>
-    requires { IsNow ledger.old.entries snapshot.now }
-    ensures searched { IfOk result (IsSearched snapshot.now pod.now budget) }
-    ensures ledger { ledger.new ≡ ledger.old }
-{
-    if may_schedule(snapshot.state(), pod) {
-        let decision = decide_over(alloc, ledger, pod, snapshot, budget)?;
-        Ok(Stage::Chosen(decision))
-    } else {
-        Ok(Stage::Ready)
-    }
-}
-
-/// Decides on a pod, that is there and Idle, with what the ledger remembers, which then remembers more.
-fn decide_over(
-    alloc: Global,
-    ledger: &mut Ledger,
-    pod: &Key,
-    snapshot: &Snapshot,
+    notes: &mut Notes,
     budget: u64,
 ) -> Result<Decision, AllocError>
-    requires now { IsNow ledger.old.entries snapshot.now }
     requires idle { is_idle_pod snapshot.now.state pod.now ≡ true }
+    requires notes { AreOfSeen snapshot.now notes.old }
     ensures decision { IfOk result (IsDecision snapshot.now.state pod.now budget snapshot.now.at) }
-    ensures ledger { ledger.new ≡ ledger.old }
+    ensures notes { (h : List Entry) → IsNow h snapshot.now → AreOf h notes.old → AreOf h notes.new }
 {
-    let mut memo = ledger.take_memo(alloc);
-    let decision = decide_with(
+    decide_with(
         alloc,
         snapshot.state(),
         snapshot.holders(),
@@ -261,9 +272,7 @@ fn decide_over(
         pod,
         snapshot.at(),
         budget,
-        ledger.dates(),
-        &mut memo,
-    );
-    ledger.put_memo(memo);
-    decision
+        &notes.dates,
+        &mut notes.memo,
+    )
 }

@@ -10,7 +10,7 @@ use Rattle.node_memo.proofs.dates.add_row.Goals as goal
 
 pub returns-in_err-insert-2-clause-rows : goal.returns-in_err-insert-2-clause-rows
 returns-in_err-insert-2-clause-rows c =
-    places_made c.args.freed.now c.insert-2.new.self c.args.places.now c.insert.new.self c.args.rows.now.items c.args.pool.now c.in_ok-copy_name-2.field-0 (length c.as_slice-place.result.now) c.in_ok-copy_name-2.ensures c.in_ok-insert.ensures.ok
+    places_made c.args.freed.now c.insert-2.new.self c.args.places.now c.insert.new.self c.args.rows.now.items c.args.pool.now c.in_ok-copy_name-2.field-0 (length c.as_slice.result.now) c.in_ok-copy_name-2.ensures c.in_ok-insert.ensures.ok
     c.in_err-insert-2.ensures.err c.requires.missing c.requires.rows
 
 pub returns-in_err-push-clause-same : goal.returns-in_err-push-clause-same
@@ -23,7 +23,7 @@ returns-in_err-push-clause-stay c = λ p there. ap (λ (es : List (PoolName × �
 pub returns-in_err-push-clause-rows : goal.returns-in_err-push-clause-rows
 returns-in_err-push-clause-rows c =
     subst (λ (rs : List PoolDate). AreRowsOf c.insert-2.new.self c.insert.new.self rs) (sym c.in_err-push.ensures.items)
-    (freed_made c.args.freed.now c.insert-2.new.self c.args.places.now c.insert.new.self c.args.rows.now.items c.args.pool.now c.in_ok-copy_name-2.field-0 c.in_ok-name.name (length c.as_slice-place.result.now) c.in_ok-copy_name-2.ensures c.in_ok-name.ensures
+    (freed_made c.args.freed.now c.insert-2.new.self c.args.places.now c.insert.new.self c.args.rows.now.items c.args.pool.now c.in_ok-copy_name-2.field-0 c.in_ok-name.name (length c.as_slice.result.now) c.in_ok-copy_name-2.ensures c.in_ok-name.ensures
     c.in_ok-insert.ensures.ok c.in_ok-insert-2.ensures.ok c.requires.missing c.requires.rows)
 
 pub returns-clause-same : goal.returns-clause-same
@@ -38,5 +38,5 @@ returns-clause-room c = ap (λ (es : List (PoolName × ℕ)). is_some (at c.args
 
 pub returns-clause-rows : goal.returns-clause-rows
 returns-clause-rows c =
-    row_made c.args.freed.now c.insert-2.new.self c.args.places.now c.insert.new.self c.args.rows.now.items c.push.new.self.items c.args.pool.now c.in_ok-copy_name-2.field-0 c.in_ok-name.name c.in_ok-copy_name.field-0 (length c.as_slice-place.result.now)
-    c.in_ok-copy_name-2.ensures c.in_ok-name.ensures c.in_ok-copy_name.ensures (ap length c.as_slice-place.ensures.value) c.in_ok-insert.ensures.ok c.in_ok-insert-2.ensures.ok c.in_ok-push.ensures.items c.requires.missing c.requires.rows
+    row_made c.args.freed.now c.insert-2.new.self c.args.places.now c.insert.new.self c.args.rows.now.items c.push.new.self.items c.args.pool.now c.in_ok-copy_name-2.field-0 c.in_ok-name.name c.in_ok-copy_name.field-0 (length c.as_slice.result.now)
+    c.in_ok-copy_name-2.ensures c.in_ok-name.ensures c.in_ok-copy_name.ensures (ap length c.as_slice.ensures.value) c.in_ok-insert.ensures.ok c.in_ok-insert-2.ensures.ok c.in_ok-push.ensures.items c.requires.missing c.requires.rows
