@@ -40,7 +40,9 @@ pub fn absent_text(alloc: Global, target: &Target) -> Result<Vec<u8>, AllocError
     ensures { IfOk result (λ v. v.items ≡ spec.absent_text target.now) }
 {
     let entry = absent_entry(alloc, target)?;
-    refusal_text(alloc, &entry)
+    let text = refusal_text(alloc, &entry);
+    drop(entry);
+    text
 }
 
 fn absent_entry(alloc: Global, target: &Target) -> Result<Entry, AllocError>

@@ -1,5 +1,5 @@
 -- How a command is replied to by the end of its job.
-use Rattle.std.proofs.Common.{ℕ, ◌≡◌, ◌∙◌, ◌+◌, ◌-◌, ◌≤◌, ◌<◌, ◌==◌, ◌++◌, ◌⊎◌, inl, inr, List, [], ◌∷◌, Bool, true, false, cond, eqb, Option, None, Some, Result, Ok, Err, IfOk, IfErr, option_map, length, suc, refl, sym, ap, subst, arith, append-nil, append_assoc, length-append, eqb-true, take, slice_get}
+use Rattle.std.proofs.Common.{ℕ, ◌≡◌, ◌∙◌, ◌+◌, ◌-◌, ◌≤◌, ◌<◌, ◌++◌, ◌⊎◌, inl, inr, List, [], ◌∷◌, Bool, true, false, cond, eqb, Option, None, Some, Result, Ok, Err, IfOk, IfErr, IfSome, length, refl, sym, ap, subst, arith, append-nil, append_assoc, length-append, eqb-true, take, slice_get}
 use mathlib.Core.List.{IsPrefix}
 use Rattle.std.proofs.Math.Seq.{take-length}
 use Rattle.std.proofs.lemmas.Bool.Decides.{nat_tests}
@@ -18,16 +18,17 @@ use Rattle.http_wire.specs.declared.reply.Reply.{Reply}
 use Rattle.sched_job.specs.Ledgers.{LedgerError}
 use Rattle.sched_job.specs.Ledgers.ledger_error as ledger_error
 use Rattle.turn_lock.specs.Known.{Known, entered, left}
-use Rattle.sched_job.specs.Going.{Worked, end_for, with_added}
+use Rattle.sched_job.specs.Going.{Worked}
 use Rattle.sched_job.specs.declared.run.JobEnd.TheVariants as job_end
 use Rattle.api_print.specs.Parts.{part_json}
 use Rattle.api_replies.specs.Answers.{Answer, answer_of, ended, json_after}
+use Rattle.api_server.specs.declared.once.Acted.{Acted}
 use Rattle.api_server.specs.declared.once.Acted.TheVariants as acted
 use Rattle.api_server.specs.declared.once.Ended.{Ended}
 use Rattle.api_server.specs.declared.task.Unreplied.{Unreplied}
 use Rattle.api_server.specs.declared.task.Unreplied.TheVariants as why
-use Rattle.api_server.specs.Once.{IsCaptured, IsMade, TookOnce, entry_of, event_of, unreplied}
-use Rattle.api_server.specs.Served.{IsCarried, IsEnd, IsEndReply, IsJob, IsPlaced, IsUncarried, Looked, run_for}
+use Rattle.api_server.specs.Once.{IsCaptured, IsMade, RepliesBy, RepliesFound, TookOnce, entry_of, event_of, unreplied}
+use Rattle.api_server.specs.Served.{IsEndReply, IsJob, IsPlaced, IsUncarried, Looked, run_for}
 use Rattle.api_server.proofs.Made.{Begins, BegunMore, Grows, NoneMore, Starts, prefix_length, run_made, worked_failed, worked_made}
 use Rattle.api_server.proofs.Single.{ends_once}
 
@@ -62,6 +63,14 @@ looked_same p free = record {
 
 -- ---- one turn
 
+attempts_once : (command : Command) → is_schedule command ≡ false → 0 < attempts_of command
+attempts_once (Apply x m) once = omega arith
+attempts_once (Invalid error) once = omega arith
+attempts_once (Delete t) once = omega arith
+attempts_once (Schedule pod attempts) once = absurd (cc)
+attempts_once (Release pod) once = omega arith
+attempts_once (Adopt claim status) once = omega arith
+
 module _ (begins : Begins) (more : BegunMore) (none : NoneMore) (starts : Starts) (grows : Grows) where
   worked_turn : (job budget number : ℕ) (command : Command) (old new : Known Entry) (found : List Entry) → 0 < attempts_of command → is_schedule command ≡ false → IsPrefix old.front found → new ≡ left (entered old found) new.front
       → IsMade found new.front job command → Worked (run_for job budget command old) old new (job_end.Ended (length found + 1))
@@ -87,7 +96,7 @@ module _ (begins : Begins) (more : BegunMore) (none : NoneMore) (starts : Starts
         answer_is = is ∙ ap (λ (n : ℕ). ended (state_of new.front) n x.entry) captured.place ∙ ap (ended (state_of new.front) (length new.front)) same;
       })
 
-  pub once_ended : (job budget number : ℕ) (command : Command) (old new : Known Entry) (x : Ended) (r : Result Reply Unreplied) → 0 < attempts_of command → is_schedule command ≡ false → TookOnce number old new job command (acted.Ended x)
+  once_ended : (job budget number : ℕ) (command : Command) (old new : Known Entry) (x : Ended) (r : Result Reply Unreplied) → 0 < attempts_of command → is_schedule command ≡ false → TookOnce number old new job command (acted.Ended x)
       → ((s : State) → part_json x.part ≡ json_after s x.entry.event → IfOk r (λ p. answer_of p ≡ ended s x.place x.entry)) → IfErr r (λ e. e ≡ why.Memory) → IsJob (run_for job budget command old) old new r
   once_ended job budget number command old new x (Ok p) some once took reply err = record {
     done = new;
@@ -104,7 +113,7 @@ module _ (begins : Begins) (more : BegunMore) (none : NoneMore) (starts : Starts
     looked = looked_same new (free_after old new took.found took.pass);
   }
 
-  pub once_made : (job budget number : ℕ) (command : Command) (old new : Known Entry) → 0 < attempts_of command → is_schedule command ≡ false → TookOnce number old new job command acted.Made → IsUncarried (run_for job budget command old) old new
+  once_made : (job budget number : ℕ) (command : Command) (old new : Known Entry) → 0 < attempts_of command → is_schedule command ≡ false → TookOnce number old new job command acted.Made → IsUncarried (run_for job budget command old) old new
   once_made job budget number command old new some once took = record {
     done = new;
     end = job_end.Ended (length took.found + 1);
@@ -112,7 +121,7 @@ module _ (begins : Begins) (more : BegunMore) (none : NoneMore) (starts : Starts
     looked = looked_same new (free_after old new took.found took.pass);
   }
 
-  pub once_failed : (job budget number : ℕ) (command : Command) (old new : Known Entry) (error : LedgerError) → new.number ≡ number → TookOnce number old new job command (acted.Failed error) → IsJob (run_for job budget command old) old new (Err (unreplied error))
+  once_failed : (job budget number : ℕ) (command : Command) (old new : Known Entry) (error : LedgerError) → new.number ≡ number → TookOnce number old new job command (acted.Failed error) → IsJob (run_for job budget command old) old new (Err (unreplied error))
   once_failed job budget number command old new (ledger_error.Full n) same took = worked_failed begins more none starts job budget number command old new took.found (ledger_error.Full n) same took.begins took.pass took.did
   once_failed job budget number command old new ledger_error.Memory same took = record {
     done = new;
@@ -121,13 +130,13 @@ module _ (begins : Begins) (more : BegunMore) (none : NoneMore) (starts : Starts
     looked = looked_same new (free_after old new took.found took.pass);
   }
 
-pub attempts_once : (command : Command) → is_schedule command ≡ false → 0 < attempts_of command
-attempts_once (Apply x m) once = omega arith
-attempts_once (Invalid error) once = omega arith
-attempts_once (Delete t) once = omega arith
-attempts_once (Schedule pod attempts) once = absurd (cc)
-attempts_once (Release pod) once = omega arith
-attempts_once (Adopt claim status) once = omega arith
+  pub once_done : (job budget number : ℕ) (command : Command) (old new : Known Entry) (a : Acted) (r : Result Reply Unreplied) → is_schedule command ≡ false → new.number ≡ number → TookOnce number old new job command a → RepliesBy a r
+      → IsJob (run_for job budget command old) old new r
+  once_done job budget number command old new (acted.Ended x) r once same took replied = once_ended job budget number command old new x r (attempts_once command once) once took replied.0 replied.1
+  once_done job budget number command old new acted.Made r once same took replied =
+      subst (λ (q : Result Reply Unreplied). IsJob (run_for job budget command old) old new q) (sym replied) (once_made job budget number command old new (attempts_once command once) once took)
+  once_done job budget number command old new (acted.Failed error) r once same took replied =
+      subst (λ (q : Result Reply Unreplied). IsJob (run_for job budget command old) old new q) (sym replied) (once_failed job budget number command old new error same took)
 
 -- ---- a job that has ended
 
@@ -212,8 +221,12 @@ job_ended starts grows c old done new index (Err why.Memory) worked placed = rec
 pub job_unended : (c : Run) (old new : Known Entry) → new.turn ≡ None → Worked c old new job_end.Memory → IsUncarried c old new
 job_unended c old new free worked = record { done = new; end = job_end.Memory; worked = worked; looked = looked_same new free }
 
-pub placed_found : (old new : Known Entry) (place : ℕ) (entry : Entry) (r : Result Reply Unreplied) → Looked old new → entry_at new.front place ≡ Some entry
+placed_entry : (old new : Known Entry) (place : ℕ) (entry : Entry) (r : Result Reply Unreplied) → Looked old new → entry_at new.front place ≡ Some entry
     → IfOk r (λ p. (s : State) → answer_of p ≡ ended s place entry) → IfErr r (λ e. e ≡ why.Memory) → IsPlaced old new place r
-placed_found old new place entry (Ok p) looked at reply err = record { looked = looked; entry = entry; at = at; answer_is = reply }
-placed_found old new place entry (Err (why.Full n)) looked at reply err = absurd (cc)
-placed_found old new place entry (Err why.Memory) looked at reply err = looked
+placed_entry old new place entry (Ok p) looked at reply err = record { looked = looked; entry = entry; at = at; answer_is = reply }
+placed_entry old new place entry (Err (why.Full n)) looked at reply err = absurd (cc)
+placed_entry old new place entry (Err why.Memory) looked at reply err = looked
+
+pub placed_found : (old new : Known Entry) (place : ℕ) (found : Option Entry) (r : Result Reply Unreplied) → Looked old new → IfSome found (λ e. entry_at new.front place ≡ Some e) → RepliesFound found place r → IsPlaced old new place r
+placed_found old new place (Some entry) r looked at replied = placed_entry old new place entry r looked at replied.0 replied.1
+placed_found old new place None r looked at replied = subst (λ (q : Result Reply Unreplied). IsPlaced old new place q) (sym replied) looked

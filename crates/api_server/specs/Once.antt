@@ -1,5 +1,5 @@
 -- A command whose job has one entry.
-use Rattle.std.specs.Prelude.{ℕ, ◌≡◌, ◌≤◌, Bool, true, false, List, [], ◌∷◌, ◌++◌, Option, Some, None, length}
+use Rattle.std.specs.Prelude.{ℕ, ◌≡◌, ◌≤◌, Bool, true, false, List, [], ◌∷◌, ◌++◌, Option, Some, None, Result, Err, IfOk, IfErr, length}
 use mathlib.Core.List.{IsPrefix}
 use Rattle.cluster.specs.declared.entry.Command.TheVariants as asked
 use Rattle.cluster.specs.declared.entry.Entry.{Entry}
@@ -19,8 +19,9 @@ use Rattle.sched_job.specs.Ledgers.{History}
 use Rattle.sched_job.specs.Ledgers.{LedgerError}
 use Rattle.sched_job.specs.Ledgers.ledger_error as ledger_error
 use Rattle.turn_lock.specs.Known.{Known, entered, left}
+use Rattle.http_wire.specs.declared.reply.Reply.{Reply}
 use Rattle.api_print.specs.Parts.{part_json}
-use Rattle.api_replies.specs.Answers.{json_after}
+use Rattle.api_replies.specs.Answers.{answer_of, ended, json_after}
 use Rattle.api_server.specs.declared.task.Unreplied.{Unreplied}
 use Rattle.api_server.specs.declared.task.Unreplied.TheVariants as why
 use Rattle.api_server.specs.declared.once.Acted.{Acted}
@@ -82,6 +83,17 @@ pub record TookOnce (number : ℕ) (old new : Known Entry) (job : ℕ) (command 
 abbrev pub unreplied : LedgerError → Unreplied
 unreplied (ledger_error.Full n) = why.Full n
 unreplied ledger_error.Memory = why.Memory
+
+-- the reply by what a turn did, or why there is none
+abbrev pub RepliesBy : Acted → Result Reply Unreplied → Type 0
+RepliesBy (acted.Ended x) r = ((s : State) → part_json x.part ≡ json_after s x.entry.event → IfOk r (λ p. answer_of p ≡ ended s x.place x.entry)) × IfErr r (λ e. e ≡ why.Memory)
+RepliesBy acted.Made r = r ≡ Err why.Memory
+RepliesBy (acted.Failed error) r = r ≡ Err (unreplied error)
+
+-- the reply by an entry that was looked up at an index, which doesn't depend on the state
+abbrev pub RepliesFound : Option Entry → ℕ → Result Reply Unreplied → Type 0
+RepliesFound (Some e) place r = IfOk r (λ p. (s : State) → answer_of p ≡ ended s place e) × IfErr r (λ e. e ≡ why.Memory)
+RepliesFound None place r = r ≡ Err why.Memory
 
 -- the reply by the event depends on the state
 abbrev pub needs_state : Event → Bool

@@ -4,7 +4,7 @@ ghost use Rattle.turn_lock.specs.Known.{IsFree, IsOf};
 ghost use Rattle.cluster.specs.declared.state.State.{State};
 ghost use Rattle.api_print.specs.Parts.{part_json};
 ghost use Rattle.api_replies.specs.Answers.{answer_of, ended, json_after};
-ghost use Rattle.api_server.specs.Once.{needs_state, unreplied};
+ghost use Rattle.api_server.specs.Once.{RepliesBy, RepliesFound, needs_state, unreplied};
 ghost use Rattle.api_server.specs.Served.{IsJob, IsPlaced, run_for};
 
 use crate::look::look_at;
@@ -43,6 +43,17 @@ fn reply_to(alloc: Global, last: &Ended) -> Result<Reply, Unreplied>
     }
 }
 
+/// The reply by what a turn did, or why there is none.
+fn reply_by(alloc: Global, acted: &Acted) -> Result<Reply, Unreplied>
+    ensures { RepliesBy acted.now result }
+{
+    match acted {
+        Acted::Ended(last) => reply_to(alloc, last),
+        Acted::Made => Err(Unreplied::Memory),
+        Acted::Failed(error) => Err(unreplied(*error)),
+    }
+}
+
 /// Carries out a command whose job has one entry.
 pub fn run_once<R: Wait>(
     rt: &R,
@@ -61,11 +72,10 @@ pub fn run_once<R: Wait>(
 {
     runs_go_past();
     histories_grow();
-    match take_turn(rt, alloc, lock, pass, job, command) {
-        Acted::Ended(last) => reply_to(alloc, &last),
-        Acted::Made => Err(Unreplied::Memory),
-        Acted::Failed(error) => Err(unreplied(error)),
-    }
+    let acted = take_turn(rt, alloc, lock, pass, job, command);
+    let replied = reply_by(alloc, &acted);
+    drop(acted);
+    replied
 }
 
 /// Whether a reply by an event depends on the state.
@@ -130,13 +140,23 @@ fn reply_at<R: Wait>(
     ensures free { IsFree pass.new }
     ensures placed { IsPlaced pass.old pass.new place result }
 {
-    match look_at(rt, alloc, lock, pass, place) {
-        Ok(Some(entry)) => reply_found(alloc, &entry, place),
-        _ => Err(Unreplied::Memory),
+    let found = look_at(rt, alloc, lock, pass, place);
+    let replied = reply_found(alloc, &found, place);
+    drop(found);
+    replied
+}
+
+/// The reply by an entry that was looked up, if there is one and the reply doesn't depend on the state.
+fn reply_found(alloc: Global, found: &Option<Entry>, place: u64) -> Result<Reply, Unreplied>
+    ensures { RepliesFound found.now place result }
+{
+    match found {
+        Some(entry) => reply_entry(alloc, entry, place),
+        None => Err(Unreplied::Memory),
     }
 }
 
-fn reply_found(alloc: Global, entry: &Entry, place: u64) -> Result<Reply, Unreplied>
+fn reply_entry(alloc: Global, entry: &Entry, place: u64) -> Result<Reply, Unreplied>
     ensures reply { IfOk result (λ r. (s : State) → answer_of r ≡ ended s place entry.now) }
     ensures err { IfErr result (λ e. e ≡ Unreplied.Memory) }
 {

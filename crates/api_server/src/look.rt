@@ -1,4 +1,4 @@
-ghost use Rattle.std.specs.Prelude.{◌≡◌, IfOk, length};
+ghost use Rattle.std.specs.Prelude.{◌≡◌, Some, IfOk, IfSome, length};
 ghost use Rattle.cluster.specs.History.{entry_at, state_of};
 ghost use Rattle.turn_lock.specs.Known.{IsFree, IsOf};
 ghost use Rattle.api_print.specs.Objects.{json_of};
@@ -98,20 +98,20 @@ fn see_object(alloc: Global, ledger: &Ledger, target: &Target) -> Result<Part, A
     part_of(alloc, target, ledger.state())
 }
 
-/// The entry at an index in one turn of the lock.
+/// The entry at an index, if there is one, in one turn of the lock. `None` also if memory runs out.
 pub fn look_at<R: Wait>(
     rt: &R,
     alloc: Global,
     lock: &TurnLock<Ledger>,
     pass: &mut Pass<Ledger>,
     place: u64,
-) -> Result<Option<Entry>, AllocError>
+) -> Option<Entry>
     requires of { IsOf lock.now pass.old }
     requires free { IsFree pass.old }
     ensures of { IsOf lock.now pass.new }
     ensures free { IsFree pass.new }
     ensures looked { Looked pass.old pass.new }
-    ensures entry { IfOk result (λ o. o ≡ entry_at pass.new.front place) }
+    ensures entry { IfSome result (λ e. entry_at pass.new.front place ≡ Some e) }
 {
     let mut turn = lock.enter(rt, pass);
     let found = find(alloc, turn.state(), place);
@@ -119,11 +119,12 @@ pub fn look_at<R: Wait>(
     found
 }
 
-fn find(alloc: Global, ledger: &Ledger, place: u64) -> Result<Option<Entry>, AllocError>
-    ensures { IfOk result (λ o. o ≡ entry_at ledger.now.entries place) }
+fn find(alloc: Global, ledger: &Ledger, place: u64) -> Option<Entry>
+    ensures { IfSome result (λ e. entry_at ledger.now.entries place ≡ Some e) }
 {
-    match ledger.entry(place) {
-        Some(entry) => Ok(Some(copy_entry(alloc, entry)?)),
-        None => Ok(None),
+    let entry = ledger.entry(place)?;
+    match copy_entry(alloc, entry) {
+        Ok(copy) => Some(copy),
+        Err(_) => None,
     }
 }

@@ -65,13 +65,20 @@ fn capture(alloc: Global, ledger: &Ledger) -> Result<Option<Ended>, AllocError>
     ensures { IfOk result (λ o. Captures ledger.now.entries o) }
 {
     let place = ledger.len();
-    match ledger.entry(place) {
-        Some(entry) => Ok(Some(Ended {
+    let Some(entry) = ledger.entry(place) else {
+        return Ok(None);
+    };
+    let copied = copy_entry(alloc, entry)?;
+    match part_after(alloc, &entry.event, ledger.state()) {
+        Ok(part) => Ok(Some(Ended {
             place,
-            entry: copy_entry(alloc, entry)?,
-            part: part_after(alloc, &entry.event, ledger.state())?,
+            entry: copied,
+            part,
         })),
-        None => Ok(None),
+        Err(error) => {
+            drop(copied);
+            Err(error)
+        }
     }
 }
 
