@@ -1,5 +1,6 @@
 -- Entries in the order of their keys, changed at the index that a search found.
-use Rattle.std.proofs.Common.{ℕ, zero, suc, ◌≡◌, ◌∙◌, ◌<◌, ◌≤◌, ◌+◌, List, [], ◌∷◌, Bool, true, false, cond, Option, Some, None, refl, ap, sym, length, take, drop, arith}
+use Rattle.std.proofs.Common.{ℕ, zero, suc, ◌≡◌, ◌∙◌, ◌<◌, ◌≤◌, ◌+◌, ◌/◌, List, [], ◌∷◌, ◌++◌, Bool, true, false, cond, Option, Some, None, refl, ap, sym, length, take, drop, arith}
+use Rattle.std.proofs.lemmas.List.{take-append-drop, length-take, length-drop}
 use Rattle.std.proofs.lemmas.Option.{none-some}
 use Rattle.std.proofs.Math.ListN.{get_or, set}
 use Rattle.std.specs.BTreeMap.{insert_entry, is_at}
@@ -155,3 +156,14 @@ unfolding IsStrictlySortedBy
 sorted_remove_entry R test [] s = tt
 sorted_remove_entry R test (e ∷ es) s =
     sorted_remove_by R (test e.0) e es (remove_entry test es) s (keys_remove_entry (λ y. R e.0 y ≡ Less) test es s.0) (sorted_remove_entry R test es s.1)
+
+-- a list of two or more that is cut in halves
+
+pub halves_same : {X : Type 0} (old es lower upper : List X) (n : ℕ) → lower ≡ take n es → upper ≡ drop n es → es ≡ old → lower ++ upper ≡ old
+halves_same old es lower upper n l u e = rw (l, u) (take-append-drop n es) ∙ e
+
+pub lower_some : {X : Type 0} (old es lower : List X) (n : ℕ) → lower ≡ take (n / 2) es → n ≡ length es → es ≡ old → 2 ≤ length old → 0 < length lower
+lower_some old es lower n l m e h = omega (arith, ap length l, length-take (n / 2) es, ap length e, m, h)
+
+pub upper_some : {X : Type 0} (old es upper : List X) (n : ℕ) → upper ≡ drop (n / 2) es → n ≡ length es → es ≡ old → 2 ≤ length old → 0 < length upper
+upper_some old es upper n u m e h = omega (arith, ap length u, length-drop (n / 2) es, ap length e, m, h)

@@ -90,6 +90,11 @@ pub below_chunk : {K V : Type 0} (R : K → K → Ordering) → IsTotalOrder R �
 below_chunk R o k cs i a h b =
     begins_not R o k (joined (take i cs)) (get_or cs i []) (joined (drop (i + 1) cs)) (rw (around cs i h) at a.in_order) (all_at (λ c. 0 < length c) cs i [] h a.none_empty) b
 
+pub set_here : {X : Type 0} (xs : List X) (i : ℕ) (x : X) → x ≡ get_or xs i x → set xs i x ≡ xs
+set_here [] i x e = refl
+set_here (y ∷ xs) zero x e = ap (λ z. z ∷ xs) e
+set_here (y ∷ xs) (suc i) x e = ap (λ t. y ∷ t) (set_here xs i x e)
+
 pub all_remove_set : {X : Type 0} (P : X → Type 0) (xs : List X) (i : ℕ) (x : X) → AllByRecursion P xs → AllByRecursion P (remove (set xs i x) i)
 all_remove_set P [] zero x a = tt
 all_remove_set P [] (suc i) x a = tt

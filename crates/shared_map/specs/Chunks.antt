@@ -1,5 +1,5 @@
 -- Entries in the order of their keys, kept as a list of chunks.
-use Rattle.std.specs.Prelude.{ℕ, zero, suc, ◌≡◌, ◌+◌, ◌<◌, ◌≤◌, List, [], ◌∷◌, ◌++◌, length, take, drop, slice_index_or, Bool, false}
+use Rattle.std.specs.Prelude.{ℕ, zero, suc, ◌≡◌, ◌+◌, ◌<◌, ◌≤◌, List, [], ◌∷◌, ◌++◌, length, take, drop, slice_get, slice_index_or, Bool, false, Some}
 use Rattle.std.specs.List.{AllByRecursion}
 use Rattle.std.specs.List.Sorted.{IsStrictlySortedBy}
 use Rattle.std.specs.Map.{keys_of}
@@ -19,6 +19,11 @@ AreBelow cmp k es = AllByRecursion (λ e. cmp k e.0 ≡ Greater) es
 -- each entry's key is above k
 abbrev pub AreAbove : {K V : Type 0} → (K → K → Ordering) → K → List (K × V) → Type 0
 AreAbove cmp k es = AllByRecursion (λ e. cmp k e.0 ≡ Less) es
+
+-- the key with the value is one of the entries
+pub record IsEntry {K V : Type 0} (es : List (K × V)) (k : K) (v : V) : Type 0 where
+  pub index : ℕ
+  pub there : slice_get es index ≡ Some (k, v)
 
 -- what a list of chunks keeps: over all of them the keys strictly increase, and no chunk is empty
 pub record AreChunks {K V : Type 0} (cmp : K → K → Ordering) (chunks : List (List (K × V))) : Type 0 where
@@ -43,11 +48,6 @@ pub record IsChunkOf {K V : Type 0} (cmp : K → K → Ordering) (k : K) (chunks
   pub within : at < length chunks
   pub below : AreBelow cmp k (joined (take at chunks))
   pub above : AreAbove cmp k (joined (drop (at + 1) chunks))
-
--- the entry of k is that at the index j of the chunk at the index i
-pub record IsPlace {K V : Type 0} (cmp : K → K → Ordering) (k : K) (chunks : List (List (K × V))) (i j : ℕ) : Type 0 where
-  pub chunk : IsChunkOf cmp k chunks i
-  pub hit : IsHit cmp k (slice_index_or chunks i []) j
 
 -- whether the first key is above k
 abbrev pub begins_above : {K V : Type 0} → (K → K → Ordering) → K → List (K × V) → Bool

@@ -1,10 +1,11 @@
-ghost use Rattle.std.specs.Prelude.{◌≡◌, ◌+◌, ◌<◌, ◌≤◌, [], length, take, drop, slice_index_or, IfOk, IfErr, OnOk, OnErr, if◌then◌else◌};
-ghost use Rattle.std.specs.BTreeMap.{insert_entry};
-ghost use Rattle.std.specs.List.{remove};
+ghost use Rattle.std.specs.Prelude.{◌≡◌, ◌+◌, ◌<◌, ◌≤◌, ◌++◌, ◌==◌, [], length, slice_index_or, IfOk, IfErr, IfSome, IsErrOf, OnOk, OnErr, Some, None, option_map, if◌then◌else◌};
+ghost use Rattle.std.specs.BTreeMap.{insert_entry, is_at};
 ghost use Rattle.std.specs.List.Sorted.{IsStrictlySortedBy};
-ghost use Rattle.std.specs.Map.{keys_of};
-ghost use Rattle.shared_map.specs.Chunks.{IsGap, IsHit};
+ghost use Rattle.std.specs.Map.{keys_of, lookup, lookup_entry, remove_entry};
+ghost use Rattle.shared_map.specs.Chunks.{IsEntry, IsGap, IsHit, begins_above};
+ghost use Rattle.shared_map.specs.declared.error.NoValue.TheVariants.{Missing};
 
+use crate::NoValue;
 use dra_values::Duplicate;
 use std::alloc::{AllocError, Global};
 use std::cmp::Ordering;
@@ -12,7 +13,7 @@ use std::marker::Model;
 
 /// Entries of a map that lie together, in strictly increasing order of their keys.
 #[derive(Drop)]
-pub struct Chunk<K: Ord, V> {
+pub(crate) struct Chunk<K: Ord, V> {
     entries: Vec<(K, V)>,
 }
 
@@ -30,13 +31,30 @@ impl<K: Ord, V> Model for Chunk<K, V> {
 
 impl<K: Ord, V> Chunk<K, V> {
     ghost use Rattle.std.specs.Borrow.{sem};
-    ghost use Rattle.shared_map.specs.Lent.{LendsAt};
+    ghost use Rattle.shared_map.specs.Lent.{LendsAt, LendsInChunk};
 
     /// The entries, first to last.
-    pub fn entries(&self) -> &[(K, V)]
+    pub(crate) fn entries(&self) -> &[(K, V)]
         ensures { result.now ≡ self.now }
     {
         &self.entries
+    }
+
+    /// Whether there are no entries.
+    pub(crate) fn is_empty(&self) -> bool
+        ensures { result ≡ (length self.now == 0) }
+    {
+        self.entries.is_empty()
+    }
+
+    /// Whether the first entry has a key above a key.
+    pub(crate) fn begins_above(&self, key: &K) -> bool
+        ensures { result ≡ begins_above K.cmp key.now self.now }
+    {
+        match self.entries.first() {
+            Some(entry) => key.cmp(&entry.0).is_lt(),
+            None => false,
+        }
     }
 
     /// The chunk of no entries. Allocates nothing until the first entry.
@@ -49,15 +67,44 @@ impl<K: Ord, V> Chunk<K, V> {
     }
 
     /// The index of a key's entry, or, if it has none, the index at which it would be.
-    pub(crate) fn find(&self, key: &K) -> Result<usize, usize>
+    fn find(&self, key: &K) -> Result<usize, usize>
         ensures hit { IfOk result (λ at. IsHit K.cmp key.now self.now at) }
         ensures gap { IfErr result (λ at. IsGap K.cmp key.now self.now at) }
     {
         find_entry(&self.entries, key)
     }
 
+    /// The entry of a key, or `None` if it has none.
+    pub(crate) fn get_key_value(&self, key: &K) -> Option<(&K, &V)>
+        ensures { option_map (λ e. (e.0.now, e.1.now)) result ≡ lookup_entry (is_at (K.cmp key.now)) self.now }
+    {
+        match self.find(key) {
+            Ok(at) => {
+                let entry = &self.entries[at];
+                Some((&entry.0, &entry.1))
+            }
+            Err(_) => None,
+        }
+    }
+
+    /// The entry at an index, or `None` if there is none.
+    pub(crate) fn at(&self, entry: usize) -> Option<(&K, &V)>
+        ensures { IfSome result (λ e. IsEntry self.now e.0.now e.1.now) }
+    {
+        let entry = self.entries.get(entry)?;
+        Some((&entry.0, &entry.1))
+    }
+
+    /// The index of a key's entry, or, if it has none, the index at which it would be.
+    pub(crate) fn place(&self, key: &K) -> usize {
+        match self.find(key) {
+            Ok(at) => at,
+            Err(at) => at,
+        }
+    }
+
     /// The value of the entry at an index, to be changed.
-    pub(crate) fn value_mut(&mut self, at: usize) -> &mut V
+    fn value_mut(&mut self, at: usize) -> &mut V
         requires { at < length self.old }
         ensures* writes_back { sem 𝓛 (LendsAt K.row V.row K.Ord self.entry at result) }
         ensures value { (d : K × V) → (slice_index_or self.old at d).1 ≡ result.now }
@@ -66,32 +113,38 @@ impl<K: Ord, V> Chunk<K, V> {
         &mut entry.1
     }
 
-    /// Takes out the entry at an index, and returns its value.
-    pub(crate) fn remove(&mut self, at: usize) -> (K, V)
-        requires { at < length self.old }
-        ensures entry { (d : K × V) → slice_index_or self.old at d ≡ result }
-        ensures rest { self.new ≡ remove self.old at }
+    /// The value at a key, to be changed. Returns `Missing` only if the key has no entry, and then the
+    /// entries are unchanged.
+    pub(crate) fn get_mut(&mut self, key: &K) -> Result<&mut V, NoValue>
+        ensures* writes_back { sem 𝓛 (LendsInChunk K.row V.row K.Ord self.entry key.now result) }
+        ensures value { IfOk result (λ lent. lookup (is_at (K.cmp key.now)) self.old ≡ Some lent.now) }
+        ensures missing { IsErrOf result Missing → (lookup (is_at (K.cmp key.now)) self.old ≡ None) }
     {
-        self.entries.remove(at)
+        match self.find(key) {
+            Ok(at) => Ok(self.value_mut(at)),
+            Err(_) => Err(NoValue::Missing),
+        }
     }
 
-    /// Cuts off the entries from an index on, as a chunk of their own. Returns `AllocError` only if out of
-    /// memory, and then the entries are unchanged.
-    pub(crate) fn split_off(&mut self, at: usize) -> Result<Chunk<K, V>, AllocError>
-        requires { at ≤ length self.old }
-        ensures lower { OnOk result (self.new ≡ take at self.old) }
-        ensures upper { IfOk result (λ upper. upper ≡ drop at self.old) }
+    /// Cuts off the upper half of the entries, as a chunk of their own. Returns `AllocError` only if out
+    /// of memory, and then the entries are unchanged.
+    pub(crate) fn split_off(&mut self) -> Result<Chunk<K, V>, AllocError>
+        requires { 2 ≤ length self.old }
+        ensures same { IfOk result (λ upper. self.new ++ upper ≡ self.old) }
+        ensures lower { OnOk result (0 < length self.new) }
+        ensures upper { IfOk result (λ upper. 0 < length upper) }
         ensures err { OnErr result (self.new ≡ self.old) }
     {
+        let half = self.entries.len() / 2;
         Ok(Chunk {
-            entries: self.entries.split_off(at)?,
+            entries: self.entries.split_off(half)?,
         })
     }
 }
 
 impl<K: Ord + Drop, V: Drop> Chunk<K, V> {
-    /// Puts a value at a key, and returns whether the key is new. Returns `AllocError` only if out of memory, and then the
-    /// entries are unchanged.
+    /// Puts a value at a key, and returns whether the key is new. Returns `AllocError` only if out of
+    /// memory, and then the entries are unchanged.
     pub(crate) fn insert(&mut self, key: K, value: V) -> Result<bool, AllocError>
         ensures ok { OnOk result (self.new ≡ insert_entry K.cmp self.old key value) }
         ensures count { IfOk result (λ is_new. length self.new ≡ (if is_new then length self.old + 1 else length self.old)) }
@@ -106,6 +159,20 @@ impl<K: Ord + Drop, V: Drop> Chunk<K, V> {
                 self.entries.insert(at, (key, value))?;
                 Ok(true)
             }
+        }
+    }
+
+    /// Removes the entry of a key, and returns its value, or `None` if the key has no entry.
+    pub(crate) fn remove(&mut self, key: &K) -> Option<V>
+        ensures value { result ≡ lookup (is_at (K.cmp key.now)) self.old }
+        ensures rest { self.new ≡ remove_entry (is_at (K.cmp key.now)) self.old }
+    {
+        match self.find(key) {
+            Ok(at) => {
+                let (_key, value) = self.entries.remove(at);
+                Some(value)
+            }
+            Err(_) => None,
         }
     }
 }

@@ -1,0 +1,5 @@
+use Rattle.shared_map.proofs.Placing.{no_chunks}
+use Rattle.shared_map.proofs.groups.Groups.new.Goals as goal
+
+pub invariant_of-result : goal.invariant_of-result
+invariant_of-result g c = no_chunks g.K.Ord.cmp c.new.result.items c.new.ensures.items
