@@ -7,7 +7,7 @@ use Rattle.turn_lock.specs.Known.{IsFree, IsOf, Known, Opened}
 use Rattle.api_server.specs.declared.share_end.ShareEnd.{ShareEnd}
 use Rattle.api_server.specs.Talks.{AtDoor, Talk, Terms}
 use Rattle.api_server.specs.Parts.{AllDid, Part, added_of, talks_of}
-use Rattle.api_server.specs.Passes.{AllBegin, AreFree, AreFresh, owns, shares}
+use Rattle.sched_job.specs.Passes.{AllBegin, AreFree, AreFresh, owns, shares}
 use Rattle.api_server.specs.Together.{AreOpened, AreShifts, flat_talks}
 use Rattle.api_server.specs.Workers.{Gives, Hired, Needs, hired_lists}
 use Rattle.api_server.proofs.Chaining.{Makes, prefix_trans}

@@ -25,7 +25,6 @@ pub mod Laning
 pub mod Gathering
 pub mod Numbers
 pub mod Parting
-pub mod Passing
 pub mod Printed
 pub mod Sending
 pub mod Shifts

@@ -9,14 +9,14 @@ use Rattle.api_server.specs.declared.share_end.ShareEnd.{ShareEnd}
 use Rattle.api_server.specs.declared.share_end.ShareEnd.TheVariants as share_end
 use Rattle.api_server.specs.Talks.{AtDoor, Talk, Terms}
 use Rattle.api_server.specs.Parts.{talks_of}
-use Rattle.api_server.specs.Passes.{AllBegin, AreFree, AreFresh, Joined, owns, shares}
+use Rattle.sched_job.specs.Passes.{AllBegin, AreFree, AreFresh, Joined, owns, shares}
 use Rattle.api_server.specs.Together.{AreShifts, DidAll, Worked, flat_talks, worst}
 use Rattle.api_server.specs.Workers.{Hired, IsShift, hired_lists}
 use Rattle.api_server.specs.declared.serve_end.ServeEnd.{ServeEnd}
 use Rattle.api_server.specs.declared.serve_end.ServeEnd.TheVariants as end
 use Rattle.api_server.proofs.Chaining.{Makes}
 use Rattle.api_server.proofs.Laning.{LanesDid, gives_by, head_is, lanes_did, needs_by, one_job, some_none, tail_is}
-use Rattle.api_server.proofs.Passing.{fresh_begins, fresh_free, fresh_owns}
+use Rattle.sched_job.proofs.Passing.{fresh_begins, fresh_free, fresh_owns}
 
 -- no worker was begun
 abbrev idle_talks : List AtDoor → List (List Talk)

@@ -8,7 +8,6 @@ pub mod Served
 pub mod Requests
 pub mod Ledgers
 pub mod Parts
-pub mod Passes
 pub mod Printing
 pub mod Serving
 pub mod Together

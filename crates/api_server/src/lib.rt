@@ -19,7 +19,6 @@ mod laws;
 mod look;
 mod once;
 mod options;
-mod passes;
 mod printing;
 mod request;
 mod serve_end;

@@ -24,6 +24,7 @@ pub use alone::run_alone;
 pub use complete::schedules_are_complete;
 pub use laws::{alone_is_undisturbed, runs_go_on, turns_are_few, turns_move_on};
 pub use ledger_core::{Done, Ledger, LedgerError};
+pub use passes::{join_all, split_all};
 pub use past::runs_go_past;
 pub use run::{JobEnd, run_job};
 pub use steps::run_steps;
