@@ -21,3 +21,4 @@ pub mod Settling
 pub mod Numbers
 pub mod Printed
 pub mod Ends
+pub mod Empty

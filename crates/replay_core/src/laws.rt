@@ -1,4 +1,5 @@
-ghost use Rattle.std.specs.Prelude.{◌≡◌, ◌+◌, ◌++◌, ◌∷◌, ◌⊎◌, ℕ, List, Option, Some, length};
+ghost use Rattle.std.specs.Prelude.{◌≡◌, ◌+◌, ◌++◌, ◌∷◌, ◌⊎◌, ℕ, List, [], Option, Some, length};
+ghost use Rattle.dra_ports.specs.DiskContent.{Content};
 ghost use Rattle.object_fields.specs.declared.key.Key.{Key};
 ghost use Rattle.cluster.specs.declared.plan.Plan.{Plan};
 ghost use Rattle.cluster.specs.declared.plan.Verdict.{Verdict};
@@ -76,6 +77,16 @@ pub fn endings_have_causes()
         Ends options (Some bytes) left_now before after found now s → IsFaultless s → HasNoRoom options bytes → MayOpen options bytes found.content → (s ≡ status.Limit options.entries) ⊎ (s ≡ status.Memory) }
     ensures checkpoint { (options : ReplayOptions) (bytes : List ℕ) (left_now before after : Option (List ℕ)) (found now : Node) (s : Status) (at : ℕ) →
         Ends options (Some bytes) left_now before after found now s → IsFaultless s → FindsNone options bytes at found.content → (ReachesFirst options bytes → ⊥) → (s ≡ status.Checkpoint at) ⊎ (s ≡ status.Memory) }
+{}
+
+/// An input without bytes asks for nothing: it can't reach the limit of a history, needs no disk, and is at its end.
+///
+/// So by the first clause of `endings_have_causes` its replay ends with `Done`, unless an error ends it or memory runs out,
+/// and what is said of a replay refuses each other status that is returned at once.
+pub fn empty_inputs_are_done()
+    ensures within { (options : ReplayOptions) → ReachesLimit options [] → ⊥ }
+    ensures opens { (options : ReplayOptions) (disk : Option Content) → MayOpen options [] disk }
+    ensures done { (attempts : ℕ) (s : Status) → EndsBy (script_of attempts []).ending s → s ≡ status.Done }
 {}
 
 /// Which jobs are ended in the history of a replay.

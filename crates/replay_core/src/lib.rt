@@ -14,8 +14,8 @@ mod work;
 
 pub use decided::{runs_are_numbered, texts_determine_runs};
 pub use laws::{
-    endings_have_causes, runs_are_complete, runs_end_their_jobs, runs_search_within,
-    single_commands_are_undisturbed,
+    empty_inputs_are_done, endings_have_causes, runs_are_complete, runs_end_their_jobs,
+    runs_search_within, single_commands_are_undisturbed,
 };
 pub use options::ReplayOptions;
 pub use script::replay;
