@@ -9,6 +9,8 @@ deletes    SIZE Deletes of pods that aren't there
 verdicts   1,024 nodes of one device, each held, and SIZE pods for which no node has one
 updates    64 nodes of 8 devices, and SIZE pods, with an update of a slice before each
 shared     one claim, and SIZE pods that use it
+waiting    512 nodes of 8 devices, and SIZE pods with a claim each, none of them scheduled
+together   the same, and then 200 times 64 of the pods scheduled at once, and released at once
 """
 
 import json
@@ -116,6 +118,22 @@ def shared(pods):
         yield command("Schedule", i)
 
 
+def waiting(pods):
+    yield from cluster(512, 8)
+    for i in range(pods):
+        yield claim(i)
+        yield pod(i, i)
+
+
+def together(pods):
+    yield from waiting(pods)
+    for step in range(200):
+        first = 64 * (step % 48)
+        for kind in ("Schedule", "Release"):
+            members = [command(kind, i) for i in range(first, first + 64)]
+            yield {"apiVersion": "dra.replay/v1", "kind": "Together", "commands": members}
+
+
 WORKS = {
     "plain": (plain, 256),
     "mixed": (mixed, 256),
@@ -124,6 +142,8 @@ WORKS = {
     "verdicts": (verdicts, 1000),
     "updates": (updates, 400),
     "shared": (shared, 200),
+    "waiting": (waiting, 10000),
+    "together": (together, 10000),
 }
 
 
