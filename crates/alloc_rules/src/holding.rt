@@ -55,7 +55,7 @@ fn hold(
 pub fn held(alloc: Global, holders: &Held, dues: &[Due]) -> Result<Option<Failure>, AllocError>
     ensures { (w : SearchInput) (pairs : List (DeviceId × Key)) → AreHeld holders.now pairs → IfOk result (λ found. found ≡ spec.held pairs (map (due_seen w) dues.now)) }
 {
-    let mut own = Held::new(alloc);
+    let mut own = Held::new(alloc)?;
     for due in dues {
         if let Some(found) = hold(alloc, holders, &mut own, due)? {
             return Ok(Some(found));

@@ -6,9 +6,9 @@ use crate::metadata::{key_metadata, object};
 use crate::spec::claim_spec;
 use crate::status::some_status;
 use cluster::{ClaimState, PodState};
-use dra_values::Table;
 use object_fields::Key;
 use serde_json::Value;
+use shared_map::SharedMap;
 use std::alloc::{AllocError, Global};
 
 /// A claim: its metadata, its spec, and a status if its grant is published, with the written users
@@ -16,7 +16,7 @@ use std::alloc::{AllocError, Global};
 #[tactic(auto, unfolding(crate::specs::Status::claim_json))]
 pub fn claim_value(
     alloc: Global,
-    pods: &Table<Key, PodState>,
+    pods: &SharedMap<Key, PodState>,
     state: &ClaimState,
 ) -> Result<Value, AllocError>
     ensures { IfOk result (λ v. view v ≡ claim_json pods.now state.now) }

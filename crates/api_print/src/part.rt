@@ -7,10 +7,11 @@ ghost use Rattle.api_print.specs.Parts.{part_json, with_pod, with_user, with_use
 use api_cluster::{Node, Pod};
 use api_slice::ResourceSlice;
 use cluster::{ClaimState, PodState, State, Target, Use, Users};
-use dra_values::{Duplicate, Shared, Table, Text};
+use dra_values::{Duplicate, Shared, Text};
 use object_fields::Key;
 use pool_view::Stored;
 use ready_objects::ReadyClass;
+use shared_map::SharedMap;
 use std::alloc::{AllocError, Global};
 
 /// What is printed of one object of a state: the object as it is stored, and of a claim also the pods whose use is
@@ -24,7 +25,7 @@ pub enum Part {
     Class(Stored<Shared<ReadyClass>>),
     Claim {
         claim: ClaimState,
-        pods: Table<Key, PodState>,
+        pods: SharedMap<Key, PodState>,
     },
     Pod(Stored<Shared<Pod>>),
 }
@@ -74,10 +75,8 @@ fn class_part(alloc: Global, name: &Text, state: &State) -> Result<Part, AllocEr
 fn claim_part(alloc: Global, key: &Key, state: &State) -> Result<Part, AllocError>
     ensures { IfOk result (λ part. part_json part ≡ json_of state.now (Target.Claim key.now)) }
 {
-    let pods = state.pods.value();
-    let claims = state.claims.value();
-    match claims.get(key) {
-        Some(claim) => with_its_pods(alloc, pods, claim),
+    match state.claims.get(key) {
+        Some(claim) => with_its_pods(alloc, &state.pods, claim),
         None => Ok(Part::Absent),
     }
 }
@@ -86,7 +85,7 @@ fn claim_part(alloc: Global, key: &Key, state: &State) -> Result<Part, AllocErro
 #[tactic(auto, using(crate::proofs::UserPods::claim_same))]
 fn with_its_pods(
     alloc: Global,
-    pods: &Table<Key, PodState>,
+    pods: &SharedMap<Key, PodState>,
     claim: &ClaimState,
 ) -> Result<Part, AllocError>
     ensures { IfOk result (λ part. part_json part ≡ Some (claim_json pods.now claim.now)) }
@@ -101,8 +100,7 @@ fn with_its_pods(
 fn pod_part(alloc: Global, key: &Key, state: &State) -> Result<Part, AllocError>
     ensures { IfOk result (λ part. part_json part ≡ json_of state.now (Target.Pod key.now)) }
 {
-    let pods = state.pods.value();
-    match pods.get(key) {
+    match state.pods.get(key) {
         Some(pod) => Ok(Part::Pod(pod.pod.duplicate(alloc)?)),
         None => Ok(Part::Absent),
     }
@@ -111,12 +109,12 @@ fn pod_part(alloc: Global, key: &Key, state: &State) -> Result<Part, AllocError>
 /// The pods whose use is written.
 fn written_pods(
     alloc: Global,
-    pods: &Table<Key, PodState>,
+    pods: &SharedMap<Key, PodState>,
     users: &Users,
-) -> Result<Table<Key, PodState>, AllocError>
+) -> Result<SharedMap<Key, PodState>, AllocError>
     ensures { IfOk result (λ table. table ≡ with_users pods.now users.now []) }
 {
-    let mut table = Table::new(alloc);
+    let mut table = SharedMap::new(alloc)?;
     for user in users.as_slice() {
         put_user(&mut table, alloc, pods, &user.0, &user.1)?;
     }
@@ -125,9 +123,9 @@ fn written_pods(
 
 /// Puts the pod into a table, if its use is written.
 fn put_user(
-    table: &mut Table<Key, PodState>,
+    table: &mut SharedMap<Key, PodState>,
     alloc: Global,
-    pods: &Table<Key, PodState>,
+    pods: &SharedMap<Key, PodState>,
     key: &Key,
     how: &Use,
 ) -> Result<(), AllocError>
@@ -141,15 +139,15 @@ fn put_user(
 
 /// Puts the pod into a table, if it exists.
 fn put_pod(
-    table: &mut Table<Key, PodState>,
+    table: &mut SharedMap<Key, PodState>,
     alloc: Global,
-    pods: &Table<Key, PodState>,
+    pods: &SharedMap<Key, PodState>,
     key: &Key,
 ) -> Result<(), AllocError>
     ensures { OnOk result (table.new ≡ with_pod key.now (at_key pods.now key.now) table.old) }
 {
     match pods.get(key) {
-        Some(pod) => table.insert(key.copy(alloc)?, pod.duplicate(alloc)?),
+        Some(pod) => table.insert(alloc, key.copy(alloc)?, pod.duplicate(alloc)?),
         None => Ok(()),
     }
 }

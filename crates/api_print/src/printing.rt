@@ -42,10 +42,8 @@ pub fn value_of(alloc: Global, target: &Target, state: &State) -> Result<Option<
 fn claim_at(alloc: Global, key: &Key, state: &State) -> Result<Option<Value>, AllocError>
     ensures { IfOk result (λ o. option_map view o ≡ json_of state.now (Target.Claim key.now)) }
 {
-    let pods = state.pods.value();
-    let claims = state.claims.value();
-    match claims.get(key) {
-        Some(claim) => Ok(Some(claim_value(alloc, pods, claim)?)),
+    match state.claims.get(key) {
+        Some(claim) => Ok(Some(claim_value(alloc, &state.pods, claim)?)),
         None => Ok(None),
     }
 }
@@ -53,8 +51,7 @@ fn claim_at(alloc: Global, key: &Key, state: &State) -> Result<Option<Value>, Al
 fn pod_at(alloc: Global, key: &Key, state: &State) -> Result<Option<Value>, AllocError>
     ensures { IfOk result (λ o. option_map view o ≡ json_of state.now (Target.Pod key.now)) }
 {
-    let pods = state.pods.value();
-    match pods.get(key) {
+    match state.pods.get(key) {
         Some(pod) => Ok(Some(pod_value(alloc, &pod.pod)?)),
         None => Ok(None),
     }

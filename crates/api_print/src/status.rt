@@ -8,9 +8,10 @@ use crate::listing::{Printed, flag, list};
 use crate::metadata::uid;
 use crate::selector::list_of_one;
 use cluster::{DeviceResult, Granted, PodState, Use, Users};
-use dra_values::{Seq, Shared, Table, Text};
+use dra_values::{Seq, Shared, Text};
 use object_fields::Key;
 use serde_json::Value;
+use shared_map::SharedMap;
 use std::alloc::{AllocError, Global};
 
 impl Printed for DeviceResult {
@@ -96,7 +97,7 @@ fn user(alloc: Global, key: &Key, place: u64) -> Result<Value, AllocError>
 fn push_pod(
     list: &mut Vec<Value>,
     alloc: Global,
-    pods: &Table<Key, PodState>,
+    pods: &SharedMap<Key, PodState>,
     key: &Key,
 ) -> Result<(), AllocError>
     ensures { OnOk result (map view list.new.items ≡ map view list.old.items ++ user_by pods.now key.now Use.Written) }
@@ -111,7 +112,7 @@ fn push_pod(
 fn push_user(
     list: &mut Vec<Value>,
     alloc: Global,
-    pods: &Table<Key, PodState>,
+    pods: &SharedMap<Key, PodState>,
     key: &Key,
     how: &Use,
 ) -> Result<(), AllocError>
@@ -125,7 +126,7 @@ fn push_user(
 
 fn written_users(
     alloc: Global,
-    pods: &Table<Key, PodState>,
+    pods: &SharedMap<Key, PodState>,
     users: &Users,
 ) -> Result<Vec<Value>, AllocError>
     ensures { IfOk result (λ l. map view l.items ≡ written_users pods.now users.now) }
@@ -149,7 +150,7 @@ fn some_items(items: Vec<Value>) -> Option<Value>
 
 fn status(
     alloc: Global,
-    pods: &Table<Key, PodState>,
+    pods: &SharedMap<Key, PodState>,
     grant: &Granted,
     users: &Users,
 ) -> Result<Value, AllocError>
@@ -166,7 +167,7 @@ fn status(
 /// written, each with its uid. `None` if no grant is published. `AllocError` only if memory runs out.
 pub fn some_status(
     alloc: Global,
-    pods: &Table<Key, PodState>,
+    pods: &SharedMap<Key, PodState>,
     grant: &Option<Shared<Granted>>,
     users: &Users,
 ) -> Result<Option<Value>, AllocError>

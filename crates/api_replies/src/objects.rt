@@ -60,7 +60,7 @@ fn claims(alloc: Global, namespace: &Text, state: &State) -> Result<Seq<Target>,
     ensures { IfOk result (λ ts. ts ≡ map Target.Claim (spec.within namespace.now (keys_of state.now.claims))) }
 {
     let mut targets = Seq::empty(alloc);
-    for (key, _) in state.claims.as_map() {
+    for (key, _) in state.claims.iter() {
         if key.namespace == *namespace {
             targets.push(Target::Claim(key.copy(alloc)?))?;
         }
@@ -72,7 +72,7 @@ fn pods(alloc: Global, namespace: &Text, state: &State) -> Result<Seq<Target>, A
     ensures { IfOk result (λ ts. ts ≡ map Target.Pod (spec.within namespace.now (keys_of state.now.pods))) }
 {
     let mut targets = Seq::empty(alloc);
-    for (key, _) in state.pods.as_map() {
+    for (key, _) in state.pods.iter() {
         if key.namespace == *namespace {
             targets.push(Target::Pod(key.copy(alloc)?))?;
         }

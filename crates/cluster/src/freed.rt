@@ -1,14 +1,15 @@
-ghost use Rattle.std.specs.Prelude.{◌≡◌, ◌++◌, IfOk, Some, map, option_copied, option_map};
+ghost use Rattle.std.specs.Prelude.{◌≡◌, ◌++◌, IfOk, OnOk, Some, map, option_copied, option_map};
 ghost use Rattle.cluster.specs.Freed.{freed, freed_by, freed_version, grant_left};
 ghost use Rattle.cluster.specs.Leaving.{leaving, leaving_by, leaving_each, left, left_at};
 ghost use Rattle.cluster.specs.Tables.{changed_at};
 
 use crate::{ClaimState, Granted, PodState, Use, Users};
 use api_cluster::{Pod, PodResourceClaim};
-use dra_values::{Duplicate, Shared, Table, Text};
+use dra_values::{Duplicate, Shared, Text};
 use object_fields::Key;
 use pool_view::Stored;
 use ready_objects::ReadyClaim;
+use shared_map::{NoValue, SharedMap};
 use std::alloc::{AllocError, Global};
 
 /// A claim as it is without a pod's use.
@@ -23,7 +24,7 @@ pub struct Leaving {
 /// there. `AllocError` is returned only if memory runs out.
 pub fn prepare_free(
     alloc: Global,
-    claims: &Table<Key, ClaimState>,
+    claims: &SharedMap<Key, ClaimState>,
     index: u64,
     pod: &Key,
     state: Option<&PodState>,
@@ -38,7 +39,7 @@ pub fn prepare_free(
 
 fn prepare_each(
     alloc: Global,
-    claims: &Table<Key, ClaimState>,
+    claims: &SharedMap<Key, ClaimState>,
     index: u64,
     pod: &Key,
     named: &Pod,
@@ -54,7 +55,7 @@ fn prepare_each(
 
 fn prepare_leaving(
     alloc: Global,
-    claims: &Table<Key, ClaimState>,
+    claims: &SharedMap<Key, ClaimState>,
     index: u64,
     pod: &Key,
     namespace: &Text,
@@ -151,29 +152,50 @@ fn grant_left(
     }
 }
 
-/// Puts what was prepared into the claims. Allocates nothing.
-pub fn leave(claims: &mut Table<Key, ClaimState>, claims_left: Vec<Leaving>)
-    ensures { claims.new ≡ left claims_left.items claims.old }
+/// Puts what was prepared into the claims. `AllocError` is returned only if memory runs out, and then some of it may be
+/// there.
+pub fn leave(
+    alloc: Global,
+    claims: &mut SharedMap<Key, ClaimState>,
+    claims_left: Vec<Leaving>,
+) -> Result<(), AllocError>
+    ensures { OnOk result (claims.new ≡ left claims_left.items claims.old) }
 {
     for leaving in claims_left {
-        put(claims, leaving);
+        put(alloc, claims, leaving)?;
     }
+    Ok(())
 }
 
-fn put(claims: &mut Table<Key, ClaimState>, leaving: Leaving)
-    ensures { claims.new ≡ left_at leaving.claim leaving.state claims.old }
+fn put(
+    alloc: Global,
+    claims: &mut SharedMap<Key, ClaimState>,
+    leaving: Leaving,
+) -> Result<(), AllocError>
+    ensures { OnOk result (claims.new ≡ left_at leaving.claim leaving.state claims.old) }
 {
     let Leaving { claim, state } = leaving;
-    if let Some(state) = state {
-        set_state(claims, &claim, state);
+    match state {
+        Some(state) => set_state(alloc, claims, &claim, state),
+        None => Ok(()),
     }
 }
 
 /// Replaces the claim at a key, if it is there.
-fn set_state(claims: &mut Table<Key, ClaimState>, claim: &Key, state: ClaimState)
-    ensures { claims.new ≡ changed_at claim.now (λ _. state) claims.old }
+fn set_state(
+    alloc: Global,
+    claims: &mut SharedMap<Key, ClaimState>,
+    claim: &Key,
+    state: ClaimState,
+) -> Result<(), AllocError>
+    ensures { OnOk result (claims.new ≡ changed_at claim.now (λ _. state) claims.old) }
 {
-    if let Some(old) = claims.get_mut(claim) {
-        *old = state;
+    match claims.get_mut(alloc, claim) {
+        Ok(old) => {
+            *old = state;
+            Ok(())
+        }
+        Err(NoValue::Missing) => Ok(()),
+        Err(NoValue::Memory) => Err(AllocError),
     }
 }

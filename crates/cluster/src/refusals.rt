@@ -239,7 +239,7 @@ impl State {
     fn is_user(&self, pod: &Key) -> bool
         ensures { result ≡ is_user self.now pod.now }
     {
-        for (_, claim) in self.claims.as_map() {
+        for (_, claim) in self.claims.iter() {
             if is_used_by(claim, pod) {
                 return true;
             }

@@ -1,11 +1,12 @@
-ghost use Rattle.std.specs.Prelude.{◌≡◌, ◌++◌, IfOk, false, map};
+ghost use Rattle.std.specs.Prelude.{◌≡◌, ◌++◌, IfOk, OnOk, false, map};
 ghost use Rattle.pool_view.specs.Names.{at_key};
 ghost use Rattle.cluster.specs.Tables.{changed_at};
 ghost use Rattle.cluster.specs.Prepared.{given, given_by, joined_use, granted_use, placed, uses_of, users_with};
 
 use crate::{ClaimState, Grant, Granted, Plan, Use, Users};
-use dra_values::{Shared, Table, Text};
+use dra_values::{Shared, Text};
 use object_fields::Key;
+use shared_map::{NoValue, SharedMap};
 use std::alloc::{AllocError, Global};
 
 /// What a claim gets for a pod.
@@ -21,7 +22,7 @@ pub struct Prepared {
 /// What the claims of a plan get for the pod. `AllocError` is returned only if memory runs out.
 pub fn prepare(
     alloc: Global,
-    claims: &Table<Key, ClaimState>,
+    claims: &SharedMap<Key, ClaimState>,
     pod: &Key,
     plan: &Plan,
 ) -> Result<Vec<Prepared>, AllocError>
@@ -35,7 +36,7 @@ pub fn prepare(
 
 fn prepare_grants(
     alloc: Global,
-    claims: &Table<Key, ClaimState>,
+    claims: &SharedMap<Key, ClaimState>,
     pod: &Key,
     plan: &Plan,
     uses: &mut Vec<Prepared>,
@@ -50,7 +51,7 @@ fn prepare_grants(
 
 fn prepare_joins(
     alloc: Global,
-    claims: &Table<Key, ClaimState>,
+    claims: &SharedMap<Key, ClaimState>,
     pod: &Key,
     plan: &Plan,
     uses: &mut Vec<Prepared>,
@@ -65,7 +66,7 @@ fn prepare_joins(
 
 fn prepare_grant(
     alloc: Global,
-    claims: &Table<Key, ClaimState>,
+    claims: &SharedMap<Key, ClaimState>,
     pod: &Key,
     node: &Text,
     grant: &Grant,
@@ -92,7 +93,7 @@ fn granted(alloc: Global, node: &Text, grant: &Grant) -> Result<Granted, AllocEr
 
 fn prepare_join(
     alloc: Global,
-    claims: &Table<Key, ClaimState>,
+    claims: &SharedMap<Key, ClaimState>,
     pod: &Key,
     claim: &Key,
 ) -> Result<Prepared, AllocError>
@@ -110,7 +111,7 @@ fn prepare_join(
 /// The users of a claim with the pod as an assumed one; none of a claim that isn't there.
 fn users_with(
     alloc: Global,
-    claims: &Table<Key, ClaimState>,
+    claims: &SharedMap<Key, ClaimState>,
     pod: &Key,
     claim: &Key,
 ) -> Result<Users, AllocError>
@@ -125,25 +126,40 @@ fn users_with(
     }
 }
 
-/// Puts what was prepared into the claims. Allocates nothing.
-pub fn place(claims: &mut Table<Key, ClaimState>, uses: Vec<Prepared>)
-    ensures { claims.new ≡ placed uses.items claims.old }
+/// Puts what was prepared into the claims. `AllocError` is returned only if memory runs out, and then some of it may be
+/// there.
+pub fn place(
+    alloc: Global,
+    claims: &mut SharedMap<Key, ClaimState>,
+    uses: Vec<Prepared>,
+) -> Result<(), AllocError>
+    ensures { OnOk result (claims.new ≡ placed uses.items claims.old) }
 {
     for prepared in uses {
-        put(claims, prepared);
+        put(alloc, claims, prepared)?;
     }
+    Ok(())
 }
 
-fn put(claims: &mut Table<Key, ClaimState>, prepared: Prepared)
-    ensures { claims.new ≡ changed_at prepared.claim (given prepared) claims.old }
+fn put(
+    alloc: Global,
+    claims: &mut SharedMap<Key, ClaimState>,
+    prepared: Prepared,
+) -> Result<(), AllocError>
+    ensures { OnOk result (claims.new ≡ changed_at prepared.claim (given prepared) claims.old) }
 {
     let Prepared {
         claim,
         grant,
         users,
     } = prepared;
-    if let Some(state) = claims.get_mut(&claim) {
-        give(state, grant, users);
+    match claims.get_mut(alloc, &claim) {
+        Ok(state) => {
+            give(state, grant, users);
+            Ok(())
+        }
+        Err(NoValue::Missing) => Ok(()),
+        Err(NoValue::Memory) => Err(AllocError),
     }
 }
 

@@ -13,6 +13,7 @@ use dra_values::{Duplicate, Seq, Shared, Table, Text};
 use object_fields::Key;
 use pool_view::{Inventory, Stored, put_named};
 use ready_objects::{ReadyClaim, ReadyClass};
+use shared_map::{NoValue, SharedMap};
 use std::alloc::{AllocError, Global};
 
 /// The most users that a claim may have.
@@ -118,8 +119,8 @@ pub struct State {
     /// The nodes and the slices.
     pub inventory: Shared<Inventory>,
     pub classes: Shared<Table<Text, Stored<Shared<ReadyClass>>>>,
-    pub claims: Shared<Table<Key, ClaimState>>,
-    pub pods: Shared<Table<Key, PodState>>,
+    pub claims: SharedMap<Key, ClaimState>,
+    pub pods: SharedMap<Key, PodState>,
 }
 
 impl State {
@@ -135,8 +136,8 @@ impl State {
     {
         let inventory = Shared::new(alloc, Inventory::new(alloc))?;
         let classes = Shared::new(alloc, Table::new(alloc))?;
-        let claims = Shared::new(alloc, Table::new(alloc))?;
-        let pods = Shared::new(alloc, Table::new(alloc))?;
+        let claims = SharedMap::new(alloc)?;
+        let pods = SharedMap::new(alloc)?;
         Ok(State {
             inventory,
             classes,
@@ -163,11 +164,11 @@ impl State {
             }
             Kept::Claim(claim) => {
                 let key = claim.claim().key.copy(alloc)?;
-                put_claim(alloc, self.claims.change(alloc)?, index, key, claim)
+                put_claim(alloc, &mut self.claims, index, key, claim)
             }
             Kept::Pod(pod) => {
                 let key = pod.key.copy(alloc)?;
-                put_pod(self.pods.change(alloc)?, index, key, pod)
+                put_pod(alloc, &mut self.pods, index, key, pod)
             }
         }
     }
@@ -185,10 +186,10 @@ impl State {
                 self.classes.change(alloc)?.remove(name);
             }
             Target::Claim(key) => {
-                self.claims.change(alloc)?.remove(key);
+                self.claims.remove(alloc, key)?;
             }
             Target::Pod(key) => {
-                self.pods.change(alloc)?.remove(key);
+                self.pods.remove(alloc, key)?;
             }
         }
         Ok(())
@@ -204,8 +205,7 @@ impl State {
     ghost use Rattle.cluster.specs.Adopted.{with_adopted};
 
     /// Makes the plan's grants, makes the pod an assumed user of each claim that is granted or joined,
-    /// and takes the pod for a job. All memory is allocated before the first change: `AllocError` is returned only
-    /// if memory runs out, and then nothing changed.
+    /// and takes the pod for a job. `AllocError` is returned only if memory runs out, and then nothing changed.
     pub fn reserve(
         &mut self,
         alloc: Global,
@@ -218,10 +218,10 @@ impl State {
     {
         let node = plan.node.copy(alloc)?;
         let uses = prepare(alloc, &self.claims, pod, plan)?;
-        let claims = self.claims.change(alloc)?;
-        let pods = self.pods.change(alloc)?;
-        place(claims, uses);
-        set_phase(pods, pod, Phase::Taken { job, node });
+        let mut claims = self.claims.share()?;
+        place(alloc, &mut claims, uses)?;
+        set_phase(alloc, &mut self.pods, pod, Phase::Taken { job, node })?;
+        self.claims = claims;
         Ok(())
     }
 
@@ -237,8 +237,7 @@ impl State {
         ensures ok { OnOk result (self.new ≡ with_written index pod.now claim.now self.old) }
         ensures err { OnErr result (self.new ≡ self.old) }
     {
-        write_claim(alloc, self.claims.change(alloc)?, index, pod, claim)?;
-        Ok(())
+        write_claim(alloc, &mut self.claims, index, pod, claim)
     }
 
     /// Takes away the pod's uses of its claims, by the entry at this index, and leaves the pod Idle. A
@@ -249,10 +248,10 @@ impl State {
         ensures err { OnErr result (self.new ≡ self.old) }
     {
         let left = prepare_free(alloc, &self.claims, index, pod, self.pods.get(pod))?;
-        let claims = self.claims.change(alloc)?;
-        let pods = self.pods.change(alloc)?;
-        leave(claims, left);
-        set_phase(pods, pod, Phase::Idle);
+        let mut claims = self.claims.share()?;
+        leave(alloc, &mut claims, left)?;
+        set_phase(alloc, &mut self.pods, pod, Phase::Idle)?;
+        self.claims = claims;
         Ok(())
     }
 
@@ -269,8 +268,7 @@ impl State {
         ensures err { OnErr result (self.new ≡ self.old) }
     {
         let grant = Shared::new(alloc, status_grant(alloc, status)?)?;
-        set_grant(self.claims.change(alloc)?, index, claim, grant);
-        Ok(())
+        set_grant(alloc, &mut self.claims, index, claim, grant)
     }
 
     /// Binds the pod to a node. `AllocError` is returned only if memory runs out, and then nothing changed.
@@ -278,8 +276,7 @@ impl State {
         ensures ok { OnOk result (self.new ≡ with_bound pod.now node self.old) }
         ensures err { OnErr result (self.new ≡ self.old) }
     {
-        set_phase(self.pods.change(alloc)?, pod, Phase::Bound(node));
-        Ok(())
+        set_phase(alloc, &mut self.pods, pod, Phase::Bound(node))
     }
 
     /// Sorts the inventory's slices for the searches that follow, unless they are sorted. The state stays the
@@ -311,7 +308,7 @@ impl State {
 #[tactic(auto, using(std::proofs::lemmas::Map::Steps::set_value_same))]
 fn write_claim(
     alloc: Global,
-    claims: &mut Table<Key, ClaimState>,
+    claims: &mut SharedMap<Key, ClaimState>,
     index: u64,
     pod: &Key,
     claim: &Key,
@@ -319,10 +316,11 @@ fn write_claim(
     ensures ok { OnOk result (claims.new ≡ changed_at claim.now (written_by index pod.now) claims.old) }
     ensures err { OnErr result (claims.new ≡ claims.old) }
 {
-    if let Some(state) = claims.get_mut(claim) {
-        write_use(alloc, state, index, pod)?;
+    match claims.get_mut(alloc, claim) {
+        Ok(state) => write_use(alloc, state, index, pod),
+        Err(NoValue::Missing) => Ok(()),
+        Err(NoValue::Memory) => Err(AllocError),
     }
-    Ok(())
 }
 
 /// Writes the pod's use of a claim, and publishes its grant. All memory is allocated before the first
@@ -383,28 +381,51 @@ fn device_result(alloc: Global, picked: &StatusResult) -> Result<DeviceResult, A
 }
 
 /// Grants a claim what a status write says, if it is there.
-fn set_grant(claims: &mut Table<Key, ClaimState>, index: u64, claim: &Key, grant: Shared<Granted>)
-    ensures { claims.new ≡ changed_at claim.now (λ c. record c { claim = record c.claim { version = index }; grant = Some grant }) claims.old }
+fn set_grant(
+    alloc: Global,
+    claims: &mut SharedMap<Key, ClaimState>,
+    index: u64,
+    claim: &Key,
+    grant: Shared<Granted>,
+) -> Result<(), AllocError>
+    ensures ok { OnOk result (claims.new ≡ changed_at claim.now (λ c. record c { claim = record c.claim { version = index }; grant = Some grant }) claims.old) }
+    ensures err { OnErr result (claims.new ≡ claims.old) }
 {
-    if let Some(state) = claims.get_mut(claim) {
-        state.claim.version = index;
-        state.grant = Some(grant);
+    match claims.get_mut(alloc, claim) {
+        Ok(state) => {
+            state.claim.version = index;
+            state.grant = Some(grant);
+            Ok(())
+        }
+        Err(NoValue::Missing) => Ok(()),
+        Err(NoValue::Memory) => Err(AllocError),
     }
 }
 
 /// Puts a pod into another phase, if it is there.
-fn set_phase(pods: &mut Table<Key, PodState>, pod: &Key, phase: Phase)
-    ensures { pods.new ≡ with_phase pod.now phase pods.old }
+fn set_phase(
+    alloc: Global,
+    pods: &mut SharedMap<Key, PodState>,
+    pod: &Key,
+    phase: Phase,
+) -> Result<(), AllocError>
+    ensures ok { OnOk result (pods.new ≡ with_phase pod.now phase pods.old) }
+    ensures err { OnErr result (pods.new ≡ pods.old) }
 {
-    if let Some(state) = pods.get_mut(pod) {
-        state.phase = phase;
+    match pods.get_mut(alloc, pod) {
+        Ok(state) => {
+            state.phase = phase;
+            Ok(())
+        }
+        Err(NoValue::Missing) => Ok(()),
+        Err(NoValue::Memory) => Err(AllocError),
     }
 }
 
 /// Puts a claim at its key.
 fn put_claim(
     alloc: Global,
-    claims: &mut Table<Key, ClaimState>,
+    claims: &mut SharedMap<Key, ClaimState>,
     index: u64,
     key: Key,
     claim: Shared<ReadyClaim>,
@@ -413,8 +434,7 @@ fn put_claim(
     ensures err { OnErr result (claims.new ≡ claims.old) }
 {
     if claims.contains_key(&key) {
-        update_claim(claims, index, &key, claim);
-        Ok(())
+        update_claim(alloc, claims, index, &key, claim)
     } else {
         let users = Shared::new(alloc, Users::none(alloc))?;
         let claim = ClaimState {
@@ -422,27 +442,35 @@ fn put_claim(
             grant: None,
             users,
         };
-        claims.insert(key, claim)
+        claims.insert(alloc, key, claim)
     }
 }
 
 /// Updates a claim, if it is there.
 fn update_claim(
-    claims: &mut Table<Key, ClaimState>,
+    alloc: Global,
+    claims: &mut SharedMap<Key, ClaimState>,
     index: u64,
     key: &Key,
     claim: Shared<ReadyClaim>,
-)
-    ensures { claims.new ≡ changed_at key.now (updated_claim index claim) claims.old }
+) -> Result<(), AllocError>
+    ensures ok { OnOk result (claims.new ≡ changed_at key.now (updated_claim index claim) claims.old) }
+    ensures err { OnErr result (claims.new ≡ claims.old) }
 {
-    if let Some(state) = claims.get_mut(key) {
-        state.claim.update(index, claim);
+    match claims.get_mut(alloc, key) {
+        Ok(state) => {
+            state.claim.update(index, claim);
+            Ok(())
+        }
+        Err(NoValue::Missing) => Ok(()),
+        Err(NoValue::Memory) => Err(AllocError),
     }
 }
 
 /// Puts a pod at its key.
 fn put_pod(
-    pods: &mut Table<Key, PodState>,
+    alloc: Global,
+    pods: &mut SharedMap<Key, PodState>,
     index: u64,
     key: Key,
     pod: Shared<Pod>,
@@ -451,22 +479,33 @@ fn put_pod(
     ensures err { OnErr result (pods.new ≡ pods.old) }
 {
     if pods.contains_key(&key) {
-        update_pod(pods, index, &key, pod);
-        Ok(())
+        update_pod(alloc, pods, index, &key, pod)
     } else {
         let pod = PodState {
             pod: Stored::created(index, pod),
             phase: Phase::Idle,
         };
-        pods.insert(key, pod)
+        pods.insert(alloc, key, pod)
     }
 }
 
 /// Updates a pod, if it is there.
-fn update_pod(pods: &mut Table<Key, PodState>, index: u64, key: &Key, pod: Shared<Pod>)
-    ensures { pods.new ≡ changed_at key.now (updated_pod index pod) pods.old }
+fn update_pod(
+    alloc: Global,
+    pods: &mut SharedMap<Key, PodState>,
+    index: u64,
+    key: &Key,
+    pod: Shared<Pod>,
+) -> Result<(), AllocError>
+    ensures ok { OnOk result (pods.new ≡ changed_at key.now (updated_pod index pod) pods.old) }
+    ensures err { OnErr result (pods.new ≡ pods.old) }
 {
-    if let Some(state) = pods.get_mut(key) {
-        state.pod.update(index, pod);
+    match pods.get_mut(alloc, key) {
+        Ok(state) => {
+            state.pod.update(index, pod);
+            Ok(())
+        }
+        Err(NoValue::Missing) => Ok(()),
+        Err(NoValue::Memory) => Err(AllocError),
     }
 }

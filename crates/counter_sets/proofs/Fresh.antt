@@ -1,19 +1,18 @@
 -- The counters that are kept after those of a slice were added.
-use Rattle.std.proofs.Common.{◌≡◌, ℕ, ℤ, List, [], ◌∷◌, Bool, true, false, Option, None, Some, refl, sym, ap, ◌∙◌, if◌then◌else◌, ◌&&◌, ◌||◌, cond, map}
+use Rattle.std.proofs.Common.{◌≡◌, ℕ, ℤ, List, [], ◌∷◌, Bool, true, false, Option, None, Some, refl, sym, ap, ◌∙◌, if◌then◌else◌, ◌&&◌, ◌||◌, cond}
 use Rattle.std.specs.BTreeMap.{insert_entry}
 use Rattle.std.specs.Cmp.Lexicographic.{same_text}
 use Rattle.std.specs.List.{find, list_any}
 use Rattle.std.specs.Option.{is_some, option_and_then, option_map}
-use Rattle.std.proofs.lemmas.Iterator.Adapters.{option_map_id}
 use Rattle.api_slice.specs.declared.types.CounterSet.{CounterSet}
 use Rattle.api_slice.specs.declared.types.ResourceSlice.{ResourceSlice}
 use Rattle.pool_view.specs.Names.{at_name, text_cmp, text_eq}
 use Rattle.pool_view.specs.Pools.{set_named}
 use Rattle.request_rules.specs.Draws.{CounterId, counter_value, is_of_pool, natural, or_value}
-use Rattle.counter_sets.specs.Totals.{KeptCounters, PoolCounters, SetCounters, Tabled, changed_at, counter_at, counter_in, drawn_in, drawn_kept, grown_set, grown_sets, or_empty, pool_in, pools_with, undrawn, value_kept, value_of, with_counters, with_grown, with_room, with_set, with_sets, with_slice}
+use Rattle.counter_sets.specs.Totals.{KeptCounters, PoolCounters, SetCounters, Tabled, counter_at, counter_in, drawn_in, drawn_kept, grown_set, grown_sets, or_empty, pool_in, pools_with, undrawn, value_kept, value_of, with_counters, with_grown, with_room, with_set, with_sets, with_slice}
 use Rattle.counter_sets.specs.declared.added.GrownSet.{GrownSet}
 use Rattle.counter_sets.specs.declared.counter.Counter.{Counter}
-use Rattle.counter_sets.proofs.Names.{moved_if, moved_name, option_map_twice}
+use Rattle.counter_sets.proofs.Names.{moved_if, moved_name}
 use Rattle.counter_sets.proofs.Putting.{added_at, at_head, found, or_else, or_none, put_at}
 
 -- ---- counters of a set

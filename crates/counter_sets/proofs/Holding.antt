@@ -7,14 +7,26 @@ use Rattle.object_fields.specs.declared.key.DeviceId.{DeviceId}
 use Rattle.object_fields.specs.declared.key.Key.{Key}
 use Rattle.api_slice.specs.declared.types.Device.{Device}
 use Rattle.api_slice.specs.declared.types.ResourceSlice.{ResourceSlice}
-use Rattle.pool_view.specs.Names.{at_name, device_eq, text_cmp, text_eq}
+use Rattle.pool_view.specs.Names.{at_name, device_eq, text_eq}
 use Rattle.pool_view.specs.Pools.{Offered, id_in, id_of, offered_by}
 use Rattle.request_rules.specs.Draws.{CounterId, drawn_by, drawn_from}
-use Rattle.counter_sets.specs.Holding.{Holders, added_held, held_device, holder_in, offered_held, put_device, put_driver, put_pool}
+use Rattle.counter_sets.specs.Holding.{AreHeld, Holders, added_held, held_device, holder_in, offered_held, put_device, put_driver, put_pool}
 use Rattle.counter_sets.specs.Totals.{KeptCounters, Tabled, drawn_in, keeps, moved_by, or_empty, sum_most, value_of}
 use Rattle.counter_sets.specs.declared.change.Change.TheVariants as change
 use Rattle.counter_sets.proofs.Moves.{left_fits, same_value, taken, together}
 use Rattle.counter_sets.proofs.Putting.{insert_at, put_at}
+
+-- ---- none
+
+no_holder : (id : DeviceId) → holder_in [] id ≡ None
+unfolding holder_in
+no_holder id = refl
+
+pub none_held : (h : Holders) → h ≡ [] → (id : DeviceId) → holder_in h id ≡ None
+none_held h e id = ap (λ (t : Holders). holder_in t id) e ∙ no_holder id
+
+pub no_pairs : (h : Holders) → h ≡ [] → AreHeld h []
+no_pairs h e = record { holder = none_held h e }
 
 -- ---- one device more
 

@@ -4,9 +4,12 @@ use Rattle.std.specs.BTreeMap.{is_at}
 use Rattle.std.specs.List.{AllByRecursion}
 use Rattle.std.specs.List.Sorted.{IsStrictlySortedBy}
 use Rattle.std.specs.Map.{keys_of, remove_entry, set_value}
+use Rattle.std.specs.Result.{OnOk}
 use Rattle.std.specs.Option.{option_map}
 use Rattle.std.specs.Ordering.{is_eq}
 use Rattle.std.specs.declared.cmp.Ordering.TheVariants.{Less}
+use Rattle.std.specs.declared.result.Result.{Result}
+use Rattle.std.specs.declared.result.Result.TheVariants.{Ok, Err}
 use Rattle.std.proofs.lemmas.Cmp.{nat_list_eq_equiv}
 use Rattle.std.proofs.lemmas.Iterator.Adapters.{option_map_id}
 use Rattle.object_fields.specs.declared.key.DeviceId.{DeviceId}
@@ -77,3 +80,9 @@ holder_by false id q old new e none is = ap (λ h. holder_in h q) e ∙ other_ho
 
 pub holder_left : (id : DeviceId) (old new : Holders) → new ≡ left_driver id old → holder_in new id ≡ None → (q : DeviceId) → holder_in new q ≡ (if device_eq id q then None else holder_in old q)
 holder_left id old new e none q = holder_by (device_eq id q) id q old new e none refl
+
+-- the same, where memory may have run out
+pub holder_left_if : {T E : Type 0} (r : Result T E) (id : DeviceId) (old new : Holders) → OnOk r (new ≡ left_driver id old) → OnOk r (holder_in new id ≡ None)
+    → OnOk r ((q : DeviceId) → holder_in new q ≡ (if device_eq id q then None else holder_in old q))
+holder_left_if (Ok x) id old new e none = holder_left id old new e none
+holder_left_if (Err x) id old new e none = tt

@@ -1,3 +1,4 @@
+pub mod Clearing
 pub mod Fresh
 pub mod Holding
 pub mod Leaving

@@ -1,12 +1,10 @@
 -- How a device's draws change what is drawn from each counter.
 use Rattle.std.proofs.Common.{◌≡◌, ℕ, zero, suc, ◌+◌, ◌-◌, ◌==◌, ◌≤◌, ◌<◌, ℤ, pos, negsuc, List, [], ◌∷◌, Bool, true, false, Option, None, Some, refl, sym, ap, ap₂, ◌∙◌, arith, if◌then◌else◌, ◌&&◌, min, map}
-use Rattle.std.specs.Prelude.{nat_le}
-use Rattle.std.specs.List.{find, flat_map, list_all, sum_by}
+use Rattle.std.specs.List.{flat_map, list_all, sum_by}
 use Rattle.std.specs.Option.{is_some, option_map}
 use Rattle.std.specs.Cmp.Lexicographic.{same_text}
 use Rattle.std.proofs.lemmas.Bool.{and_parts}
 use Rattle.std.proofs.lemmas.Bool.Decides.{nat_tests}
-use Rattle.std.proofs.lemmas.Iterator.Adapters.{option_map_id}
 use Rattle.std.proofs.lemmas.List.Folds.{list_all-append}
 use Rattle.std.proofs.lemmas.List.Sums.{sum_by-append, sum_by-cons}
 use Rattle.std.proofs.lemmas.Cmp.{nat_list_eq_equiv}
@@ -20,34 +18,34 @@ use Rattle.counter_sets.specs.Totals.{KeptCounters, PoolCounters, SetCounters, T
 use Rattle.counter_sets.specs.declared.change.Change.{Change}
 use Rattle.counter_sets.specs.declared.change.Change.TheVariants as change
 use Rattle.counter_sets.specs.declared.counter.Counter.{Counter}
-use Rattle.counter_sets.proofs.Names.{moved_if, moved_name, option_map_twice, within}
+use Rattle.counter_sets.proofs.Names.{moved_if, moved_name, within}
 
 -- ---- a counter after a change
 
 -- with something else drawn from it
-abbrev redrawn : (ℕ → ℕ) → Counter → Counter
+abbrev pub redrawn : (ℕ → ℕ) → Counter → Counter
 redrawn f k = record k { drawn = f k.drawn }
 
-no_change : (o : Option Counter) → o ≡ option_map (redrawn (λ n. n)) o
+pub no_change : (o : Option Counter) → o ≡ option_map (redrawn (λ n. n)) o
 no_change None = refl
 no_change (Some k) = refl
 
-redrawn_twice : (f g : ℕ → ℕ) (o : Option Counter) → option_map (redrawn f) (option_map (redrawn g) o) ≡ option_map (redrawn (λ n. f (g n))) o
+pub redrawn_twice : (f g : ℕ → ℕ) (o : Option Counter) → option_map (redrawn f) (option_map (redrawn g) o) ≡ option_map (redrawn (λ n. f (g n))) o
 redrawn_twice f g None = refl
 redrawn_twice f g (Some k) = refl
 
-redrawn_if : (b : Bool) (f : ℕ → ℕ) (o : Option Counter) → option_map (moved_if b (redrawn f)) o ≡ option_map (redrawn (moved_if b f)) o
+pub redrawn_if : (b : Bool) (f : ℕ → ℕ) (o : Option Counter) → option_map (moved_if b (redrawn f)) o ≡ option_map (redrawn (moved_if b f)) o
 redrawn_if b f None = refl
 redrawn_if true f (Some k) = refl
 redrawn_if false f (Some k) = refl
 
-redrawn_ifs : (b d : Bool) (f : ℕ → ℕ) (o : Option Counter) → option_map (moved_if b (moved_if d (redrawn f))) o ≡ option_map (redrawn (moved_if (b && d) f)) o
+pub redrawn_ifs : (b d : Bool) (f : ℕ → ℕ) (o : Option Counter) → option_map (moved_if b (moved_if d (redrawn f))) o ≡ option_map (redrawn (moved_if (b && d) f)) o
 redrawn_ifs b d f None = refl
 redrawn_ifs true true f (Some k) = refl
 redrawn_ifs true false f (Some k) = refl
 redrawn_ifs false d f (Some k) = refl
 
-abbrev all_moved : Change → List ℕ → List (List ℕ × ℤ) → ℕ → ℕ
+abbrev pub all_moved : Change → List ℕ → List (List ℕ × ℤ) → ℕ → ℕ
 all_moved change k [] n = n
 all_moved change k (e ∷ es) n = all_moved change k es (moved_if (text_eq e.0 k) (λ m. moved change m (natural e.1)) n)
 
@@ -64,7 +62,7 @@ abbrev all_sets : Change → List ℕ → List ℕ → List CounterConsumption �
 all_sets change set k [] n = n
 all_sets change set k (c ∷ cs) n = all_sets change set k cs (moved_if (text_eq c.set set) (all_moved change k c.amounts) n)
 
-set_moved : (change : Change) (set k name : List ℕ) (es : List (List ℕ × ℤ)) (sets : PoolCounters)
+pub set_moved : (change : Change) (set k name : List ℕ) (es : List (List ℕ × ℤ)) (sets : PoolCounters)
     → counter_in (changed_at name (λ counters. moved_counters change es counters) sets) set k
     ≡ option_map (moved_if (text_eq name set) (redrawn (all_moved change k es))) (counter_in sets set k)
 set_moved change set k name es sets =
@@ -81,7 +79,7 @@ sets_moved change set k (c ∷ cs) sets =
     ∙ redrawn_twice (all_sets change set k cs) (moved_if (text_eq c.set set) (all_moved change k c.amounts)) (counter_in sets set k)
 
 -- what is seen of the pools of a driver
-abbrev seen_in : CounterId → Tabled PoolCounters → Option Counter
+abbrev pub seen_in : CounterId → Tabled PoolCounters → Option Counter
 seen_in c pools = counter_in (or_empty (at_name pools c.pool)) c.set c.counter
 
 pools_moved : (change : Change) (o : Offered) (c : CounterId) (pools : Tabled PoolCounters)
@@ -104,7 +102,7 @@ at_moved change o kept c =
     (at_name kept c.driver) refl (pools_moved change o c)
     ∙ redrawn_ifs (text_eq o.slice.driver c.driver) (text_eq o.slice.pool.name c.pool) (all_sets change c.set c.counter o.device.consumes) (counter_at kept c)
 
-value_redrawn : (f : ℕ → ℕ) (o : Option Counter) → value_kept (option_map (redrawn f) o) ≡ value_kept o
+pub value_redrawn : (f : ℕ → ℕ) (o : Option Counter) → value_kept (option_map (redrawn f) o) ≡ value_kept o
 value_redrawn f None = refl
 value_redrawn f (Some k) = refl
 

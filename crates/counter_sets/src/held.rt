@@ -1,5 +1,6 @@
 ghost use Rattle.std.specs.Prelude.{◌≡◌, ◌++◌, ◌∷◌, [], List, Option, None, Some, ◌&&◌, IfOk, OnOk, OnErr, if◌then◌else◌, option_copied};
-ghost use Rattle.pool_view.specs.Names.{at_name, device_eq, text_eq};
+ghost use Rattle.std.specs.BTreeMap.{insert_entry};
+ghost use Rattle.pool_view.specs.Names.{at_name, device_eq, text_cmp, text_eq};
 ghost use Rattle.object_fields.specs.declared.key.DeviceId.{DeviceId};
 ghost use Rattle.counter_sets.specs.Totals.{or_empty};
 ghost use Rattle.counter_sets.specs.Holding as spec;
@@ -11,20 +12,24 @@ use crate::counter::DriverCounters;
 use api_slice::{Device, ResourceSlice};
 use dra_values::{Duplicate, Table, Text};
 use object_fields::{DeviceId, Key};
+use shared_map::{NoValue, SharedMap};
 use std::alloc::{AllocError, Global};
 use std::marker::Model;
 
-type Devices = Table<Text, Key>;
+type Devices = SharedMap<Text, Key>;
 
-type Pools = Table<Text, Devices>;
+type Pools = SharedMap<Text, Devices>;
+
+type Drivers = SharedMap<Text, Pools>;
 
 /// The devices that claims hold, each with its claim.
 ///
 /// Clauses see the claim that holds a device (`holder_in`), or that they are the pairs of a list
-/// (`AreHeld`).
+/// (`AreHeld`). A copy shares what is equal in both, and a change while copies are alive copies small
+/// parts alone.
 #[derive(Drop)]
 pub struct Held {
-    drivers: Table<Text, Pools>,
+    drivers: Drivers,
 }
 
 impl Model for Held {
@@ -36,15 +41,15 @@ impl Model for Held {
 }
 
 impl Held {
-    /// No device is held. Allocates nothing.
-    #[tactic(auto, unfolding(crate::specs::Holding::holder_in))]
-    pub fn new(alloc: Global) -> Held
-        ensures none { (id : DeviceId) → holder_in result id ≡ None }
-        ensures pairs { AreHeld result [] }
+    /// No device is held. `AllocError` is returned only if memory runs out.
+    #[tactic(auto, using(crate::proofs::Holding::none_held, crate::proofs::Holding::no_pairs))]
+    pub fn new(alloc: Global) -> Result<Held, AllocError>
+        ensures none { IfOk result (λ held. (id : DeviceId) → holder_in held id ≡ None) }
+        ensures pairs { IfOk result (λ held. AreHeld held []) }
     {
-        Held {
-            drivers: Table::new(alloc),
-        }
+        Ok(Held {
+            drivers: SharedMap::new(alloc)?,
+        })
     }
 
     /// Adds a device and the claim that holds it, in place of another that held it. `AllocError`
@@ -69,19 +74,22 @@ impl Held {
         put_driver(&mut self.drivers, device, holder, alloc)
     }
 
-    /// Removes a device, whichever claim holds it; changes nothing if none does. Allocates nothing.
-    pub fn remove(&mut self, device: &DeviceId)
-        ensures { (id : DeviceId) → holder_in self.new id ≡ (if device_eq device.now id then None else holder_in self.old id) }
+    /// Removes a device, whichever claim holds it; no other changes, and none does if no claim holds it.
+    /// `AllocError` is returned only if memory runs out, and then nothing changes.
+    pub fn remove(&mut self, device: &DeviceId, alloc: Global) -> Result<(), AllocError>
+        ensures ok { OnOk result ((id : DeviceId) → holder_in self.new id ≡ (if device_eq device.now id then None else holder_in self.old id)) }
+        ensures err { OnErr result (self.new ≡ self.old) }
     {
-        self.take(device);
+        self.take(device, alloc)
     }
 
     #[tactic(auto, unfolding(crate::specs::Holding::holder_in))]
-    fn take(&mut self, device: &DeviceId)
-        ensures rest { self.new ≡ spec.left_driver device.now self.old }
-        ensures gone { holder_in self.new device.now ≡ None }
+    fn take(&mut self, device: &DeviceId, alloc: Global) -> Result<(), AllocError>
+        ensures rest { OnOk result (self.new ≡ spec.left_driver device.now self.old) }
+        ensures gone { OnOk result (holder_in self.new device.now ≡ None) }
+        ensures err { OnErr result (self.new ≡ self.old) }
     {
-        take_driver(&mut self.drivers, device);
+        take_driver(&mut self.drivers, device, alloc)
     }
 
     /// The claim that holds a device.
@@ -111,20 +119,21 @@ impl Held {
         }
     }
 
-    /// The same devices, each held by the same claim. `AllocError` is returned only if memory runs out.
-    pub fn copy(&self, alloc: Global) -> Result<Held, AllocError>
+    /// The same devices, each held by the same claim. Both share all of it, and nothing is allocated.
+    /// `AllocError` is returned only if the count of copies is full, at 2^63 - 1.
+    pub fn share(&self) -> Result<Held, AllocError>
         ensures { IfOk result (λ copy. copy ≡ self.now) }
     {
         Ok(Held {
-            drivers: self.drivers.copy(alloc)?,
+            drivers: self.drivers.share()?,
         })
     }
 }
 
-/// A copy is equal. `AllocError` is returned only if memory runs out.
+/// A duplicate is a copy that shares all of it.
 impl Duplicate for Held {
-    fn duplicate(&self, alloc: Global) -> Result<Held, AllocError> {
-        self.copy(alloc)
+    fn duplicate(&self, _alloc: Global) -> Result<Held, AllocError> {
+        self.share()
     }
 }
 
@@ -177,7 +186,7 @@ impl<'a> HeldInPool<'a> {
     }
 }
 
-fn find_pool<'a>(drivers: &'a Table<Text, Pools>, driver: &Text, pool: &Text) -> Option<&'a Devices>
+fn find_pool<'a>(drivers: &'a Drivers, driver: &Text, pool: &Text) -> Option<&'a Devices>
     ensures { option_copied result ≡ at_name (or_empty (at_name drivers.now driver.now)) pool.now }
 {
     match drivers.get(driver) {
@@ -205,7 +214,23 @@ fn put_device(
     ensures err { OnErr result (devices.new ≡ devices.old) }
 {
     let name = name.copy(alloc)?;
-    devices.insert(name, holder)
+    devices.insert(alloc, name, holder)
+}
+
+/// Adds a pool that has no entry, with the device.
+fn add_pool(
+    pools: &mut Pools,
+    device: &DeviceId,
+    holder: Key,
+    alloc: Global,
+) -> Result<(), AllocError>
+    ensures ok { OnOk result (pools.new ≡ insert_entry text_cmp pools.old device.now.pool (spec.put_device device.now.device holder [])) }
+    ensures err { OnErr result (pools.new ≡ pools.old) }
+{
+    let name = device.pool.copy(alloc)?;
+    let mut devices = SharedMap::new(alloc)?;
+    put_device(&mut devices, &device.device, holder, alloc)?;
+    pools.insert(alloc, name, devices)
 }
 
 #[tactic(auto, using(std::proofs::lemmas::Map::Steps::set_value_same))]
@@ -218,18 +243,32 @@ fn put_pool(
     ensures ok { OnOk result (pools.new ≡ spec.put_pool device.now holder pools.old) }
     ensures err { OnErr result (pools.new ≡ pools.old) }
 {
-    if let Some(devices) = pools.get_mut(&device.pool) {
-        return put_device(devices, &device.device, holder, alloc);
+    match pools.get_mut(alloc, &device.pool) {
+        Ok(devices) => put_device(devices, &device.device, holder, alloc),
+        Err(NoValue::Missing) => add_pool(pools, device, holder, alloc),
+        Err(NoValue::Memory) => Err(AllocError),
     }
-    let name = device.pool.copy(alloc)?;
-    let mut devices = Table::new(alloc);
-    put_device(&mut devices, &device.device, holder, alloc)?;
-    pools.insert(name, devices)
+}
+
+/// Adds a driver that has no entry, with the device.
+fn add_driver(
+    drivers: &mut Drivers,
+    device: &DeviceId,
+    holder: Key,
+    alloc: Global,
+) -> Result<(), AllocError>
+    ensures ok { OnOk result (drivers.new ≡ insert_entry text_cmp drivers.old device.now.driver (spec.put_pool device.now holder [])) }
+    ensures err { OnErr result (drivers.new ≡ drivers.old) }
+{
+    let name = device.driver.copy(alloc)?;
+    let mut pools = SharedMap::new(alloc)?;
+    put_pool(&mut pools, device, holder, alloc)?;
+    drivers.insert(alloc, name, pools)
 }
 
 #[tactic(auto, using(std::proofs::lemmas::Map::Steps::set_value_same), unfolding(crate::specs::Holding::put_driver))]
 fn put_driver(
-    drivers: &mut Table<Text, Pools>,
+    drivers: &mut Drivers,
     device: &DeviceId,
     holder: Key,
     alloc: Global,
@@ -237,40 +276,46 @@ fn put_driver(
     ensures ok { OnOk result (drivers.new ≡ spec.put_driver device.now holder drivers.old) }
     ensures err { OnErr result (drivers.new ≡ drivers.old) }
 {
-    if let Some(pools) = drivers.get_mut(&device.driver) {
-        return put_pool(pools, device, holder, alloc);
+    match drivers.get_mut(alloc, &device.driver) {
+        Ok(pools) => put_pool(pools, device, holder, alloc),
+        Err(NoValue::Missing) => add_driver(drivers, device, holder, alloc),
+        Err(NoValue::Memory) => Err(AllocError),
     }
-    let name = device.driver.copy(alloc)?;
-    let mut pools = Table::new(alloc);
-    put_pool(&mut pools, device, holder, alloc)?;
-    drivers.insert(name, pools)
 }
 
-fn take_device(devices: &mut Devices, name: &Text)
-    ensures rest { devices.new ≡ spec.left_device name.now devices.old }
-    ensures gone { at_name devices.new name.now ≡ None }
+fn take_device(devices: &mut Devices, name: &Text, alloc: Global) -> Result<(), AllocError>
+    ensures rest { OnOk result (devices.new ≡ spec.left_device name.now devices.old) }
+    ensures gone { OnOk result (at_name devices.new name.now ≡ None) }
+    ensures err { OnErr result (devices.new ≡ devices.old) }
 {
     devices.in_order();
-    devices.remove(name);
+    devices.remove(alloc, name)?;
+    Ok(())
 }
 
 #[tactic(auto, using(std::proofs::lemmas::Map::Steps::set_value_same))]
-fn take_pool(pools: &mut Pools, device: &DeviceId)
-    ensures rest { pools.new ≡ spec.left_pool device.now pools.old }
-    ensures gone { at_name (or_empty (at_name pools.new device.now.pool)) device.now.device ≡ None }
+fn take_pool(pools: &mut Pools, device: &DeviceId, alloc: Global) -> Result<(), AllocError>
+    ensures rest { OnOk result (pools.new ≡ spec.left_pool device.now pools.old) }
+    ensures gone { OnOk result (at_name (or_empty (at_name pools.new device.now.pool)) device.now.device ≡ None) }
+    ensures err { OnErr result (pools.new ≡ pools.old) }
 {
-    if let Some(devices) = pools.get_mut(&device.pool) {
-        take_device(devices, &device.device);
+    match pools.get_mut(alloc, &device.pool) {
+        Ok(devices) => take_device(devices, &device.device, alloc),
+        Err(NoValue::Missing) => Ok(()),
+        Err(NoValue::Memory) => Err(AllocError),
     }
 }
 
 #[tactic(auto, using(std::proofs::lemmas::Map::Steps::set_value_same), unfolding(crate::specs::Holding::left_driver))]
-fn take_driver(drivers: &mut Table<Text, Pools>, device: &DeviceId)
-    ensures rest { drivers.new ≡ spec.left_driver device.now drivers.old }
-    ensures gone { at_name (or_empty (at_name (or_empty (at_name drivers.new device.now.driver)) device.now.pool)) device.now.device ≡ None }
+fn take_driver(drivers: &mut Drivers, device: &DeviceId, alloc: Global) -> Result<(), AllocError>
+    ensures rest { OnOk result (drivers.new ≡ spec.left_driver device.now drivers.old) }
+    ensures gone { OnOk result (at_name (or_empty (at_name (or_empty (at_name drivers.new device.now.driver)) device.now.pool)) device.now.device ≡ None) }
+    ensures err { OnErr result (drivers.new ≡ drivers.old) }
 {
-    if let Some(pools) = drivers.get_mut(&device.driver) {
-        take_pool(pools, device);
+    match drivers.get_mut(alloc, &device.driver) {
+        Ok(pools) => take_pool(pools, device, alloc),
+        Err(NoValue::Missing) => Ok(()),
+        Err(NoValue::Memory) => Err(AllocError),
     }
 }
 

@@ -8,7 +8,7 @@ ghost use Rattle.object_fields.specs.declared.key.Key.{Key};
 ghost use Rattle.api_slice.specs.declared.types.ResourceSlice.{ResourceSlice};
 
 use crate::added::add_slice;
-use crate::change::{Change, move_device};
+use crate::change::{Change, clear_slice, move_device};
 use crate::counter::{DriverCounters, PoolCounters};
 use crate::covered::{covers, pool_of};
 use crate::held::{Held, draw_devices};
@@ -148,6 +148,22 @@ impl Totals {
             device.slice(),
             device.device().consumes.as_slice(),
         );
+    }
+
+    /// Gives back all that is drawn from the counters of a slice, whoever drew it. What is drawn from the others
+    /// stays. Allocates nothing.
+    pub fn clear(&mut self, slice: &ResourceSlice)
+        ensures drawn { (c : CounterId) → drawn_in self.new c ≡ (if is_some (counter_value slice.now c) then 0 else drawn_in self.old c) }
+        ensures value { (c : CounterId) → value_of self.new c ≡ value_of self.old c }
+    {
+        slice.keeps_limits();
+        self.clear_counters(slice);
+    }
+
+    fn clear_counters(&mut self, slice: &ResourceSlice)
+        ensures { self.new ≡ spec.cleared slice.now self.old }
+    {
+        clear_slice(&mut self.drivers, slice);
     }
 
     /// Makes room for the counters that other totals have of a slice's pool (`take_pool`); none if these have no

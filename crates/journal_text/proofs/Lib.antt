@@ -2,3 +2,4 @@ mod Appended
 mod Printed
 mod Whole
 mod Rows
+pub mod Counts

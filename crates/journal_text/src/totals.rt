@@ -8,8 +8,10 @@ use std::alloc::{AllocError, Global};
 fn granted_count(state: &State) -> usize
     ensures { result ≡ granted_count state.now }
 {
+    // How many there are fits, so how many of them are counted does.
+    let _most = state.claims.len();
     let mut count = 0;
-    for (_, claim) in state.claims.as_map() {
+    for (_, claim) in state.claims.iter() {
         if claim.grant.is_some() {
             count += 1;
         }
@@ -27,8 +29,10 @@ fn is_bound(phase: &Phase) -> bool
 fn bound_count(state: &State) -> usize
     ensures { result ≡ bound_count state.now }
 {
+    // How many there are fits, so how many of them are counted does.
+    let _most = state.pods.len();
     let mut count = 0;
-    for (_, pod) in state.pods.as_map() {
+    for (_, pod) in state.pods.iter() {
         if is_bound(&pod.phase) {
             count += 1;
         }

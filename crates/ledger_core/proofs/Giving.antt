@@ -20,13 +20,10 @@ use Rattle.cluster.specs.Adopted.{adopted_by, result_of, with_adopted}
 use Rattle.cluster.specs.Held.{HeldOnce, devices_held, held, held_by}
 use Rattle.cluster.specs.Reserved.{joined_by, with_grant, with_grants, with_joins, with_reserved}
 use Rattle.cluster.specs.Tables.{changed_at}
-use Rattle.ledger_core.specs.Holding.{given_each, given_one, given_to, left_each, left_of, left_one}
-use Rattle.ledger_core.proofs.Once.{Once, Pairs, among_others, is_among, looked, looked_in, looked_out, once_held, once_without, with_key}
+use Rattle.ledger_core.specs.Holding.{given_each, given_one, given_to, left_of, left_one}
+use Rattle.ledger_core.proofs.Once.{Once, Pairs, among_others, is_among, looked, looked_in, once_held, once_without, with_key}
 use Rattle.ledger_core.proofs.Opening.{EachOpen, Grantable, NoneOf, OfDifferent, Open}
 use Rattle.ledger_core.proofs.Splitting.{Claims, changed_same, held_is, pairs_in, set_elsewhere, split}
-
-abbrev nobody : Option Key
-nobody = None
 
 -- ---- results one after another
 
@@ -56,50 +53,8 @@ left_is (r ∷ rs) id o =
     ∙ put_by r.admin (device_eq r.device id) (is_among id (devices_held rs)) None o
     ∙ ap (λ b. cond b None o) (sym (among_by r.admin id r.device (devices_held rs)))
 
-or_true : (b c : Bool) → c ≡ true → (b || c) ≡ true
-or_true true c e = refl
-or_true false c e = e
-
-among_first : (b c m : Bool) → b ≡ false → c ≡ true → cond b m (c || m) ≡ true
-among_first true c m e f = absurd (cc)
-among_first false true m e f = refl
-among_first false false m e f = absurd (cc)
-
-among_later : (b c m : Bool) → m ≡ true → cond b m (c || m) ≡ true
-among_later true c m e = e
-among_later false c m e = or_true c m e
-
-same_result : (r s : DeviceResult) → Some r ≡ Some s → r ≡ s
-same_result r s e = cc
-
--- a result's device is among those of all
-among_at : (rs : List DeviceResult) (i : ℕ) (r : DeviceResult) (id : DeviceId) → slice_get rs i ≡ Some r → r.admin ≡ false → device_eq r.device id ≡ true → is_among id (devices_held rs) ≡ true
-among_at [] i r id is plain same = absurd (cc)
-among_at (x ∷ rs) zero r id is plain same =
-    let e = same_result x r is in
-    among_by x.admin id x.device (devices_held rs)
-    ∙ among_first x.admin (device_eq x.device id) (is_among id (devices_held rs)) (ap (λ (y : DeviceResult). y.admin) e ∙ plain) (ap (λ (y : DeviceResult). device_eq y.device id) e ∙ same)
-among_at (x ∷ rs) (suc i) r id is plain same =
-    among_by x.admin id x.device (devices_held rs) ∙ among_later x.admin (device_eq x.device id) (is_among id (devices_held rs)) (among_at rs i r id is plain same)
-
-one_by : (b c m : Bool) (k : Key) (o : Option Key) → (b ≡ false → c ≡ true → m ≡ true) → cond m nobody (cond b o (cond c (Some k) o)) ≡ cond m None o
-one_by true c m k o among = refl
-one_by false false m k o among = refl
-one_by false true true k o among = refl
-one_by false true false k o among = absurd (let e = among refl refl in cc)
-
--- one more of the results changes nothing of what is held once all of them are given back
-pub left_given_one : (rs : List DeviceResult) (i : ℕ) (r : DeviceResult) (k : Key) (id : DeviceId) (o : Option Key) → slice_get rs i ≡ Some r → left_of rs id (given_one k r id o) ≡ left_of rs id o
-left_given_one rs i r k id o is =
-    left_is rs id (given_one k r id o)
-    ∙ one_by r.admin (device_eq r.device id) (is_among id (devices_held rs)) k o (λ plain same. among_at rs i r id is plain same)
-    ∙ sym (left_is rs id o)
-
 pub item_at : {X : Type 0} (xs : List X) (i : ℕ) (x : X) → i < length xs → x ≡ get_or xs i x → drop i xs ≡ x ∷ drop (i + 1) xs
 item_at {X} xs i x h e = drop-cons xs i x h ∙ ap (λ (y : X). y ∷ drop (suc i) xs) (sym e) ∙ ap (λ (n : ℕ). x ∷ drop n xs) (sym (add-one i))
-
-place_of : {X : Type 0} (xs : List X) (i : ℕ) (x : X) → i < length xs → x ≡ get_or xs i x → slice_get xs i ≡ Some x
-place_of {X} xs i x h e = slice_get-get_or xs i x h ∙ ap (λ (y : X). Some y) (sym e)
 
 -- one result more is given
 pub give_next : (k : Key) (rs : List DeviceResult) (i : ℕ) (r : DeviceResult) (old now : Holders) (id : DeviceId) (all : Option Key) → i < length rs → r ≡ get_or rs i r
@@ -107,48 +62,7 @@ pub give_next : (k : Key) (rs : List DeviceResult) (i : ℕ) (r : DeviceResult) 
 give_next k rs i r old now id all lt is made so =
     ap (λ o. given_to k (drop (i + 1) rs) id o) made ∙ ap (λ xs. given_to k xs id (holder_in old id)) (sym (item_at rs i r lt is)) ∙ so
 
-pub others_next : (k : Key) (rs : List DeviceResult) (i : ℕ) (r : DeviceResult) (old now : Holders) (id : DeviceId) (all : Option Key) → i < length rs → r ≡ get_or rs i r
-    → holder_in now id ≡ given_one k r id (holder_in old id) → left_of rs id (holder_in old id) ≡ all → left_of rs id (holder_in now id) ≡ all
-others_next k rs i r old now id all lt is made so = ap (λ o. left_of rs id o) made ∙ left_given_one rs i r k id (holder_in old id) (place_of rs i r lt is) ∙ so
-
 -- ---- grants one after another
-
-abbrev pub named : List Grant → DeviceId → Bool
-named [] id = false
-named (g ∷ gs) id = is_among id (devices_held g.results) || named gs id
-
-none_by : (a m : Bool) (o : Option Key) → cond m nobody (cond a None o) ≡ cond (a || m) None o
-none_by true true o = refl
-none_by true false o = refl
-none_by false m o = refl
-
-pub each_left : (gs : List Grant) (id : DeviceId) (o : Option Key) → left_each gs id o ≡ cond (named gs id) None o
-each_left [] id o = refl
-each_left (g ∷ gs) id o = each_left gs id (left_of g.results id o) ∙ ap (λ x. cond (named gs id) None x) (left_is g.results id o) ∙ none_by (is_among id (devices_held g.results)) (named gs id) o
-
-same_grant : (g h : Grant) → Some g ≡ Some h → g ≡ h
-same_grant g h e = cc
-
-or_left : (b c : Bool) → b ≡ true → (b || c) ≡ true
-or_left true c e = refl
-or_left false c e = absurd (cc)
-
-named_at : (gs : List Grant) (i : ℕ) (g : Grant) (id : DeviceId) → slice_get gs i ≡ Some g → is_among id (devices_held g.results) ≡ true → named gs id ≡ true
-named_at [] i g id is among = absurd (cc)
-named_at (h ∷ gs) zero g id is among = or_left (is_among id (devices_held h.results)) (named gs id) (ap (λ (x : Grant). is_among id (devices_held x.results)) (same_grant h g is) ∙ among)
-named_at (h ∷ gs) (suc i) g id is among = or_true (is_among id (devices_held h.results)) (named gs id) (named_at gs i g id is among)
-
-kept_by : (a m : Bool) (o p : Option Key) → (a ≡ true → m ≡ true) → cond a nobody p ≡ cond a None o → cond m nobody p ≡ cond m None o
-kept_by true true o p among same = refl
-kept_by true false o p among same = absurd (let e = among refl in cc)
-kept_by false m o p among same = ap (λ x. cond m None x) same
-
--- one more of the grants changes nothing of what is held once all of them are given back
-pub left_given_grant : (gs : List Grant) (i : ℕ) (g : Grant) (id : DeviceId) (o p : Option Key) → slice_get gs i ≡ Some g → left_of g.results id p ≡ left_of g.results id o → left_each gs id p ≡ left_each gs id o
-left_given_grant gs i g id o p is same =
-    each_left gs id p
-    ∙ kept_by (is_among id (devices_held g.results)) (named gs id) o p (λ among. named_at gs i g id is among) (sym (left_is g.results id p) ∙ same ∙ left_is g.results id o)
-    ∙ sym (each_left gs id o)
 
 -- one grant more is made
 pub grant_next : (gs : List Grant) (i : ℕ) (g : Grant) (old now : Holders) (id : DeviceId) (all : Option Key) → i < length gs → g ≡ get_or gs i g
@@ -156,43 +70,12 @@ pub grant_next : (gs : List Grant) (i : ℕ) (g : Grant) (old now : Holders) (id
 grant_next gs i g old now id all lt is made so =
     ap (λ o. given_each (drop (i + 1) gs) id o) made ∙ ap (λ xs. given_each xs id (holder_in old id)) (sym (item_at gs i g lt is)) ∙ so
 
-pub spared_next : (gs : List Grant) (i : ℕ) (g : Grant) (old now : Holders) (id : DeviceId) (all : Option Key) → i < length gs → g ≡ get_or gs i g
-    → left_of g.results id (holder_in now id) ≡ left_of g.results id (holder_in old id) → left_each gs id (holder_in old id) ≡ all → left_each gs id (holder_in now id) ≡ all
-spared_next gs i g old now id all lt is same so = left_given_grant gs i g id (holder_in old id) (holder_in now id) (place_of gs i g lt is) same ∙ so
-
-unnamed_by : (a m : Bool) (k : Key) (o p : Option Key) → (m ≡ false → p ≡ cond a (Some k) o) → (a || m) ≡ false → p ≡ o
-unnamed_by true m k o p later e = absurd (cc)
-unnamed_by false m k o p later e = later e
-
-given_unnamed : (gs : List Grant) (id : DeviceId) (o : Option Key) → named gs id ≡ false → given_each gs id o ≡ o
-given_unnamed [] id o e = refl
-given_unnamed (g ∷ gs) id o e =
-    unnamed_by (is_among id (devices_held g.results)) (named gs id) g.claim o (given_each gs id (given_to g.claim g.results id o))
-    (λ (f : named gs id ≡ false). given_unnamed gs id (given_to g.claim g.results id o) f ∙ given_is g.claim g.results id o) e
-
-back_by : (m : Bool) (o p : Option Key) → (m ≡ false → p ≡ o) → cond m nobody p ≡ cond m None o
-back_by true o p same = refl
-back_by false o p same = same refl
-
--- once all grants are given back, each device is held as it was, apart from theirs
-pub given_back : (gs : List Grant) (id : DeviceId) (o : Option Key) → left_each gs id (given_each gs id o) ≡ left_each gs id o
-given_back gs id o = each_left gs id (given_each gs id o) ∙ back_by (named gs id) o (given_each gs id o) (λ e. given_unnamed gs id o e) ∙ sym (each_left gs id o)
-
-results_by : (a : Bool) (k : Key) (o : Option Key) → cond a nobody (cond a (Some k) o) ≡ cond a None o
-results_by true k o = refl
-results_by false k o = refl
-
-pub results_back : (k : Key) (rs : List DeviceResult) (id : DeviceId) (o : Option Key) → left_of rs id (given_to k rs id o) ≡ left_of rs id o
-results_back k rs id o =
-    left_is rs id (given_to k rs id o) ∙ ap (λ x. cond (is_among id (devices_held rs)) None x) (given_is k rs id o) ∙ results_by (is_among id (devices_held rs)) k o ∙ sym (left_is rs id o)
-
 -- ---- a claim without a grant, which is given one
 
 -- what is so where devices are given to a claim, and no device is held twice then
 pub record Gives (claims given : Claims) (k : Key) (ds : List DeviceId) : Type 0 where
   pub once : Once (pairs_in claims)
   pub looks : (id : DeviceId) → looked id (pairs_in given) ≡ cond (is_among id ds) (Some k) (looked id (pairs_in claims))
-  pub free : (id : DeviceId) → is_among id ds ≡ true → looked id (pairs_in claims) ≡ None
 
 pub gives : (claims : Claims) (k : Key) (v w : ClaimState) → at_key claims k ≡ Some v → v.grant ≡ None → Once (pairs_in (set_value (is_at (key_cmp k)) claims w))
     → Gives claims (set_value (is_at (key_cmp k)) claims w) k (held_by w.grant)
@@ -204,8 +87,6 @@ gives claims k v w is none once =
     record {
       once = subst (λ (ps : Pairs). Once ps) (sym before) (once_without s.prefix (with_key k ds) s.back o);
       looks = λ id. ap (λ ps. looked id ps) (s.set w) ∙ looked_in id s.prefix k ds s.back o ∙ ap (λ ps. cond (is_among id ds) (Some k) (looked id ps)) (sym before);
-      free = λ id among.
-          ap (λ ps. looked id ps) before ∙ looked_out id s.prefix k ds s.back o ∙ ap (λ b. cond b None (looked id (among_others s.prefix k ds s.back))) among;
     }
 
 -- ---- the grants of a plan
@@ -234,15 +115,10 @@ open_kept node pod k results claims u (g ∷ gs) away each = (
 record GivesEach (claims given : Claims) (gs : List Grant) : Type 0 where
   once : Once (pairs_in claims)
   looks : (id : DeviceId) → looked id (pairs_in given) ≡ given_each gs id (looked id (pairs_in claims))
-  free : (id : DeviceId) → named gs id ≡ true → looked id (pairs_in claims) ≡ None
-
-free_by : (a m : Bool) (k : Key) (o p : Option Key) → (a || m) ≡ true → p ≡ cond a (Some k) o → (a ≡ true → o ≡ None) → (m ≡ true → p ≡ None) → o ≡ None
-free_by true m k o p e is here later = here refl
-free_by false m k o p e is here later = sym is ∙ later e
 
 gives_each : (node : List ℕ) (pod : Key) (gs : List Grant) (claims : Claims) → EachOpen claims gs → OfDifferent gs → Once (pairs_in (with_grants node pod gs claims))
     → GivesEach claims (with_grants node pod gs claims) gs
-gives_each node pod [] claims each differ once = record { once = once; looks = λ id. refl; free = λ id e. absurd (cc) }
+gives_each node pod [] claims each differ once = record { once = once; looks = λ id. refl }
 gives_each node pod (g ∷ gs) claims each differ once =
     let next = with_grant node pod g.claim g.results claims in
     let later = gives_each node pod gs next (open_kept node pod g.claim g.results claims each.0 gs differ.0 each.1) differ.1 once in
@@ -253,25 +129,15 @@ gives_each node pod (g ∷ gs) claims each differ once =
     record {
       once = now.once;
       looks = λ id. later.looks id ∙ ap (λ o. given_each gs id o) (now.looks id ∙ sym (given_is g.claim g.results id (looked id (pairs_in claims))));
-      free = λ id e.
-          free_by (is_among id (devices_held g.results)) (named gs id) g.claim (looked id (pairs_in claims)) (looked id (pairs_in next)) e (now.looks id) (λ f. now.free id f) (λ f. later.free id f);
     }
 
 joins_same : (pod : Key) (ks : List Key) (es : Claims) → pairs_in (with_joins pod ks es) ≡ pairs_in es
 joins_same pod [] es = refl
 joins_same pod (k ∷ ks) es = joins_same pod ks (changed_at k (joined_by pod) es) ∙ changed_same es k (joined_by pod) (λ c. refl)
 
-abbrev IsFree : Holders → List Grant → Type 0
-IsFree hs gs = (id : DeviceId) → left_each gs id (holder_in hs id) ≡ holder_in hs id
-
 -- what is so of the devices that claims hold, where a plan's grants are made
 pub record Reserves (s t : State) (gs : List Grant) : Type 0 where
-  pub free : (hs : Holders) → AreHeld hs (held s) → (id : DeviceId) → left_each gs id (holder_in hs id) ≡ holder_in hs id
   pub given : (hs hs' : Holders) → AreHeld hs (held s) → ((id : DeviceId) → holder_in hs' id ≡ given_each gs id (holder_in hs id)) → AreHeld hs' (held t)
-
-gone_by : (m : Bool) (o : Option Key) → (m ≡ true → o ≡ None) → cond m None o ≡ o
-gone_by true o none = sym (none refl)
-gone_by false o none = refl
 
 pub reserves : (s : State) (job : ℕ) (pod : Key) (plan : Plan) → Grantable s.claims plan.grants → HeldOnce (with_reserved job pod plan s) → Reserves s (with_reserved job pod plan s) plan.grants
 reserves s job pod plan able once =
@@ -280,9 +146,6 @@ reserves s job pod plan able once =
     let same : held t ≡ pairs_in made = held_is t ∙ joins_same pod plan.joins made in
     let all = gives_each plan.node pod plan.grants s.claims able.open_each able.differ (subst (λ (ps : Pairs). Once ps) same (once_held t once)) in
     record {
-      free = λ hs are id.
-          each_left plan.grants id (holder_in hs id)
-          ∙ gone_by (named plan.grants id) (holder_in hs id) (λ e. are.holder id ∙ ap (λ ps. looked id ps) (held_is s) ∙ all.free id e);
       given = λ hs hs' are is. record {
         holder = λ id.
             is id
@@ -296,7 +159,6 @@ reserves s job pod plan able once =
 
 -- the same where a claim is granted what a status write says
 pub record Adopts (s t : State) (claim : Key) (rs : List DeviceResult) : Type 0 where
-  pub free : (hs : Holders) → AreHeld hs (held s) → (id : DeviceId) → left_of rs id (holder_in hs id) ≡ holder_in hs id
   pub given : (hs hs' : Holders) → AreHeld hs (held s) → ((id : DeviceId) → holder_in hs' id ≡ given_to claim rs id (holder_in hs id)) → AreHeld hs' (held t)
 
 pub adopts : (s : State) (index : ℕ) (claim : Key) (status : ClaimStatus) → Open s.claims claim → HeldOnce (with_adopted index claim status s)
@@ -309,8 +171,6 @@ adopts s index claim status u once =
     let same : held t ≡ pairs_in (set_value (is_at (key_cmp claim)) s.claims (adopted_by index status u.claim)) = held_is t ∙ ap (λ es. pairs_in es) sets in
     let all = gives s.claims claim u.claim (adopted_by index status u.claim) u.there u.none (subst (λ (ps : Pairs). Once ps) same (once_held t once)) in
     record {
-      free = λ hs are id.
-          left_is rs id (holder_in hs id) ∙ gone_by (is_among id (devices_held rs)) (holder_in hs id) (λ e. are.holder id ∙ ap (λ ps. looked id ps) (held_is s) ∙ all.free id e);
       given = λ hs hs' are is. record {
         holder = λ id.
             is id

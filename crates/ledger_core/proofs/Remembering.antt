@@ -26,10 +26,10 @@ use Rattle.allocations.specs.Lost.{devices_of}
 use Rattle.histories.specs.Growth.{AreDatesOf, changes_objects, freed_at, lost_by, may_free, objects_at}
 use Rattle.histories.specs.Legal.{Legal, Step}
 use Rattle.node_memo.specs.declared.nodes.LackingNode.{LackingNode}
-use Rattle.node_memo.specs.Dated.{has_row, names}
+use Rattle.node_memo.specs.Dated.{names}
 use Rattle.node_memo.specs.Memo.{IsAmong, NodesFields, TellsRow, lacking_by}
 use Rattle.ledger_core.specs.Ledger.{IsKept}
-use Rattle.ledger_core.specs.Remembered.{AreSet, AreTrueOf, GoesOn, HaveRows, IsSame, IsTrueOf, Remembers, pool_of, pools_held, pools_lost, set_in}
+use Rattle.ledger_core.specs.Remembered.{AreSet, AreTrueOf, GoesOn, IsSame, IsTrueOf, Remembers, pool_of, pools_held, pools_lost, set_in}
 use Rattle.ledger_core.proofs.Giving.{item_at}
 use Rattle.ledger_core.proofs.Histories.{Legal-more}
 
@@ -80,24 +80,6 @@ any_lost p (g ∷ gs) =
     ∙ ap (λ (b : Bool). b || list_any (names p) (pools_lost gs)) (any_held p g.results)
     ∙ ap (λ (b : Bool). list_any (is_in_pool p) (devices_held g.results) || b) (any_lost p gs)
     ∙ sym (list_any-append (is_in_pool p) (devices_held g.results) (devices_of gs))
-
--- ---- room
-
-abbrev pub RowsStay : Dates → Dates → Type 0
-RowsStay d later = (p : PoolName) → has_row d p ≡ true → has_row later p ≡ true
-
-pub rows_same : (d later : Dates) (ps : List PoolName) → ((p : PoolName) → has_row later p ≡ has_row d p) → HaveRows d ps → HaveRows later ps
-rows_same d later [] same have = tt
-rows_same d later (p ∷ ps) same have = (same p ∙ have.0, rows_same d later ps same have.1)
-
-pub rows_behind : (d : Dates) (ps : List PoolName) (i : ℕ) (p : PoolName) → i < length ps → p ≡ get_or ps i p → has_row d p ≡ true → HaveRows d (drop (i + 1) ps) → HaveRows d (drop i ps)
-rows_behind d ps i p lt is row have = subst (λ (qs : List PoolName). HaveRows d qs) (sym (item_at ps i p lt is)) (row, have)
-
-pub rows_before : (d : Dates) (ps : List PoolName) (i : ℕ) (p : PoolName) → i < length ps → p ≡ get_or ps i p → HaveRows d (drop i ps) → (has_row d p ≡ true) × HaveRows d (drop (i + 1) ps)
-rows_before d ps i p lt is have = subst (λ (qs : List PoolName). HaveRows d qs) (item_at ps i p lt is) have
-
-pub no_rows : (d : Dates) (ps : List PoolName) (i : ℕ) → length ps ≤ i → HaveRows d (drop i ps)
-no_rows d ps i le = subst (λ (qs : List PoolName). HaveRows d qs) (sym (drop_all i ps le)) tt
 
 -- the date of one pool more is set
 pub set_next : (index : ℕ) (ps : List PoolName) (i : ℕ) (q : PoolName) (old new : Dates) (p : PoolName) (all : ℕ) → i < length ps → q ≡ get_or ps i q → freed_for new p ≡ cond (names p q) index (freed_for old p)

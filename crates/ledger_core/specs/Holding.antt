@@ -33,10 +33,6 @@ abbrev pub left_of : List DeviceResult → DeviceId → Option Key → Option Ke
 left_of [] id old = old
 left_of (r ∷ rs) id old = left_of rs id (left_one r id old)
 
-abbrev pub left_each : List Grant → DeviceId → Option Key → Option Key
-left_each [] id old = old
-left_each (g ∷ gs) id old = left_each gs id (left_of g.results id old)
-
 abbrev pub left_by : List Granted → DeviceId → Option Key → Option Key
 left_by [] id old = old
 left_by (g ∷ gs) id old = left_by gs id (left_of g.results id old)

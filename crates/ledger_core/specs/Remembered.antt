@@ -10,7 +10,7 @@ use Rattle.request_rules.specs.Lists.{Each}
 use Rattle.allocations.specs.Lacking.{Dates, freed_for}
 use Rattle.histories.specs.Growth.{AreDatesOf, changes_objects, lost_by}
 use Rattle.histories.specs.Legal.{Legal}
-use Rattle.node_memo.specs.Dated.{has_row, names}
+use Rattle.node_memo.specs.Dated.{names}
 use Rattle.node_memo.specs.Memo.{NodesFields, Tells}
 
 -- What is remembered of nodes is true in the state after the entries, by their dates.
@@ -44,11 +44,6 @@ pools_lost (g ∷ gs) = pools_held g.results ++ pools_lost gs
 abbrev pub set_in : ℕ → PoolName → List PoolName → ℕ → ℕ
 set_in index p [] date = date
 set_in index p (q ∷ qs) date = set_in index p qs (if names p q then index else date)
-
--- there is room for the dates of these pools
-abbrev pub HaveRows : Dates → List PoolName → Type 0
-HaveRows d [] = Unit {0}
-HaveRows d (p ∷ ps) = (has_row d p ≡ true) × HaveRows d ps
 
 -- ---- one entry more
 

@@ -5,7 +5,7 @@ ghost use Rattle.pool_view.specs.declared.names.PoolName.{PoolName};
 ghost use Rattle.cluster.specs.Ready.{object_of};
 ghost use Rattle.allocations.specs.Lacking.{freed_for};
 ghost use Rattle.histories.specs.Growth.{is_searched};
-ghost use Rattle.ledger_core.specs.Remembered.{GoesOn, HaveRows, IsSame, pool_of, pools_held, pools_lost, set_in};
+ghost use Rattle.ledger_core.specs.Remembered.{GoesOn, IsSame, pool_of, pools_held, pools_lost, set_in};
 
 use api_slice::ResourceSlice;
 use cluster::{DeviceResult, Granted, Kept};
@@ -85,26 +85,20 @@ pub fn pools_lost(alloc: Global, lost: &[Shared<Granted>]) -> Result<Vec<PoolNam
     Ok(pools)
 }
 
-/// Makes room for the dates of pools, all of which stay the same.
-pub fn make_rows(alloc: Global, dates: &mut Dates, pools: &[PoolName]) -> Result<(), AllocError>
-    ensures same { IsSame dates.old dates.new }
-    ensures rows { OnOk result (HaveRows dates.new pools.now) }
+/// Sets the dates of pools. `AllocError` only if memory runs out, and then some may be set.
+pub fn set_freed(
+    alloc: Global,
+    dates: &mut Dates,
+    pools: &[PoolName],
+    index: u64,
+) -> Result<(), AllocError>
+    ensures objects { OnOk result (dates.new.objects ≡ dates.old.objects) }
+    ensures freed { OnOk result ((pool : PoolName) → freed_for dates.new pool ≡ set_in index pool pools.now (freed_for dates.old pool)) }
 {
     for pool in pools {
-        dates.make_room(alloc, pool)?;
+        dates.set_freed(alloc, pool, index)?;
     }
     Ok(())
-}
-
-/// Sets the dates of pools.
-pub fn set_freed(dates: &mut Dates, pools: &[PoolName], index: u64)
-    requires { HaveRows dates.old pools.now }
-    ensures objects { dates.new.objects ≡ dates.old.objects }
-    ensures freed { (pool : PoolName) → freed_for dates.new pool ≡ set_in index pool pools.now (freed_for dates.old pool) }
-{
-    for pool in pools {
-        dates.set_freed(pool, index);
-    }
 }
 
 // ---- nodes, slices and classes

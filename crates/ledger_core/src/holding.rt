@@ -13,20 +13,21 @@ ghost use Rattle.request_rules.specs.Lists.{add_some};
 ghost use Rattle.pool_totals.specs.Counting.{AreCounted};
 ghost use Rattle.allocations.specs.Lost.{grant_at, lost_among, lost_at, lost_by, lost_of, lost_with};
 ghost use Rattle.histories.specs.Growth.{names_searched};
-ghost use Rattle.ledger_core.specs.Holding.{given_each, given_one, given_to, left_by, left_each, left_of, left_one};
-ghost use Rattle.ledger_core.specs.Remembered.{AreSet, HaveRows, IsSame, pools_lost};
+ghost use Rattle.ledger_core.specs.Holding.{given_each, given_one, given_to, left_by, left_of, left_one};
+ghost use Rattle.ledger_core.specs.Remembered.{AreSet, IsSame, pools_lost};
 
 use crate::counting;
-use crate::dating::{make_rows, pools_held, pools_lost, set_freed};
+use crate::dating::{pools_held, pools_lost, set_freed};
 use allocations::keys_of_pod;
 use api_claim::{ClaimStatus, StatusResult};
 use cluster::{ClaimState, DeviceResult, Grant, Granted, Plan, State, Target};
 use counter_sets::{Held, Totals};
-use dra_values::{Duplicate, Seq, Shared, Table};
+use dra_values::{Duplicate, Seq, Shared};
 use node_memo::Dates;
 use object_fields::Key;
-use pool_totals::hold;
+use pool_totals::{hold, redraw};
 use pool_view::{PoolName, Pools};
+use shared_map::SharedMap;
 use std::alloc::{AllocError, Global};
 
 /// Gives a claim the device of a result, unless the result has admin access.
@@ -61,7 +62,6 @@ fn give_all(
 ) -> Result<(), AllocError>
     requires counted { AreCounted pools.now holders.old totals.old }
     ensures ok { OnOk result ((id : DeviceId) → holder_in holders.new id ≡ given_to claim.now results.now id (holder_in holders.old id)) }
-    ensures others { (id : DeviceId) → left_of results.now id (holder_in holders.new id) ≡ left_of results.now id (holder_in holders.old id) }
     ensures counted { AreCounted pools.now holders.new totals.new }
 {
     for found in results {
@@ -80,7 +80,6 @@ fn give_each(
 ) -> Result<(), AllocError>
     requires counted { AreCounted pools.now holders.old totals.old }
     ensures ok { OnOk result ((id : DeviceId) → holder_in holders.new id ≡ given_each grants.now id (holder_in holders.old id)) }
-    ensures others { (id : DeviceId) → left_each grants.now id (holder_in holders.new id) ≡ left_each grants.now id (holder_in holders.old id) }
     ensures counted { AreCounted pools.now holders.new totals.new }
 {
     for grant in grants {
@@ -97,75 +96,62 @@ fn give_each(
 }
 
 /// Gives the device of a result back, unless the result has admin access.
-fn leave(pools: &Pools, holders: &mut Held, totals: &mut Totals, found: &DeviceResult)
-    requires counted { AreCounted pools.now holders.old totals.old }
-    ensures left { (id : DeviceId) → holder_in holders.new id ≡ left_one found.now id (holder_in holders.old id) }
-    ensures counted { AreCounted pools.now holders.new totals.new }
-{
-    if !found.admin {
-        pool_totals::leave(pools, holders, totals, &found.device);
-    }
-}
-
-/// Gives the devices of results without admin access back.
-fn leave_all(pools: &Pools, holders: &mut Held, totals: &mut Totals, results: &[DeviceResult])
-    requires counted { AreCounted pools.now holders.old totals.old }
-    ensures left { (id : DeviceId) → holder_in holders.new id ≡ left_of results.now id (holder_in holders.old id) }
-    ensures counted { AreCounted pools.now holders.new totals.new }
-{
-    for found in results {
-        leave(pools, holders, totals, found);
-    }
-}
-
-/// Gives the devices of these grants back.
-fn leave_each(pools: &Pools, holders: &mut Held, totals: &mut Totals, grants: &[Grant])
-    requires counted { AreCounted pools.now holders.old totals.old }
-    ensures left { (id : DeviceId) → holder_in holders.new id ≡ left_each grants.now id (holder_in holders.old id) }
-    ensures counted { AreCounted pools.now holders.new totals.new }
-{
-    for grant in grants {
-        leave_all(pools, holders, totals, grant.results.as_slice());
-    }
-}
-
-/// Gives the devices of grants that go back.
-fn leave_lost(pools: &Pools, holders: &mut Held, totals: &mut Totals, lost: &[Shared<Granted>])
-    requires counted { AreCounted pools.now holders.old totals.old }
-    ensures left { (id : DeviceId) → holder_in holders.new id ≡ left_by lost.now id (holder_in holders.old id) }
-    ensures counted { AreCounted pools.now holders.new totals.new }
-{
-    for grant in lost {
-        leave_all(pools, holders, totals, grant.results.as_slice());
-    }
-}
-
-// ---- a plan's grants
-
-/// Gives the claims of a plan their devices, which are free. `AllocError` is returned only if memory runs out,
-/// and then each device is held as it was.
-fn hold_plan(
+fn leave(
     alloc: Global,
     pools: &Pools,
     holders: &mut Held,
     totals: &mut Totals,
-    grants: &[Grant],
+    found: &DeviceResult,
 ) -> Result<(), AllocError>
     requires counted { AreCounted pools.now holders.old totals.old }
-    requires free { (id : DeviceId) → left_each grants.now id (holder_in holders.old id) ≡ holder_in holders.old id }
-    ensures ok { OnOk result ((id : DeviceId) → holder_in holders.new id ≡ given_each grants.now id (holder_in holders.old id)) }
-    ensures err { OnErr result ((id : DeviceId) → holder_in holders.new id ≡ holder_in holders.old id) }
+    ensures left { OnOk result ((id : DeviceId) → holder_in holders.new id ≡ left_one found.now id (holder_in holders.old id)) }
     ensures counted { AreCounted pools.now holders.new totals.new }
 {
-    match give_each(alloc, pools, holders, totals, grants) {
-        Ok(()) => Ok(()),
-        Err(error) => {
-            leave_each(pools, holders, totals, grants);
-            Err(error)
-        }
+    if found.admin {
+        return Ok(());
     }
+    pool_totals::leave(alloc, pools, holders, totals, &found.device)
 }
 
+/// Gives the devices of results without admin access back. After an error some of them may be given back.
+fn leave_all(
+    alloc: Global,
+    pools: &Pools,
+    holders: &mut Held,
+    totals: &mut Totals,
+    results: &[DeviceResult],
+) -> Result<(), AllocError>
+    requires counted { AreCounted pools.now holders.old totals.old }
+    ensures left { OnOk result ((id : DeviceId) → holder_in holders.new id ≡ left_of results.now id (holder_in holders.old id)) }
+    ensures counted { AreCounted pools.now holders.new totals.new }
+{
+    for found in results {
+        leave(alloc, pools, holders, totals, found)?;
+    }
+    Ok(())
+}
+
+/// Gives the devices of grants that go back. After an error some of them may be given back.
+fn leave_lost(
+    alloc: Global,
+    pools: &Pools,
+    holders: &mut Held,
+    totals: &mut Totals,
+    lost: &[Shared<Granted>],
+) -> Result<(), AllocError>
+    requires counted { AreCounted pools.now holders.old totals.old }
+    ensures left { OnOk result ((id : DeviceId) → holder_in holders.new id ≡ left_by lost.now id (holder_in holders.old id)) }
+    ensures counted { AreCounted pools.now holders.new totals.new }
+{
+    for grant in lost {
+        leave_all(alloc, pools, holders, totals, grant.results.as_slice())?;
+    }
+    Ok(())
+}
+
+// ---- a plan's grants
+
+/// Gives the claims of a plan their devices, and makes its grants. After an error the devices may be given.
 fn reserve_held(
     alloc: Global,
     state: &mut State,
@@ -177,26 +163,17 @@ fn reserve_held(
     plan: &Plan,
 ) -> Result<(), AllocError>
     requires counted { AreCounted pools.now holders.old totals.old }
-    requires free { (id : DeviceId) → left_each plan.now.grants id (holder_in holders.old id) ≡ holder_in holders.old id }
     ensures ok { OnOk result (state.new ≡ with_reserved job pod.now plan.now state.old) }
     ensures given { OnOk result ((id : DeviceId) → holder_in holders.new id ≡ given_each plan.now.grants id (holder_in holders.old id)) }
     ensures err { OnErr result (state.new ≡ state.old) }
-    ensures same { OnErr result ((id : DeviceId) → holder_in holders.new id ≡ holder_in holders.old id) }
     ensures counted { AreCounted pools.now holders.new totals.new }
 {
-    hold_plan(alloc, pools, holders, totals, plan.grants.as_slice())?;
-    match state.reserve(alloc, job, pod, plan) {
-        Ok(()) => Ok(()),
-        Err(error) => {
-            leave_each(pools, holders, totals, plan.grants.as_slice());
-            Err(error)
-        }
-    }
+    give_each(alloc, pools, holders, totals, plan.grants.as_slice())?;
+    state.reserve(alloc, job, pod, plan)
 }
 
-/// Makes a plan's grants, whose devices are free, and returns the pod's key and the plan again.
-/// `AllocError` is returned only if memory runs out, and then the state is as it was, and each device is held
-/// as it was.
+/// Makes a plan's grants, and returns the pod's key and the plan again. `AllocError` is returned only if memory runs
+/// out, and then the state is as it was, and each device is held as it was.
 pub fn reserve(
     alloc: Global,
     state: &mut State,
@@ -207,12 +184,11 @@ pub fn reserve(
     plan: &Plan,
 ) -> Result<(Key, Shared<Plan>), AllocError>
     requires counted { AreCounted state.old.inventory holders.old totals.old }
-    requires free { (id : DeviceId) → left_each plan.now.grants id (holder_in holders.old id) ≡ holder_in holders.old id }
     ensures kept { IfOk result (λ kept. (kept.0 ≡ pod.now) × (kept.1 ≡ plan.now)) }
     ensures ok { OnOk result (state.new ≡ with_reserved job pod.now plan.now state.old) }
     ensures given { OnOk result ((id : DeviceId) → holder_in holders.new id ≡ given_each plan.now.grants id (holder_in holders.old id)) }
     ensures err { OnErr result (state.new ≡ state.old) }
-    ensures same { OnErr result ((id : DeviceId) → holder_in holders.new id ≡ holder_in holders.old id) }
+    ensures same { OnErr result (holders.new ≡ holders.old) }
     ensures counted { AreCounted state.old.inventory holders.new totals.new }
 {
     let kept_pod = pod.copy(alloc)?;
@@ -220,10 +196,19 @@ pub fn reserve(
     state.sort(alloc)?;
     let inventory = state.inventory.share()?;
     let pools = Pools::of(alloc, &inventory)?;
-    let holders = holders.change(alloc)?;
     let totals = totals.change(alloc)?;
-    reserve_held(alloc, state, &pools, holders, totals, job, pod, plan)?;
-    Ok((kept_pod, kept_plan))
+    let mut next = holders.share()?;
+    let with = next.change(alloc)?;
+    match reserve_held(alloc, state, &pools, with, totals, job, pod, plan) {
+        Ok(()) => {
+            *holders = next;
+            Ok((kept_pod, kept_plan))
+        }
+        Err(error) => {
+            redraw(&pools, holders.value(), totals);
+            Err(error)
+        }
+    }
 }
 
 // ---- the uses of a pod
@@ -245,7 +230,7 @@ fn lost_by(
 
 fn lost_at(
     alloc: Global,
-    claims: &Table<Key, ClaimState>,
+    claims: &SharedMap<Key, ClaimState>,
     pod: &Key,
     claim: &Key,
 ) -> Result<Option<Shared<Granted>>, AllocError>
@@ -272,7 +257,7 @@ fn add_lost(
 
 fn lost_among(
     alloc: Global,
-    claims: &Table<Key, ClaimState>,
+    claims: &SharedMap<Key, ClaimState>,
     pod: &Key,
     keys: &[Key],
 ) -> Result<Vec<Shared<Granted>>, AllocError>
@@ -298,6 +283,8 @@ fn lost_with(alloc: Global, state: &State, pod: &Key) -> Result<Vec<Shared<Grant
     }
 }
 
+/// Takes the uses of a pod away, and gives the devices back that go with them. After an error some may be given back, and
+/// some dates set.
 fn free_held(
     alloc: Global,
     state: &mut State,
@@ -313,17 +300,13 @@ fn free_held(
     ensures left { OnOk result ((id : DeviceId) → holder_in holders.new id ≡ left_by (lost_with state.old pod.now) id (holder_in holders.old id)) }
     ensures dated { OnOk result (AreSet false (lost_with state.old pod.now) index dates.old dates.new) }
     ensures err { OnErr result (state.new ≡ state.old) }
-    ensures same { OnErr result (holders.new ≡ holders.old) }
-    ensures undated { OnErr result (IsSame dates.old dates.new) }
     ensures counted { AreCounted pools.now holders.new totals.new }
 {
     let lost = lost_with(alloc, state, pod)?;
     let freed = pools_lost(alloc, &lost)?;
-    make_rows(alloc, dates, &freed)?;
-    state.free(alloc, index, pod)?;
-    leave_lost(pools, holders, totals, &lost);
-    set_freed(dates, &freed, index);
-    Ok(())
+    set_freed(alloc, dates, &freed, index)?;
+    leave_lost(alloc, pools, holders, totals, &lost)?;
+    state.free(alloc, index, pod)
 }
 
 /// Takes the uses of a pod away, by the entry at this index, and returns its key again. `AllocError`
@@ -351,11 +334,22 @@ pub fn free(
     state.sort(alloc)?;
     let inventory = state.inventory.share()?;
     let pools = Pools::of(alloc, &inventory)?;
-    let holders = holders.change(alloc)?;
     let totals = totals.change(alloc)?;
-    let dates = dates.change(alloc)?;
-    free_held(alloc, state, &pools, holders, totals, dates, index, pod)?;
-    Ok(kept)
+    let mut next = holders.share()?;
+    let mut later = dates.share()?;
+    let with = next.change(alloc)?;
+    let dated = later.change(alloc)?;
+    match free_held(alloc, state, &pools, with, totals, dated, index, pod) {
+        Ok(()) => {
+            *holders = next;
+            *dates = later;
+            Ok(kept)
+        }
+        Err(error) => {
+            redraw(&pools, holders.value(), totals);
+            Err(error)
+        }
+    }
 }
 
 // ---- objects that are taken away
@@ -363,7 +357,7 @@ pub fn free(
 /// The grant of a claim, if it is there and has one.
 fn grant_at(
     alloc: Global,
-    claims: &Table<Key, ClaimState>,
+    claims: &SharedMap<Key, ClaimState>,
     claim: &Key,
 ) -> Result<Option<Shared<Granted>>, AllocError>
     ensures { IfOk result (λ grant. grant ≡ grant_at (at_key claims.now claim.now)) }
@@ -374,7 +368,7 @@ fn grant_at(
     }
 }
 
-/// Takes an object away, with whose grant these results go.
+/// Takes an object away, with whose grant these results go. After an error some of their devices may be given back.
 fn remove_held(
     alloc: Global,
     state: &mut State,
@@ -388,12 +382,10 @@ fn remove_held(
     ensures ok { OnOk result (state.new ≡ without_object target.now state.old) }
     ensures left { OnOk result ((id : DeviceId) → holder_in holders.new id ≡ left_of results.now id (holder_in holders.old id)) }
     ensures err { OnErr result (state.new ≡ state.old) }
-    ensures same { OnErr result (holders.new ≡ holders.old) }
     ensures counted { AreCounted pools.now holders.new totals.new }
 {
-    state.remove(alloc, target)?;
-    leave_all(pools, holders, totals, results);
-    Ok(())
+    leave_all(alloc, pools, holders, totals, results)?;
+    state.remove(alloc, target)
 }
 
 /// Takes away a claim, with whose grant these results go.
@@ -417,9 +409,19 @@ fn remove_granted(
     state.sort(alloc)?;
     let inventory = state.inventory.share()?;
     let pools = Pools::of(alloc, &inventory)?;
-    let holders = holders.change(alloc)?;
     let totals = totals.change(alloc)?;
-    remove_held(alloc, state, &pools, holders, totals, target, results)
+    let mut next = holders.share()?;
+    let with = next.change(alloc)?;
+    match remove_held(alloc, state, &pools, with, totals, target, results) {
+        Ok(()) => {
+            *holders = next;
+            Ok(())
+        }
+        Err(error) => {
+            redraw(&pools, holders.value(), totals);
+            Err(error)
+        }
+    }
 }
 
 /// Takes away a claim, with whose grant its devices go back.
@@ -485,10 +487,10 @@ fn remove_dated(
 {
     let grant = grant_at(alloc, &state.claims, key)?;
     let freed = pools_of_grant(alloc, &grant)?;
-    let dates = dates.change(alloc)?;
-    make_rows(alloc, dates, &freed)?;
+    let mut later = dates.share()?;
+    set_freed(alloc, later.change(alloc)?, &freed, index)?;
     remove_claim(alloc, state, holders, totals, target, key, &grant)?;
-    set_freed(dates, &freed, index);
+    *dates = later;
     Ok(())
 }
 
@@ -593,31 +595,7 @@ fn status_results(alloc: Global, status: &ClaimStatus) -> Result<Seq<DeviceResul
     Ok(results)
 }
 
-/// Gives a claim the devices of results without admin access, which are free. `AllocError` is returned only if
-/// memory runs out, and then each device is held as it was.
-fn hold_results(
-    alloc: Global,
-    pools: &Pools,
-    holders: &mut Held,
-    totals: &mut Totals,
-    claim: &Key,
-    results: &[DeviceResult],
-) -> Result<(), AllocError>
-    requires counted { AreCounted pools.now holders.old totals.old }
-    requires free { (id : DeviceId) → left_of results.now id (holder_in holders.old id) ≡ holder_in holders.old id }
-    ensures ok { OnOk result ((id : DeviceId) → holder_in holders.new id ≡ given_to claim.now results.now id (holder_in holders.old id)) }
-    ensures err { OnErr result ((id : DeviceId) → holder_in holders.new id ≡ holder_in holders.old id) }
-    ensures counted { AreCounted pools.now holders.new totals.new }
-{
-    match give_all(alloc, pools, holders, totals, claim, results) {
-        Ok(()) => Ok(()),
-        Err(error) => {
-            leave_all(pools, holders, totals, results);
-            Err(error)
-        }
-    }
-}
-
+/// Gives a claim the devices of a status write, and grants it what that says. After an error the devices may be given.
 fn adopt_held(
     alloc: Global,
     state: &mut State,
@@ -629,27 +607,18 @@ fn adopt_held(
     status: &ClaimStatus,
 ) -> Result<(), AllocError>
     requires counted { AreCounted pools.now holders.old totals.old }
-    requires free { (id : DeviceId) → left_of (map result_of status.now.results) id (holder_in holders.old id) ≡ holder_in holders.old id }
     ensures ok { OnOk result (state.new ≡ with_adopted index claim.now status.now state.old) }
     ensures given { OnOk result ((id : DeviceId) → holder_in holders.new id ≡ given_to claim.now (map result_of status.now.results) id (holder_in holders.old id)) }
     ensures err { OnErr result (state.new ≡ state.old) }
-    ensures same { OnErr result ((id : DeviceId) → holder_in holders.new id ≡ holder_in holders.old id) }
     ensures counted { AreCounted pools.now holders.new totals.new }
 {
     let results = status_results(alloc, status)?;
-    hold_results(alloc, pools, holders, totals, claim, results.as_slice())?;
-    match state.adopt(alloc, index, claim, status) {
-        Ok(()) => Ok(()),
-        Err(error) => {
-            leave_all(pools, holders, totals, results.as_slice());
-            Err(error)
-        }
-    }
+    give_all(alloc, pools, holders, totals, claim, results.as_slice())?;
+    state.adopt(alloc, index, claim, status)
 }
 
-/// Grants a claim what a status write says, whose devices are free, by the entry at this index, and
-/// returns the claim's key again. `AllocError` is returned only if memory runs out, and then the state is as
-/// it was, and each device is held as it was.
+/// Grants a claim what a status write says, by the entry at this index, and returns the claim's key again. `AllocError`
+/// is returned only if memory runs out, and then the state is as it was, and each device is held as it was.
 pub fn adopt(
     alloc: Global,
     state: &mut State,
@@ -660,20 +629,28 @@ pub fn adopt(
     status: &ClaimStatus,
 ) -> Result<Key, AllocError>
     requires counted { AreCounted state.old.inventory holders.old totals.old }
-    requires free { (id : DeviceId) → left_of (map result_of status.now.results) id (holder_in holders.old id) ≡ holder_in holders.old id }
     ensures kept { IfOk result (λ kept. kept ≡ claim.now) }
     ensures ok { OnOk result (state.new ≡ with_adopted index claim.now status.now state.old) }
     ensures given { OnOk result ((id : DeviceId) → holder_in holders.new id ≡ given_to claim.now (map result_of status.now.results) id (holder_in holders.old id)) }
     ensures err { OnErr result (state.new ≡ state.old) }
-    ensures same { OnErr result ((id : DeviceId) → holder_in holders.new id ≡ holder_in holders.old id) }
+    ensures same { OnErr result (holders.new ≡ holders.old) }
     ensures counted { AreCounted state.old.inventory holders.new totals.new }
 {
     let kept = claim.copy(alloc)?;
     state.sort(alloc)?;
     let inventory = state.inventory.share()?;
     let pools = Pools::of(alloc, &inventory)?;
-    let holders = holders.change(alloc)?;
     let totals = totals.change(alloc)?;
-    adopt_held(alloc, state, &pools, holders, totals, index, claim, status)?;
-    Ok(kept)
+    let mut next = holders.share()?;
+    let with = next.change(alloc)?;
+    match adopt_held(alloc, state, &pools, with, totals, index, claim, status) {
+        Ok(()) => {
+            *holders = next;
+            Ok(kept)
+        }
+        Err(error) => {
+            redraw(&pools, holders.value(), totals);
+            Err(error)
+        }
+    }
 }

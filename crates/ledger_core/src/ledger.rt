@@ -119,7 +119,7 @@ impl Ledger {
         let state = State::new(alloc)?;
         let holders = no_holders(alloc)?;
         let totals = new_totals(alloc, &state, &holders)?;
-        let dates = Shared::new(alloc, Dates::new(alloc))?;
+        let dates = Shared::new(alloc, Dates::new(alloc)?)?;
         Ok(Ledger {
             entries: Vec::new(alloc),
             state,
@@ -936,7 +936,7 @@ impl Ledger {
 fn no_holders(alloc: Global) -> Result<Shared<Held>, AllocError>
     ensures { IfOk result (λ holders. AreHeld holders []) }
 {
-    Shared::new(alloc, Held::new(alloc))
+    Shared::new(alloc, Held::new(alloc)?)
 }
 
 /// Allocates all memory for an entry, puts its object, and sets the date of nodes, slices and classes if it is one.

@@ -8,23 +8,26 @@ ghost use Rattle.node_inputs.specs.Wanted.{wanted_at};
 use allocations::keys_of_pod;
 use api_cluster::Pod;
 use cluster::{ClaimState, State};
-use dra_values::Table;
 use object_fields::Key;
 use request_rows::WantedClaim;
+use shared_map::SharedMap;
 use std::alloc::{AllocError, Global};
 
 /// A claim with its key, both borrowed from the table.
-fn claim_at<'a>(claims: &'a Table<Key, ClaimState>, key: &Key) -> Option<(&'a Key, &'a ClaimState)>
+fn claim_at<'a>(
+    claims: &'a SharedMap<Key, ClaimState>,
+    key: &Key,
+) -> Option<(&'a Key, &'a ClaimState)>
     ensures key { IfSome result (λ entry. entry.0.now ≡ key.now) }
     ensures claim { option_map (λ entry. entry.1.now) result ≡ at_key claims.now key.now }
 {
-    claims.as_map().get_key_value(key)
+    claims.get_key_value(key)
 }
 
 /// Puts a claim at the end, if it is there and has no grant.
 fn add_claim<'a>(
     wanted: &mut Vec<WantedClaim<'a>>,
-    claims: &'a Table<Key, ClaimState>,
+    claims: &'a SharedMap<Key, ClaimState>,
     key: &Key,
 ) -> Result<(), AllocError>
     ensures { OnOk result (wanted.new.items ≡ wanted.old.items ++ add_wanted key.now (at_key claims.now key.now) []) }
@@ -43,7 +46,7 @@ fn add_claim<'a>(
 /// Those of the claims that are there and have no grant, in order.
 fn wanted_among<'a>(
     alloc: Global,
-    claims: &'a Table<Key, ClaimState>,
+    claims: &'a SharedMap<Key, ClaimState>,
     keys: &[Key],
 ) -> Result<Vec<WantedClaim<'a>>, AllocError>
     ensures { IfOk result (λ wanted. wanted.items ≡ wanted_at claims.now keys.now) }
@@ -58,7 +61,7 @@ fn wanted_among<'a>(
 /// What `wanted_claims` returns, by the table of the claims.
 pub fn wanted_in<'a>(
     alloc: Global,
-    claims: &'a Table<Key, ClaimState>,
+    claims: &'a SharedMap<Key, ClaimState>,
     pod: &Pod,
 ) -> Result<Vec<WantedClaim<'a>>, AllocError>
     ensures { IfOk result (λ wanted. wanted.items ≡ wanted_at claims.now (keys_of_pod pod.now)) }

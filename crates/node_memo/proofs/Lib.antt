@@ -1,3 +1,2 @@
 pub mod PoolDates
-pub mod Places
 pub mod Rows

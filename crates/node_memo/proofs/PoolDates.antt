@@ -1,8 +1,10 @@
--- The index of a pool in a table after an insertion and after a change.
-use Rattle.std.proofs.Common.{ℕ, ◌≡◌, ◌≤◌, ◌∙◌, List, [], ◌∷◌, Bool, true, false, cond, ◌&&◌, Option, None, Some, refl, sym, ap, arith}
-use Rattle.std.specs.BTreeMap.{insert_entry, is_at}
+-- The index of a pool among entries after an insertion, and at a place.
+use Rattle.std.proofs.Common.{ℕ, zero, suc, ◌≡◌, ◌≤◌, ◌∙◌, List, [], ◌∷◌, ◌++◌, Bool, true, false, cond, ◌&&◌, Option, None, Some, refl, sym, ap, arith}
+use Rattle.std.specs.BTreeMap.{insert_entry}
 use Rattle.std.specs.Cmp.Lexicographic.{same_text, texts_ties}
-use Rattle.std.specs.Map.{set_value}
+use Rattle.std.specs.List.{AllByRecursion, slice_get}
+use Rattle.std.specs.List.Sorted.{IsStrictlySortedBy}
+use Rattle.std.specs.Map.{keys_of}
 use Rattle.std.specs.Option.{is_some, unwrap_or}
 use Rattle.std.specs.Ordering.{is_eq, match_ordering, ordering_reverse, ordering_then}
 use Rattle.std.specs.declared.cmp.Ordering.{Ordering}
@@ -11,6 +13,7 @@ use Rattle.std.proofs.lemmas.Cmp.{nat_list_cmp_total}
 use Rattle.pool_view.specs.declared.names.PoolName.{PoolName}
 use Rattle.pool_view.specs.Names.{text_cmp, text_eq}
 use Rattle.pool_view.specs.Usable.{pool_cmp}
+use Rattle.shared_map.specs.Chunks.{IsEntry}
 use Rattle.node_memo.specs.Dated.{AreUpTo, at, index_in, names}
 
 -- ---- names
@@ -86,24 +89,9 @@ insert_by Greater e es more k q v s h =
     ap (λ (r : Option ℕ). cond (is_eq (pool_cmp q e.0)) (Some e.1) r) h
     ∙ pick (is_eq (pool_cmp q e.0)) (is_eq (pool_cmp q k)) (Some v) (Some e.1) (at q es) (apart_greater q k e.0 s)
 
-pub at_insert : (es : List (PoolName × ℕ)) (k q : PoolName) (v : ℕ) → at q (insert_entry pool_cmp es k v) ≡ cond (is_eq (pool_cmp q k)) (Some v) (at q es)
+at_insert : (es : List (PoolName × ℕ)) (k q : PoolName) (v : ℕ) → at q (insert_entry pool_cmp es k v) ≡ cond (is_eq (pool_cmp q k)) (Some v) (at q es)
 at_insert [] k q v = refl
 at_insert (e ∷ es) k q v = insert_by (pool_cmp k e.0) e es (insert_entry pool_cmp es k v) k q v refl (at_insert es k q v)
-
-set_by : (b : Bool) (e : PoolName × ℕ) (es more : List (PoolName × ℕ)) (k q : PoolName) (v : ℕ) → is_eq (pool_cmp k e.0) ≡ b → is_some (cond b (Some e.1) (at k es)) ≡ true
-    → (is_some (at k es) ≡ true → at q more ≡ cond (is_eq (pool_cmp q k)) (Some v) (at q es))
-    → at q (cond b ((e.0, v) ∷ es) (e ∷ more)) ≡ cond (is_eq (pool_cmp q k)) (Some v) (at q (e ∷ es))
-set_by true e es more k q v s there h =
-    ap (λ (j : PoolName). cond (is_eq (pool_cmp q j)) (Some v) (at q es)) (sym (found k e.0 s))
-    ∙ shadow (is_eq (pool_cmp q k)) (Some v) (Some e.1) (at q es)
-    ∙ ap (λ (j : PoolName). cond (is_eq (pool_cmp q k)) (Some v) (cond (is_eq (pool_cmp q j)) (Some e.1) (at q es))) (found k e.0 s)
-set_by false e es more k q v s there h =
-    ap (λ (r : Option ℕ). cond (is_eq (pool_cmp q e.0)) (Some e.1) r) (h there)
-    ∙ pick (is_eq (pool_cmp q e.0)) (is_eq (pool_cmp q k)) (Some v) (Some e.1) (at q es) (λ f g. let is : is_eq (pool_cmp k e.0) ≡ true = ap (λ (j : PoolName). is_eq (pool_cmp j e.0)) (sym (found q k g)) ∙ f in cc)
-
-pub at_set : (es : List (PoolName × ℕ)) (k q : PoolName) (v : ℕ) → is_some (at k es) ≡ true → at q (set_value (is_at (pool_cmp k)) es v) ≡ cond (is_eq (pool_cmp q k)) (Some v) (at q es)
-at_set [] k q v there = absurd (cc)
-at_set (e ∷ es) k q v there = set_by (is_eq (pool_cmp k e.0)) e es (set_value (is_at (pool_cmp k)) es v) k q v refl there (λ h. at_set es k q v h)
 
 -- ---- as an index
 
@@ -115,49 +103,23 @@ none_there : (es : List (PoolName × ℕ)) (k q : PoolName) → at k es ≡ None
 none_there es k q none same = ap (λ (j : PoolName). at j es) (found q k same) ∙ none
 
 -- an entry with 0 changes no index
-pub room_made : (es : List (PoolName × ℕ)) (k q : PoolName) → at k es ≡ None → index_in (insert_entry pool_cmp es k 0) q ≡ index_in es q
+room_made : (es : List (PoolName × ℕ)) (k q : PoolName) → at k es ≡ None → index_in (insert_entry pool_cmp es k 0) q ≡ index_in es q
 room_made es k q none =
     ap (λ (o : Option ℕ). unwrap_or o 0) (at_insert es k q 0)
     ∙ room_by (is_eq (pool_cmp q k)) (at q es) (none_there es k q none)
-
-some_by : (b : Bool) (o : Option ℕ) (v : ℕ) → is_some o ≡ true → is_some (cond b (Some v) o) ≡ true
-some_by true o v h = refl
-some_by false o v h = h
-
--- no row goes
-pub row_stays : (es : List (PoolName × ℕ)) (k q : PoolName) → is_some (at q es) ≡ true → is_some (at q (insert_entry pool_cmp es k 0)) ≡ true
-row_stays es k q there = ap is_some (at_insert es k q 0) ∙ some_by (is_eq (pool_cmp q k)) (at q es) 0 there
-
--- and there is one for the pool
-pub row_made : (es : List (PoolName × ℕ)) (k : PoolName) → is_some (at k (insert_entry pool_cmp es k 0)) ≡ true
-row_made es k = ap is_some (at_insert es k k 0 ∙ ap (λ (o : Ordering). cond (is_eq o) (Some 0) (at k es)) (pool_self k))
 
 unwrapped : (b : Bool) (o : Option ℕ) (v : ℕ) → unwrap_or (cond b (Some v) o) 0 ≡ cond b v (unwrap_or o 0)
 unwrapped true o v = refl
 unwrapped false o v = refl
 
--- the index that was set is the pool's, and the others stay
-pub index_set : (es : List (PoolName × ℕ)) (k q : PoolName) (v : ℕ) → is_some (at k es) ≡ true → index_in (set_value (is_at (pool_cmp k)) es v) q ≡ cond (names q k) v (index_in es q)
-index_set es k q v there =
-    ap (λ (o : Option ℕ). unwrap_or o 0) (at_set es k q v there)
+-- the index that was put is the pool's, and the others stay
+put : (es : List (PoolName × ℕ)) (k q : PoolName) (v : ℕ) → index_in (insert_entry pool_cmp es k v) q ≡ cond (names q k) v (index_in es q)
+put es k q v =
+    ap (λ (o : Option ℕ). unwrap_or o 0) (at_insert es k q v)
     ∙ unwrapped (is_eq (pool_cmp q k)) (at q es) v
     ∙ ap (λ (b : Bool). cond b v (index_in es q)) (sym (ties q k))
 
-rows_by : (b : Bool) (o : Option ℕ) (v : ℕ) → (b ≡ true → is_some o ≡ true) → is_some (cond b (Some v) o) ≡ is_some o
-rows_by true o v h = sym (h refl)
-rows_by false o v h = refl
-
-pub rows_stay : (es : List (PoolName × ℕ)) (k q : PoolName) (v : ℕ) → is_some (at k es) ≡ true → is_some (at q (set_value (is_at (pool_cmp k)) es v)) ≡ is_some (at q es)
-rows_stay es k q v there =
-    ap is_some (at_set es k q v there)
-    ∙ rows_by (is_eq (pool_cmp q k)) (at q es) v (λ same. ap (λ (j : PoolName). is_some (at j es)) (found q k same) ∙ there)
-
--- ---- the greatest
-
-pub up_to_same : (old new : List (PoolName × ℕ)) (latest : ℕ) → AreUpTo old latest → ((p : PoolName) → index_in new p ≡ index_in old p) → AreUpTo new latest
-up_to_same old new latest up same = record { each = λ p. let is = same p in let before = up.each p in omega (arith, is, before) }
-
-pub none_by : (o : Option ℕ) (b : Bool) → b ≡ is_some o → b ≡ false → o ≡ None
+none_by : (o : Option ℕ) (b : Bool) → b ≡ is_some o → b ≡ false → o ≡ None
 none_by None b e f = refl
 none_by (Some n) b e f = absurd (cc)
 
@@ -165,14 +127,47 @@ up_by : (b : Bool) (v n latest most : ℕ) → v ≤ most → latest ≤ most �
 up_by true v n latest most h i j = h
 up_by false v n latest most h i j = omega (arith, i, j)
 
-pub up_to_set : (es : List (PoolName × ℕ)) (k : PoolName) (v latest most : ℕ) → is_some (at k es) ≡ true → v ≤ most → latest ≤ most → AreUpTo es latest → AreUpTo (set_value (is_at (pool_cmp k)) es v) most
-up_to_set es k v latest most there h i up =
-    record { each = λ q. let same = index_set es k q v there in let bound = up_by (names q k) v (index_in es q) latest most h i (up.each q) in rw same bound }
+-- ---- as the code has it: `name` is a copy of the pool's name
 
--- ---- a row that is made
+-- there was no entry, and now there is one with 0
+pub room_same : (es new : List (PoolName × ℕ)) (k name p : PoolName) (b : Bool) → b ≡ is_some (at name es) → b ≡ false → name ≡ k → new ≡ insert_entry pool_cmp es name 0 → index_in new p ≡ index_in es p
+room_same es new k name p b has none is e = ap (λ (t : List (PoolName × ℕ)). index_in t p) e ∙ room_made es name p (none_by (at name es) b has none)
 
-pub made_same : (es : List (PoolName × ℕ)) (k name p : PoolName) → name ≡ k → at k es ≡ None → index_in (insert_entry pool_cmp es name 0) p ≡ index_in es p
-made_same es k name p is missing = ap (λ (n : PoolName). index_in (insert_entry pool_cmp es n 0) p) is ∙ room_made es k p missing
+pub up_to_same : (old new : List (PoolName × ℕ)) (latest : ℕ) → AreUpTo old latest → ((p : PoolName) → index_in new p ≡ index_in old p) → AreUpTo new latest
+up_to_same old new latest up same = record { each = λ p. let is = same p in let before = up.each p in omega (arith, is, before) }
 
-pub made_row : (es : List (PoolName × ℕ)) (k name : PoolName) → name ≡ k → is_some (at k (insert_entry pool_cmp es name 0)) ≡ true
-made_row es k name is = ap (λ (n : PoolName). is_some (at k (insert_entry pool_cmp es n 0))) is ∙ row_made es k
+pub index_put : (es new : List (PoolName × ℕ)) (k name p : PoolName) (v : ℕ) → name ≡ k → new ≡ insert_entry pool_cmp es name v → index_in new p ≡ cond (names p k) v (index_in es p)
+index_put es new k name p v is e = ap (λ (t : List (PoolName × ℕ)). index_in t p) e ∙ put es name p v ∙ ap (λ (n : PoolName). cond (names p n) v (index_in es p)) is
+
+pub up_to_put : (es new : List (PoolName × ℕ)) (k name : PoolName) (v latest most : ℕ) → name ≡ k → new ≡ insert_entry pool_cmp es name v → v ≤ most → latest ≤ most → AreUpTo es latest → AreUpTo new most
+up_to_put es new k name v latest most is e h i up =
+    record { each = λ p. let same = index_put es new k name p v is e in let bound = up_by (names p k) v (index_in es p) latest most h i (up.each p) in rw same bound }
+
+-- ---- at a place
+
+less_apart : (h x : PoolName) → pool_cmp h x ≡ Less → is_eq (pool_cmp x h) ≡ true → ⊥
+less_apart h x less same =
+    let e : pool_cmp h x ≡ Equal = ap (λ (j : PoolName). pool_cmp h j) (found x h same) ∙ pool_self h in
+    absurd (cc)
+
+skip : (b : Bool) (v o : Option ℕ) → (b ≡ true → ⊥) → cond b v o ≡ o
+skip true v o h = absurd (h refl)
+skip false v o h = refl
+
+above : (h : PoolName) (es : List (PoolName × ℕ)) (i : ℕ) (x : PoolName × ℕ) → AllByRecursion (λ y. pool_cmp h y ≡ Less) (keys_of es) → slice_get es i ≡ Some x → pool_cmp h x.0 ≡ Less
+above h [] i x all there = absurd (cc)
+above h (e ∷ es) zero x all there = let is : e ≡ x = cc in ap (λ (y : PoolName × ℕ). pool_cmp h y.0) (sym is) ∙ all.0
+above h (e ∷ es) (suc i) x all there = above h es i x all.1 there
+
+-- an entry of a list in the order of its names is what is found by its name
+at_index : (es : List (PoolName × ℕ)) (i : ℕ) (x : PoolName × ℕ) → IsStrictlySortedBy pool_cmp (keys_of es) → slice_get es i ≡ Some x → at x.0 es ≡ Some x.1
+unfolding IsStrictlySortedBy
+at_index [] i x sorted there = absurd (cc)
+at_index (e ∷ es) zero x sorted there =
+    let is : e ≡ x = cc in
+    ap (λ (y : PoolName × ℕ). at y.0 (e ∷ es)) (sym is) ∙ ap (λ (o : Ordering). cond (is_eq o) (Some e.1) (at e.0 es)) (pool_self e.0) ∙ ap (λ (y : PoolName × ℕ). Some y.1) is
+at_index (e ∷ es) (suc i) x sorted there =
+    skip (is_eq (pool_cmp x.0 e.0)) (Some e.1) (at x.0 es) (less_apart e.0 x.0 (above e.0 es i x sorted.0 there)) ∙ at_index es i x sorted.1 there
+
+pub at_entry : (freed : List (PoolName × ℕ)) (name k : PoolName) (index : ℕ) → IsStrictlySortedBy pool_cmp (keys_of freed) → IsEntry freed name index → names name k ≡ true → at k freed ≡ Some index
+at_entry freed name k index sorted is same = ap (λ (j : PoolName). at j freed) (sym (same_pool name k same)) ∙ at_index freed is.index (name, index) sorted is.there

@@ -14,6 +14,7 @@ use Rattle.walk.specs.Outcome.{Unsat}
 use Rattle.allocations.specs.Claims.{wanted}
 use Rattle.allocations.specs.Input.{outcome_on}
 use Rattle.allocations.specs.Lacking.{Dates, IsLacking, IsSince, Lacking, freed_for}
+use Rattle.shared_map.specs.declared.place.Place.{Place}
 use Rattle.node_memo.specs.declared.nodes.LackingNode.{LackingNode}
 use Rattle.node_memo.specs.Memo.{AreWith, IsAmong, IsKnownAt, IsRowSince, NodesFields, Tells, TellsOf, TellsRow, lacking_by}
 
@@ -99,7 +100,7 @@ tells_at s d specs budget row at t since = record {
 }
 
 -- what was found now
-pub tells_new : (s : State) (d : Dates) (specs : List ClaimSpec) (budget : ℕ) (node : List ℕ) (devices : List Offered) (pools : List PoolName) (places : Vec ℕ Global) (at : ℕ) → devices ≡ node_devices s.inventory node
+pub tells_new : (s : State) (d : Dates) (specs : List ClaimSpec) (budget : ℕ) (node : List ℕ) (devices : List Offered) (pools : List PoolName) (places : Vec Place Global) (at : ℕ) → devices ≡ node_devices s.inventory node
     → Each (λ o. IsAmong pools (pool_named o.slice)) devices → IsLacking s d (record { specs = specs; budget = budget; node = node; index = at })
     → TellsRow s d specs budget (record { node = node; index = at; pools = pools; places = places }) at
 tells_new s d specs budget node devices pools places at are each lacking = record {
@@ -196,7 +197,7 @@ pub known_tells : (s : State) (d : Dates) (inside nodes : NodesFields) (rows : L
 known_tells s d inside nodes rows position node at is known set t =
     tells_known s d inside.specs inside.budget inside.rows rows position node at known set (subst (λ (n : NodesFields). TellsOf s d n at) (sym is) t)
 
-pub kept_tells : (s : State) (d : Dates) (inside nodes : NodesFields) (rows : List (Option LackingNode)) (node copy : List ℕ) (devices : List Offered) (pools : List PoolName) (places : Vec ℕ Global) (at : ℕ) → inside ≡ nodes → copy ≡ node
+pub kept_tells : (s : State) (d : Dates) (inside nodes : NodesFields) (rows : List (Option LackingNode)) (node copy : List ℕ) (devices : List Offered) (pools : List PoolName) (places : Vec Place Global) (at : ℕ) → inside ≡ nodes → copy ≡ node
     → Each (λ o. IsAmong pools (pool_named o.slice)) devices → AreWith inside.rows rows (record { node = copy; index = at; pools = pools; places = places })
     → devices ≡ node_devices s.inventory node → IsLacking s d (record { specs = nodes.specs; budget = nodes.budget; node = node; index = at }) → TellsOf s d nodes at → TellsOf s d (record inside { rows = rows }) at
 kept_tells s d inside nodes rows node copy devices pools places at is same each w are lacking t =

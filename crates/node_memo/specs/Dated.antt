@@ -1,12 +1,11 @@
 -- When something changed that a search depends on.
-use Rattle.std.specs.Prelude.{ℕ, ◌≤◌, List, Bool, ◌&&◌, Option, is_some}
+use Rattle.std.specs.Prelude.{ℕ, ◌≤◌, List, Bool, ◌&&◌, Option}
 use Rattle.std.specs.BTreeMap.{is_at}
 use Rattle.std.specs.Map.{lookup}
 use Rattle.std.specs.Option.{unwrap_or}
 use Rattle.pool_view.specs.declared.names.PoolName.{PoolName}
 use Rattle.pool_view.specs.Names.{text_eq}
 use Rattle.pool_view.specs.Usable.{pool_cmp}
-use Rattle.allocations.specs.Lacking.{Dates}
 
 -- the names are of one pool
 abbrev pub names : PoolName → PoolName → Bool
@@ -19,10 +18,6 @@ at pool freed = lookup (is_at (pool_cmp pool)) freed
 -- and 0 if there is nothing
 abbrev pub index_in : List (PoolName × ℕ) → PoolName → ℕ
 index_in freed pool = unwrap_or (at pool freed) 0
-
--- there is room for the index of the pool
-abbrev pub has_row : Dates → PoolName → Bool
-has_row d pool = is_some (at pool d.freed)
 
 -- no pool has a greater index
 pub record AreUpTo (freed : List (PoolName × ℕ)) (latest : ℕ) : Type 0 where

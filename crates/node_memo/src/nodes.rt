@@ -20,9 +20,10 @@ use crate::same::{ask_the_same, copies_of};
 use allocations::lacking_is_found;
 use api_claim::ResourceClaim;
 use device_match::Verdicts;
-use dra_values::{Seq, Text};
+use dra_values::{Seq, Shared, Text};
 use pool_view::{DeviceRef, PoolName};
 use request_rows::WantedClaim;
+use shared_map::Place;
 use std::alloc::{AllocError, Global};
 use std::marker::Model;
 use std::mem;
@@ -33,9 +34,9 @@ pub struct LackingNode {
     pub node: Text,
     pub index: u64,
     /// The pools of the devices that it saw.
-    pub pools: Seq<PoolName>,
+    pub pools: Seq<Shared<PoolName>>,
     /// The place of each among the dates, where it had one.
-    pub places: Vec<usize>,
+    pub places: Vec<Place>,
 }
 
 /// The nodes that are known to have no allocation for claims that ask for the same, within one budget: by the position
@@ -134,25 +135,29 @@ impl LackingNodes {
     }
 }
 
-/// The place of each pool among dates; one that no pool has if it has none.
-fn places_of(alloc: Global, pools: &[PoolName], dates: &Dates) -> Result<Vec<usize>, AllocError> {
+/// The place of each pool among dates; any place if it has none.
+fn places_of(
+    alloc: Global,
+    pools: &[Shared<PoolName>],
+    dates: &Dates,
+) -> Result<Vec<Place>, AllocError> {
     let mut places = Vec::with_capacity(alloc, pools.len())?;
     for pool in pools {
-        places.push(dates.place(pool).unwrap_or(usize::MAX))?;
+        places.push(dates.place(pool))?;
     }
     Ok(places)
 }
 
-/// The place at a position; one that no pool has if there is none.
-fn place_at(places: &[usize], position: usize) -> usize {
+/// The place at a position; any place if there is none.
+fn place_at(places: &[Place], position: usize) -> Place {
     match places.get(position) {
-        None => usize::MAX,
+        None => Place::first(),
         Some(place) => *place,
     }
 }
 
 /// Whether no pool of these has an index greater than this one. `places` says where to look.
-fn are_since(pools: &[PoolName], places: &[usize], dates: &Dates, index: u64) -> bool
+fn are_since(pools: &[Shared<PoolName>], places: &[Place], dates: &Dates, index: u64) -> bool
     ensures { result ≡ list_all (λ p. nat_le (freed_for dates.now p) index) pools.now }
 {
     for position in 0..pools.len() {

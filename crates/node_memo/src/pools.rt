@@ -6,7 +6,7 @@ ghost use Rattle.pool_view.specs.Usable.{pool_named};
 ghost use Rattle.node_memo.specs.Memo.{IsAmong};
 
 use api_slice::ResourceSlice;
-use dra_values::Seq;
+use dra_values::{Seq, Shared};
 use pool_view::{DeviceRef, PoolName};
 use std::alloc::{AllocError, Global};
 
@@ -18,19 +18,19 @@ fn is_of(pool: &PoolName, slice: &ResourceSlice) -> bool
 }
 
 /// Whether the last of the pools is the slice's.
-fn is_last(pools: &[PoolName], slice: &ResourceSlice) -> bool
+fn is_last(pools: &[Shared<PoolName>], slice: &ResourceSlice) -> bool
     ensures { result ≡ true → IsAmong pools.now (pool_named slice.now) }
 {
     match pools.last() {
         None => false,
-        Some(pool) => is_of(pool, slice),
+        Some(pool) => is_of(pool.value(), slice),
     }
 }
 
 /// Puts the pool of a slice at the end, unless it is there.
 fn add_pool(
     alloc: Global,
-    pools: &mut Seq<PoolName>,
+    pools: &mut Seq<Shared<PoolName>>,
     slice: &ResourceSlice,
 ) -> Result<(), AllocError>
     ensures added { OnOk result (IsAmong pools.new (pool_named slice.now)) }
@@ -39,13 +39,13 @@ fn add_pool(
     if is_last(pools.as_slice(), slice) {
         Ok(())
     } else {
-        pools.push(PoolName::of(alloc, slice)?)
+        pools.push(Shared::new(alloc, PoolName::of(alloc, slice)?)?)
     }
 }
 
 /// The pools of devices. Of devices that follow each other and are of one pool it has the pool once. `AllocError` only
 /// if memory runs out.
-pub fn pools_of(alloc: Global, devices: &[DeviceRef]) -> Result<Seq<PoolName>, AllocError>
+pub fn pools_of(alloc: Global, devices: &[DeviceRef]) -> Result<Seq<Shared<PoolName>>, AllocError>
     ensures { IfOk result (λ pools. Each (λ o. IsAmong pools (pool_named o.slice)) devices.now) }
 {
     let mut pools = Seq::empty(alloc);

@@ -135,7 +135,7 @@ fn decide_for(
     match unready(alloc, state, key, claims.as_slice())? {
         Some(reason) => Ok(Decision::Judge(Verdict { at, reason })),
         None => {
-            let dates = Dates::new(alloc);
+            let dates = Dates::new(alloc)?;
             let object = &pod.pod.object;
             let mut tries = NodeTries::of(state, object, holders, totals, budget, &dates, at, None);
             decide_among(alloc, state, key, pod, claims.as_slice(), at, &mut tries)

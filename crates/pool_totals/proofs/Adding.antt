@@ -1,16 +1,15 @@
 -- What the held devices of slices draw, added slice after slice.
-use Rattle.std.proofs.Common.{ℕ, ◌+◌, ◌*◌, ◌<◌, ◌≤◌, ◌≡◌, ◌∙◌, List, [], ◌∷◌, false, Option, None, Some, drop, get_or, is_some, length, refl, sym, ap, subst, arith}
+use Rattle.std.proofs.Common.{ℕ, ◌+◌, ◌<◌, ◌≤◌, ◌≡◌, ◌∙◌, List, [], ◌∷◌, false, cond, Option, None, Some, drop, get_or, is_some, length, refl, sym, ap, subst, arith}
 use Rattle.std.proofs.lemmas.List.Sums.{sum_by-cons}
-use Rattle.api_slice.specs.Limits.{IsWithinLimits}
 use Rattle.api_slice.specs.declared.types.ResourceSlice.{ResourceSlice}
 use Rattle.pool_view.specs.Usable.{counted_slices, usable_slices}
 use Rattle.pool_view.specs.declared.inventory.Inventory.{Inventory}
 use Rattle.request_rules.specs.Draws.{CounterId, counter_value, drawn_by, or_value, value_among}
 use Rattle.counter_sets.specs.Holding.{Holders, offered_held}
-use Rattle.counter_sets.specs.Totals.{KeptCounters, drawn_in, keeps, sum_most, value_of}
-use Rattle.pool_totals.specs.Adding.{AreUndrawn, HasRoom, IsAdding, device_most, devices_in, held_draws}
-use Rattle.pool_totals.proofs.Counted.{AreThere, fewer_counted, no_held_draws, value_counted}
-use Rattle.pool_totals.proofs.Draws.{held_draw_most}
+use Rattle.counter_sets.specs.Totals.{KeptCounters, counter_at, drawn_in, drawn_kept, keeps, sum_most, value_kept, value_of}
+use Rattle.counter_sets.specs.declared.counter.Counter.{Counter}
+use Rattle.pool_totals.specs.Adding.{AreUndrawn, HasRoom, IsAdding, held_draws}
+use Rattle.pool_totals.proofs.Counted.{AreThere, no_held_draws, value_counted}
 use Rattle.pool_totals.proofs.Places.{item_at}
 
 -- ---- the counters of slices
@@ -45,13 +44,47 @@ fills_next all left x now new f value same = record {
 pub filled : (all : List ResourceSlice) (kept : KeptCounters) → IsFilling all [] kept → AreUndrawn all kept
 filled all kept f = record { value_is = λ c. sym (or_nothing (value_of kept c)) ∙ f.value_is c; none = f.none }
 
+-- ---- counters of slices that are cleared
+
+-- those of the slices that are left are to be cleared
+pub record IsClearing (all left : List ResourceSlice) (kept : KeptCounters) : Type 0 where
+  pub value_is : (c : CounterId) → value_of kept c ≡ value_among all c
+  pub none : (c : CounterId) → is_some (value_among left c) ≡ false → drawn_in kept c ≡ 0
+
+pub clearing_at : (xs : List ResourceSlice) (i : ℕ) (x y : ResourceSlice) (now : KeptCounters) → i < length xs → x ≡ get_or xs i x → y ≡ x → IsClearing xs (drop i xs) now → IsClearing xs (y ∷ drop (i + 1) xs) now
+clearing_at xs i x y now lt is same f =
+    subst (λ (z : ResourceSlice). IsClearing xs (z ∷ drop (i + 1) xs) now) (sym same) (subst (λ (l : List ResourceSlice). IsClearing xs l now) (item_at xs i x lt is) f)
+
+none_kept : (o : Option Counter) → is_some (value_kept o) ≡ false → drawn_kept o ≡ 0
+none_kept None e = refl
+none_kept (Some k) e = absurd (cc)
+
+-- nothing is drawn from a counter that isn't kept
+not_kept : (kept : KeptCounters) (c : CounterId) → keeps kept c ≡ false → drawn_in kept c ≡ 0
+unfolding value_of drawn_in
+not_kept kept c e = none_kept (counter_at kept c) e
+
+pub clears_none : (xs : List ResourceSlice) (kept : KeptCounters) → ((c : CounterId) → value_of kept c ≡ value_among xs c) → IsClearing xs xs kept
+clears_none xs kept value = record { value_is = value; none = λ c out. not_kept kept c (ap is_some (value c) ∙ out) }
+
+cleared_by : (o r : Option ℕ) (n : ℕ) → is_some r ≡ false → (is_some (or_value o r) ≡ false → n ≡ 0) → cond (is_some o) 0 n ≡ 0
+cleared_by None r n out h = h out
+cleared_by (Some v) r n out h = refl
+
+pub clears_next : (all left : List ResourceSlice) (x : ResourceSlice) (now new : KeptCounters) → IsClearing all (x ∷ left) now → ((c : CounterId) → value_of new c ≡ value_of now c)
+    → ((c : CounterId) → drawn_in new c ≡ cond (is_some (counter_value x c)) 0 (drawn_in now c)) → IsClearing all left new
+clears_next all left x now new f value drawn = record {
+  value_is = λ c. value c ∙ f.value_is c;
+  none = λ c out. drawn c ∙ cleared_by (counter_value x c) (value_among left c) (drawn_in now c) out (f.none c);
+}
+
+pub cleared : (all : List ResourceSlice) (kept : KeptCounters) → IsClearing all [] kept → AreUndrawn all kept
+cleared all kept f = record { value_is = f.value_is; none = λ c. f.none c refl }
+
 -- ---- what held devices draw
 
 first_draws : (h : Holders) (x : ResourceSlice) (xs : List ResourceSlice) (c : CounterId) → held_draws h (x ∷ xs) c ≡ drawn_by c (offered_held h x) + held_draws h xs c
 first_draws h x xs c = sum_by-cons (λ y. drawn_by c (offered_held h y)) x xs
-
-first_devices : (x : ResourceSlice) (xs : List ResourceSlice) → devices_in (x ∷ xs) ≡ length x.devices + devices_in xs
-first_devices x xs = sum_by-cons (λ y. length y.devices) x xs
 
 pub room_at : (h : Holders) (xs : List ResourceSlice) (i : ℕ) (x y : ResourceSlice) (now : KeptCounters) → i < length xs → x ≡ get_or xs i x → y ≡ x → HasRoom h (drop i xs) now → HasRoom h (y ∷ drop (i + 1) xs) now
 room_at h xs i x y now lt is same room =
@@ -71,64 +104,40 @@ no_rest a s n e f = omega (arith, e, f)
 pub kept_here : (h : Holders) (x : ResourceSlice) (xs : List ResourceSlice) (now : KeptCounters) → HasRoom h (x ∷ xs) now → (c : CounterId) → keeps now c ≡ false → drawn_by c (offered_held h x) ≡ 0
 kept_here h x xs now room c none = no_first (drawn_by c (offered_held h x)) (held_draws h xs c) (held_draws h (x ∷ xs) c) (first_draws h x xs c) (room.all_kept c none)
 
-fits_by : (m a l s n : ℕ) → m + n * device_most ≤ sum_most → n ≡ l + s → a ≤ l * device_most → m + a ≤ sum_most
-fits_by m a l s n h e f = omega (arith, h, e, f)
+fits_by : (m a s n : ℕ) → m + n ≤ sum_most → n ≡ a + s → m + a ≤ sum_most
+fits_by m a s n h e = omega (arith, h, e)
 
 -- and what they draw fits
-pub fits_here : (h : Holders) (x : ResourceSlice) (xs : List ResourceSlice) (now : KeptCounters) → IsWithinLimits x → HasRoom h (x ∷ xs) now → (c : CounterId) → drawn_in now c + drawn_by c (offered_held h x) ≤ sum_most
-fits_here h x xs now limits room c =
-    fits_by (drawn_in now c) (drawn_by c (offered_held h x)) (length x.devices) (devices_in xs) (devices_in (x ∷ xs)) (room.fits c) (first_devices x xs) (held_draw_most h x c limits)
+pub fits_here : (h : Holders) (x : ResourceSlice) (xs : List ResourceSlice) (now : KeptCounters) → HasRoom h (x ∷ xs) now → (c : CounterId) → drawn_in now c + drawn_by c (offered_held h x) ≤ sum_most
+fits_here h x xs now room c = fits_by (drawn_in now c) (drawn_by c (offered_held h x)) (held_draws h xs c) (held_draws h (x ∷ xs) c) (room.fits c) (first_draws h x xs c)
 
-room_by : (m k a l s n : ℕ) → m + n * device_most ≤ sum_most → n ≡ l + s → a ≤ l * device_most → k ≡ m + a → k + s * device_most ≤ sum_most
-room_by m k a l s n h e f g = omega (arith, h, e, f, g)
+room_by : (m k a s n : ℕ) → m + n ≤ sum_most → n ≡ a + s → k ≡ m + a → k + s ≤ sum_most
+room_by m k a s n h e f = omega (arith, h, e, f)
 
-pub room_next : (h : Holders) (x : ResourceSlice) (xs : List ResourceSlice) (now new : KeptCounters) → IsWithinLimits x → HasRoom h (x ∷ xs) now → ((c : CounterId) → value_of new c ≡ value_of now c) → ((c : CounterId) → drawn_in new c ≡ drawn_in now c + drawn_by c (offered_held h x))
+pub room_next : (h : Holders) (x : ResourceSlice) (xs : List ResourceSlice) (now new : KeptCounters) → HasRoom h (x ∷ xs) now → ((c : CounterId) → value_of new c ≡ value_of now c) → ((c : CounterId) → drawn_in new c ≡ drawn_in now c + drawn_by c (offered_held h x))
     → HasRoom h xs new
-room_next h x xs now new limits room same more = record {
+room_next h x xs now new room same more = record {
   all_kept = λ c none. no_rest (drawn_by c (offered_held h x)) (held_draws h xs c) (held_draws h (x ∷ xs) c) (first_draws h x xs c) (room.all_kept c (ap is_some (sym (same c)) ∙ none));
-  fits = λ c. room_by (drawn_in now c) (drawn_in new c) (drawn_by c (offered_held h x)) (length x.devices) (devices_in xs) (devices_in (x ∷ xs)) (room.fits c) (first_devices x xs) (held_draw_most h x c limits) (more c);
+  fits = λ c. room_by (drawn_in now c) (drawn_in new c) (drawn_by c (offered_held h x)) (held_draws h xs c) (held_draws h (x ∷ xs) c) (room.fits c) (first_draws h x xs c) (more c);
 }
 
 pub adds_none : (h : Holders) (xs : List ResourceSlice) (kept : KeptCounters) → IsAdding h xs xs kept kept
-adds_none h xs kept = record { same = λ c. refl; drawn = λ c. refl; most = λ c. omega arith }
+adds_none h xs kept = record { same = λ c. refl; drawn = λ c. refl }
 
 drawn_next : (m k a s n t : ℕ) → m + n ≡ t → n ≡ a + s → k ≡ m + a → k + s ≡ t
 drawn_next m k a s n t h e g = omega (arith, h, e, g)
 
-most_next : (m k a l s n t : ℕ) → m + n * device_most ≤ t → n ≡ l + s → a ≤ l * device_most → k ≡ m + a → k + s * device_most ≤ t
-most_next m k a l s n t h e f g = omega (arith, h, e, f, g)
-
-pub adds_next : (h : Holders) (x : ResourceSlice) (all xs : List ResourceSlice) (old now new : KeptCounters) → IsWithinLimits x → IsAdding h all (x ∷ xs) old now → ((c : CounterId) → value_of new c ≡ value_of now c)
+pub adds_next : (h : Holders) (x : ResourceSlice) (all xs : List ResourceSlice) (old now new : KeptCounters) → IsAdding h all (x ∷ xs) old now → ((c : CounterId) → value_of new c ≡ value_of now c)
     → ((c : CounterId) → drawn_in new c ≡ drawn_in now c + drawn_by c (offered_held h x)) → IsAdding h all xs old new
-adds_next h x all xs old now new limits adding same more = record {
+adds_next h x all xs old now new adding same more = record {
   same = λ c. same c ∙ adding.same c;
   drawn = λ c. drawn_next (drawn_in now c) (drawn_in new c) (drawn_by c (offered_held h x)) (held_draws h xs c) (held_draws h (x ∷ xs) c) (drawn_in old c + held_draws h all c) (adding.drawn c) (first_draws h x xs c) (more c);
-  most = λ c.
-      most_next (drawn_in now c) (drawn_in new c) (drawn_by c (offered_held h x)) (length x.devices) (devices_in xs) (devices_in (x ∷ xs)) (drawn_in old c + devices_in all * device_most) (adding.most c) (first_devices x xs)
-      (held_draw_most h x c limits) (more c);
 }
 
 -- ---- the counted slices of an inventory
 
--- how many devices an inventory has at most
-abbrev pub all_most : ℕ
-all_most = 65536
-
 value_is : (i : Inventory) (xs : List ResourceSlice) (kept : KeptCounters) (c : CounterId) → xs ≡ counted_slices i → AreUndrawn xs kept → value_of kept c ≡ value_among (usable_slices i) c
 value_is i xs kept c e fresh = fresh.value_is c ∙ ap (λ (l : List ResourceSlice). value_among l c) e ∙ value_counted i c
 
-none_left : (i : Inventory) (h : Holders) (xs : List ResourceSlice) (kept : KeptCounters) (c : CounterId) → AreThere i → xs ≡ counted_slices i → AreUndrawn xs kept → keeps kept c ≡ false → held_draws h xs c ≡ 0
+pub none_left : (i : Inventory) (h : Holders) (xs : List ResourceSlice) (kept : KeptCounters) (c : CounterId) → AreThere i → xs ≡ counted_slices i → AreUndrawn xs kept → keeps kept c ≡ false → held_draws h xs c ≡ 0
 none_left i h xs kept c are e fresh none = ap (λ (l : List ResourceSlice). held_draws h l c) e ∙ no_held_draws i h c are (ap is_some (sym (value_is i xs kept c e fresh)) ∙ none)
-
-few_devices : (i : Inventory) (xs : List ResourceSlice) → xs ≡ counted_slices i → devices_in (usable_slices i) ≤ all_most → devices_in xs ≤ all_most
-few_devices i xs e few = let less = fewer_counted i in subst (λ (l : List ResourceSlice). devices_in l ≤ all_most) (sym e) (omega (arith, less, few))
-
-room_first : (m n : ℕ) → m ≡ 0 → n ≤ all_most → m + n * device_most ≤ sum_most
-room_first m n e h = omega (arith, e, h)
-
--- there is room for what held devices draw
-pub room_of : (i : Inventory) (h : Holders) (xs : List ResourceSlice) (kept : KeptCounters) → AreThere i → devices_in (usable_slices i) ≤ all_most → xs ≡ counted_slices i → AreUndrawn xs kept → HasRoom h xs kept
-room_of i h xs kept are few e fresh = record {
-  all_kept = λ c none. none_left i h xs kept c are e fresh none;
-  fits = λ c. room_first (drawn_in kept c) (devices_in xs) (fresh.none c) (few_devices i xs e few);
-}

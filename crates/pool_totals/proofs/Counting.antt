@@ -21,10 +21,10 @@ use Rattle.pool_view.specs.Usable.{counted_slices, usable_slices}
 use Rattle.request_rules.specs.Draws.{CounterId, drawn, drawn_by, drawn_from, held_devices, held_in, is_held, value_among}
 use Rattle.counter_sets.specs.Holding.{AreHeld, Holders, holder_in, offered_held}
 use Rattle.counter_sets.specs.Totals.{KeptCounters, drawn_in, keeps, sum_most, value_of}
-use Rattle.pool_totals.specs.Adding.{AreUndrawn, IsAdding, device_most, devices_in, held_draws}
-use Rattle.pool_totals.specs.Counting.{AreCounted, AreWithinLimits, device_of, draws_among, found_in, found_or, is_of, is_taken}
+use Rattle.pool_totals.specs.Adding.{AreUndrawn, HasRoom, IsAdding, device_most, devices_in, held_draws}
+use Rattle.pool_totals.specs.Counting.{AllFit, AreCounted, AreWithinLimits, HaveCounters, device_of, draws_among, found_in, found_or, is_of, is_taken}
 use Rattle.pool_totals.specs.Drawn.{AreDrawn}
-use Rattle.pool_totals.proofs.Adding.{all_most}
+use Rattle.pool_totals.proofs.Adding.{none_left}
 use Rattle.pool_totals.proofs.Counted.{AreThere, counted_usable, drawn_counted, fewer_counted, none_drawn, value_counted}
 use Rattle.pool_totals.proofs.Draws.{device_sum, held_drawn, held_most, no_sum}
 use Rattle.pool_totals.proofs.Places.{at_place, in_list, item_at}
@@ -190,6 +190,10 @@ each_all {X} P xs i h each = subst (λ (l : List X). Each P l) (take_all xs i h)
 
 -- ---- what any devices draw fits
 
+-- how many devices an inventory has at most
+abbrev pub all_most : ℕ
+all_most = 65536
+
 most_step : (a s l n : ℕ) → a ≤ l * device_most → s ≤ n * device_most → a + s ≤ (l + n) * device_most
 most_step a s l n h k = omega (arith, h, k)
 
@@ -207,25 +211,41 @@ most_of p c (x ∷ xs) limits =
 fits_by : (n k : ℕ) → n ≤ k * device_most → k ≤ all_most → n ≤ sum_most
 fits_by n k h l = omega (arith, h, l)
 
+few_counted : (i : Inventory) → devices_in (usable_slices i) ≤ all_most → devices_in (counted_slices i) ≤ all_most
+few_counted i few = let less = fewer_counted i in omega (arith, less, few)
+
+pub all_fit : (i : Inventory) (xs : List ResourceSlice) → devices_in (usable_slices i) ≤ all_most → xs ≡ counted_slices i → AreWithinLimits xs → AllFit i
+all_fit i xs few e limits chosen c =
+    fits_by (draws_among chosen (counted_slices i) c) (devices_in (counted_slices i)) (subst (λ (l : List ResourceSlice). draws_among chosen l c ≤ devices_in l * device_most) e (most_of chosen c xs limits)) (few_counted i few)
+
 -- ---- totals made anew
+
+room_first : (m n k : ℕ) → m ≡ 0 → n ≡ k → k ≤ sum_most → m + n ≤ sum_most
+room_first m n k e f h = omega (arith, e, f, h)
+
+held_counted : (i : Inventory) (h : Holders) (xs : List ResourceSlice) (c : CounterId) → xs ≡ counted_slices i → held_draws h xs c ≡ draws_among (is_taken h) (counted_slices i) c
+held_counted i h xs c e = held_same h xs c ∙ ap (λ (l : List ResourceSlice). draws_among (is_taken h) l c) e
+
+-- there is room for what held devices draw
+pub room_of : (i : Inventory) (h : Holders) (xs : List ResourceSlice) (kept : KeptCounters) → AreThere i → xs ≡ counted_slices i → AllFit i → AreUndrawn xs kept → HasRoom h xs kept
+room_of i h xs kept are e fit fresh = record {
+  all_kept = λ c none. none_left i h xs kept c are e fresh none;
+  fits = λ c. room_first (drawn_in kept c) (held_draws h xs c) (draws_among (is_taken h) (counted_slices i) c) (fresh.none c) (held_counted i h xs c e) (fit (is_taken h) c);
+}
 
 drawn_once : (m k n t : ℕ) → m + 0 ≡ k + n → k ≡ 0 → n ≡ t → m ≡ t
 drawn_once m k n t e f g = omega (arith, e, f, g)
 
-few_counted : (i : Inventory) → devices_in (usable_slices i) ≤ all_most → devices_in (counted_slices i) ≤ all_most
-few_counted i few = let less = fewer_counted i in omega (arith, less, few)
-
-pub are_counted : (i : Inventory) (h : Holders) (xs : List ResourceSlice) (kept new : KeptCounters) → devices_in (usable_slices i) ≤ all_most → xs ≡ counted_slices i → AreWithinLimits xs → AreUndrawn xs kept → IsAdding h xs [] kept new → AreCounted i h new
-are_counted i h xs kept new few e limits fresh adding = record {
+pub are_counted : (i : Inventory) (h : Holders) (xs : List ResourceSlice) (kept new : KeptCounters) → xs ≡ counted_slices i → AllFit i → AreUndrawn xs kept → IsAdding h xs [] kept new → AreCounted i h new
+are_counted i h xs kept new e fit fresh adding = record {
   value_is = λ c. adding.same c ∙ fresh.value_is c ∙ ap (λ (l : List ResourceSlice). value_among l c) e ∙ value_counted i c;
-  drawn_is = λ c.
-      drawn_once (drawn_in new c) (drawn_in kept c) (held_draws h xs c) (draws_among (is_taken h) (counted_slices i) c) (adding.drawn c) (fresh.none c)
-      (held_same h xs c ∙ ap (λ (l : List ResourceSlice). draws_among (is_taken h) l c) e);
-  fits = λ chosen c.
-      fits_by (draws_among chosen (counted_slices i) c) (devices_in (counted_slices i))
-      (subst (λ (l : List ResourceSlice). draws_among chosen l c ≤ devices_in l * device_most) e (most_of chosen c xs limits))
-      (few_counted i few);
+  drawn_is = λ c. drawn_once (drawn_in new c) (drawn_in kept c) (held_draws h xs c) (draws_among (is_taken h) (counted_slices i) c) (adding.drawn c) (fresh.none c) (held_counted i h xs c e);
+  fits = fit;
 }
+
+-- the counters are those of the slices that counters are about
+pub counters_counted : (i : Inventory) (xs : List ResourceSlice) (kept : KeptCounters) → HaveCounters i kept → xs ≡ counted_slices i → (c : CounterId) → value_of kept c ≡ value_among xs c
+counters_counted i xs kept have e c = have.value_is c ∙ sym (value_counted i c) ∙ ap (λ (l : List ResourceSlice). value_among l c) (sym e)
 
 -- ---- the device of an id
 

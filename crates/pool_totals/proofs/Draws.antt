@@ -97,10 +97,6 @@ pub held_most : (f : Offered → ℕ) (p : Offered → Bool) (x : ResourceSlice)
 held_most f p x m [] h = omega arith
 held_most f p x m (d ∷ ds) h = kept_most f (p (offered_by x d)) (offered_by x d) (filter p (map (offered_by x) ds)) (length ds) m (h 0 d refl) (held_most f p x m ds (λ i e g. h (suc i) e g))
 
-pub held_draw_most : (h : Holders) (x : ResourceSlice) (c : CounterId) → IsWithinLimits x → drawn_by c (offered_held h x) ≤ length x.devices * device_most
-unfolding drawn_by offered_held
-held_draw_most h x c limits = held_most (drawn_from c) (λ o. is_some (holder_in h (id_in o))) x device_most x.devices (λ i d there. device_sum x c i d limits there)
-
 -- ---- the held ones, by pairs
 
 some_step : (b : Bool) (x : Key) (o : Option Key) (r : Bool) → is_some o ≡ r → is_some (cond b (Some x) o) ≡ (b || r)

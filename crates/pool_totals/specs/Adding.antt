@@ -25,13 +25,12 @@ pub record AreUndrawn (xs : List ResourceSlice) (kept : KeptCounters) : Type 0 w
   pub value_is : (c : CounterId) → value_of kept c ≡ value_among xs c
   pub none : (c : CounterId) → drawn_in kept c ≡ 0
 
--- Each counter from which held devices of the slices draw is kept, and what they may draw fits.
+-- Each counter from which held devices of the slices draw is kept, and what they draw fits.
 pub record HasRoom (h : Holders) (xs : List ResourceSlice) (kept : KeptCounters) : Type 0 where
   pub all_kept : (c : CounterId) → keeps kept c ≡ false → held_draws h xs c ≡ 0
-  pub fits : (c : CounterId) → drawn_in kept c + devices_in xs * device_most ≤ sum_most
+  pub fits : (c : CounterId) → drawn_in kept c + held_draws h xs c ≤ sum_most
 
 -- What the held devices of the slices draw is added, but for those of the slices that are left.
 pub record IsAdding (h : Holders) (all left : List ResourceSlice) (old new : KeptCounters) : Type 0 where
   pub same : (c : CounterId) → value_of new c ≡ value_of old c
   pub drawn : (c : CounterId) → drawn_in new c + held_draws h left c ≡ drawn_in old c + held_draws h all c
-  pub most : (c : CounterId) → drawn_in new c + devices_in left * device_most ≤ drawn_in old c + devices_in all * device_most

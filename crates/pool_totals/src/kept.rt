@@ -10,10 +10,10 @@ ghost use Rattle.pool_view.specs.Usable.{usable_slices};
 ghost use Rattle.request_rules.specs.Draws.{CounterId, drawn, drawn_from, value_among};
 ghost use Rattle.counter_sets.specs.Holding.{AreHeld, Holders, holder_in};
 ghost use Rattle.counter_sets.specs.Totals.{KeptCounters, sum_most};
-ghost use Rattle.pool_totals.specs.Counting.{AreCounted, AreWithinLimits, device_of, found_in, is_of};
+ghost use Rattle.pool_totals.specs.Counting.{AreCounted, AreWithinLimits, HaveCounters, device_of, found_in, is_of};
 ghost use Rattle.pool_totals.specs.Drawn.{AreDrawn};
 
-use crate::totals::{add_held, undrawn};
+use crate::totals::{add_held, clear, undrawn};
 use api_slice::{Device, ResourceSlice};
 use counter_sets::{Held, Totals};
 use dra_values::{Shared, Text};
@@ -63,6 +63,19 @@ pub fn kept_totals(
     let mut totals = undrawn(alloc, counted)?;
     add_held(&mut totals, counted, holders);
     Ok(totals)
+}
+
+/// Draws what the held devices draw, in place of all that is drawn: for holders that are again those from before a
+/// change that ran out of memory, where the totals have followed a part of the change. It goes over the slices that
+/// have counter sets or devices that draw from some, and allocates nothing.
+pub fn redraw(pools: &Pools, holders: &Held, totals: &mut Totals)
+    requires { HaveCounters pools.now totals.old }
+    ensures { AreCounted pools.now holders.now totals.new }
+{
+    usable_counters_are_there();
+    let counted = pools.counted();
+    clear(totals, counted);
+    add_held(totals, counted, holders);
 }
 
 /// Whether the slice is one of the device's pool.
@@ -131,18 +144,26 @@ pub fn hold(
 }
 
 /// Takes a device from the claim that holds it, and gives back what it drew; changes nothing if none holds it.
-/// Allocates nothing.
-pub fn leave(pools: &Pools, holders: &mut Held, totals: &mut Totals, device: &DeviceId)
+/// `AllocError` only if memory runs out, and then nothing changes.
+pub fn leave(
+    alloc: Global,
+    pools: &Pools,
+    holders: &mut Held,
+    totals: &mut Totals,
+    device: &DeviceId,
+) -> Result<(), AllocError>
     requires { AreCounted pools.now holders.old totals.old }
-    ensures left { (id : DeviceId) → holder_in holders.new id ≡ (if device_eq device.now id then None else holder_in holders.old id) }
+    ensures ok { OnOk result ((id : DeviceId) → holder_in holders.new id ≡ (if device_eq device.now id then None else holder_in holders.old id)) }
+    ensures err { OnErr result (holders.new ≡ holders.old) }
     ensures counted { AreCounted pools.now holders.new totals.new }
 {
     usable_slices_differ();
     let is_held = holders.holder(device).is_some();
-    holders.remove(device);
+    holders.remove(device, alloc)?;
     if is_held {
         if let Some(found) = found_in(pools.counted(), device) {
             totals.give_back(&found);
         }
     }
+    Ok(())
 }

@@ -26,6 +26,7 @@ use Rattle.node_memo.proofs.memo.Memo.TheSendSync as memo
 use Rattle.object_fields.proofs.key.Key.TheSendSync as key
 use Rattle.pod_decision.proofs.decision.Decision.TheSendSync as decision
 use Rattle.pool_view.proofs.inventory.Inventory.TheSendSync as inventory
+use Rattle.shared_map.proofs.sharing.SharedMap.TheSendSync as shared_map
 use Rattle.cluster.specs.contracts.kept.Kept as Kept
 use Rattle.cluster.specs.contracts.ready.Ready as Ready
 use Rattle.cluster.specs.contracts.ready.Ready.TheInside as ReadyInside
@@ -72,10 +73,17 @@ claim_state_send = search in_claim depth 60 fits 20000
 claim_state_sync : IsSync ClaimState.the_row
 claim_state_sync = search in_claim depth 60 fits 20000
 
-ruleset in_state = (claim_state_send, claim_state_sync, class_send, class_sync, inventory.the_send, inventory.the_sync, pod_state.the_send, pod_state.the_sync, key.the_send, key.the_sync, text.the_send, text.the_sync, maps.crosses, crosses, sendable)
-
 state_send : IsSend State.the_row
-state_send = search in_state depth 60 fits 20000
+state_send = declared_send State.the_type (
+  search (inventory.the_send, inventory.the_sync, crosses, sendable) depth 60 fits 20000,
+  (
+    search (class_send, class_sync, text.the_send, text.the_sync, maps.crosses, crosses, sendable) depth 60 fits 20000,
+    (
+      search (claim_state_send, claim_state_sync, key.the_send, key.the_sync, shared_map.the_send, sendable) depth 60 fits 20000,
+      (search (pod_state.the_send, pod_state.the_sync, key.the_send, key.the_sync, shared_map.the_send, sendable) depth 60 fits 20000, tt),
+    ),
+  ),
+)
 
 pub ledger_send : IsSend Ledger.the_row
 ledger_send = view_send _ _ _ _ _ (declared_send LedgerInside.the_type (

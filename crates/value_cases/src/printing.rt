@@ -7,11 +7,12 @@ use api_slice::ResourceSlice;
 use cluster::{
     ClaimState, DeviceResult, Granted, Kept, Phase, PodState, State, Target, Use, Users,
 };
-use dra_values::{Seq, Shared, Table, Text};
+use dra_values::{Seq, Shared, Text};
 use object_fields::{DeviceId, FieldError, Key};
 use pool_view::Stored;
 use ready_objects::ReadyClaim;
 use serde_json::Value;
+use shared_map::SharedMap;
 use std::alloc::{AllocError, Global};
 use std::str;
 
@@ -180,11 +181,11 @@ fn with_user(alloc: Global, users: &Users, pod: &str, how: Use) -> Result<Users,
 }
 
 /// That pod alone, as `p0`.
-fn pods(alloc: Global, pod: Stored<Shared<Pod>>) -> Result<Table<Key, PodState>, AllocError> {
+fn pods(alloc: Global, pod: Stored<Shared<Pod>>) -> Result<SharedMap<Key, PodState>, AllocError> {
     let key = key(alloc, "p0")?;
     let phase = Phase::Idle;
-    let mut pods = Table::new(alloc);
-    pods.insert(key, PodState { pod, phase })?;
+    let mut pods = SharedMap::new(alloc)?;
+    pods.insert(alloc, key, PodState { pod, phase })?;
     Ok(pods)
 }
 

@@ -1,4 +1,4 @@
-use Rattle.ledger_core.proofs.Giving.{give_next, others_next}
+use Rattle.ledger_core.proofs.Giving.{give_next}
 use Rattle.ledger_core.proofs.holding.give_all.Goals as goal
 
 pub loop-found-preserved : goal.loop-found-preserved
@@ -6,8 +6,5 @@ loop-found-preserved c = record {
   given = λ id.
       give_next c.args.claim.now c.args.results.now c.loop-found.found-index c.found-item.result c.loop-found.holders c.give.new.holders id _ c.loop-found-test.true c.found-item.is (c.in_ok-give.ensures.ok id)
       (c.loop-found.invariant.given id);
-  others = λ id.
-      others_next c.args.claim.now c.args.results.now c.loop-found.found-index c.found-item.result c.loop-found.holders c.give.new.holders id _ c.loop-found-test.true c.found-item.is (c.in_ok-give.ensures.ok id)
-      (c.loop-found.invariant.others id);
   counted = c.give.ensures.counted;
 }

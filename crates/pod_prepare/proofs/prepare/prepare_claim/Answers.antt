@@ -20,5 +20,5 @@ prepare_told-requires g c = record {
 pub returns-clause-done : goal.returns-clause-done
 returns-clause-done g c =
     let k = c.args.kubelet in
-    let there : at_key c.args.state.now.claims c.args.claim.now ≡ Some c.in-Some.found.now = ap (λ t. at_key t c.args.claim.now) (sym c.deref.ensures) ∙ sym c.get.ensures ∙ ap (λ o. option_copied o) c.in-Some.is in
+    let there : at_key c.args.state.now.claims c.args.claim.now ≡ Some c.in-Some.found.now = sym c.get.ensures ∙ ap (λ o. option_copied o) c.in-Some.is in
     if_ok c.prepare_told.result.1 _ _ (λ l t. prepare_there (asked_of (half_in k) (node_in k) c.args.state.now c.args.job) (rows_in k) (rows_in c.prepare_told.result.0) c.args.pod.now c.args.claim.now c.in-Some.found.now c.in-Ok.told l.text.items l.goes _ _ _ _ there c.in-Ok.ensures t) c.prepare_told.ensures.done

@@ -12,16 +12,16 @@ add_held-requires-clause-kept c =
 
 pub add_held-requires-clause-fits : goal.add_held-requires-clause-fits
 add_held-requires-clause-fits c = λ k some.
-    fits_here c.args.holders.now c.value-slice.result.now (drop (c.loop-slice.slice-index + 1) c.args.slices.now) c.loop-slice.totals c.keeps_limits.ensures
+    fits_here c.args.holders.now c.value-slice.result.now (drop (c.loop-slice.slice-index + 1) c.args.slices.now) c.loop-slice.totals
     (room_at c.args.holders.now c.args.slices.now c.loop-slice.slice-index c.slice-item.result c.value-slice.result.now c.loop-slice.totals c.loop-slice-test.true c.slice-item.is c.value-slice.ensures c.loop-slice.invariant.0) k
 
 pub loop-slice-preserved : goal.loop-slice-preserved
 loop-slice-preserved c =
     let rest = drop (c.loop-slice.slice-index + 1) c.args.slices.now in (
-      room_next c.args.holders.now c.value-slice.result.now rest c.loop-slice.totals c.add_held.new.self c.keeps_limits.ensures
+      room_next c.args.holders.now c.value-slice.result.now rest c.loop-slice.totals c.add_held.new.self
           (room_at c.args.holders.now c.args.slices.now c.loop-slice.slice-index c.slice-item.result c.value-slice.result.now c.loop-slice.totals c.loop-slice-test.true c.slice-item.is c.value-slice.ensures c.loop-slice.invariant.0)
           c.add_held.ensures.value c.add_held.ensures.drawn,
-      adds_next c.args.holders.now c.value-slice.result.now c.args.slices.now rest c.args.totals.now c.loop-slice.totals c.add_held.new.self c.keeps_limits.ensures
+      adds_next c.args.holders.now c.value-slice.result.now c.args.slices.now rest c.args.totals.now c.loop-slice.totals c.add_held.new.self
           (adding_at c.args.holders.now c.args.slices.now c.loop-slice.slice-index c.slice-item.result c.value-slice.result.now c.args.totals.now c.loop-slice.totals c.loop-slice-test.true c.slice-item.is c.value-slice.ensures c.loop-slice.invariant.1)
           c.add_held.ensures.value c.add_held.ensures.drawn,
     )

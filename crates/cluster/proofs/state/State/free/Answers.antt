@@ -11,5 +11,5 @@ returns-clause-ok c =
     let claims = c.args.self.now.claims in
     let there = at_key c.args.self.now.pods pod in
     let made : c.leave.new.claims ≡ with_freed index pod (claims_by there) claims =
-    c.leave.ensures ∙ rw (c.in_ok-claims.ensures.value, c.in_ok-left.ensures, c.deref.ensures, c.get.ensures, c.deref-2.ensures) (left_is index pod claims there) in
-    rw (made, c.set_phase.ensures, c.in_ok-pods.ensures.value) refl
+    c.in_ok-leave.ensures ∙ rw (c.in_ok-claims.ensures, c.in_ok-left.ensures, c.get.ensures) (left_is index pod claims there) in
+    rw (made, c.in_ok-set_phase.ensures.ok) refl

@@ -9,5 +9,5 @@ returns-clause-ok c =
     let plan = c.args.plan.now in
     let claims = c.args.self.now.claims in
     let made : c.place.new.claims ≡ with_joins pod plan.joins (with_grants plan.node pod plan.grants claims) =
-    c.place.ensures ∙ rw (c.in_ok-claims.ensures.value, c.in_ok-uses.ensures, c.deref.ensures) (placed_is pod plan claims) in
-    rw (made, c.set_phase.ensures, c.in_ok-pods.ensures.value, c.in_ok-node.ensures) refl
+    c.in_ok-place.ensures ∙ rw (c.in_ok-claims.ensures, c.in_ok-uses.ensures) (placed_is pod plan claims) in
+    rw (made, c.in_ok-set_phase.ensures.ok, c.in_ok-node.ensures) refl

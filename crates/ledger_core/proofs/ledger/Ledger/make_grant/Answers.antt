@@ -35,9 +35,3 @@ returns-clause-legal c = (invariant_of-self-2 c).0.legal
 
 pub append-requires-clause-tries : goal.append-requires-clause-tries
 append-requires-clause-tries c = few_tries _ _ _ _ _ _ _ c.args.job c.self.invariant.0 c.in_ok-index.ensures.job_states
-
-pub adopt-requires-clause-free : goal.adopt-requires-clause-free
-adopt-requires-clause-free c =
-    let e : Entry = record { job = c.args.job; event = Adopted c.args.claim.now c.args.status } in
-    let step = subst (λ (h : History). Step h.entries e) (sym c.self.view_is) (record { allowed = c.requires.job_state; follows = c.requires.adopted }) in
-    rw c.value.ensures ((adopting c.one_holder.ensures.now _ _ _ _ _ _ c.self.invariant.0 c.args.job c.args.claim.now c.args.status step).free _ c.self.invariant.0.holders_are)
