@@ -14,8 +14,7 @@ use std::marker::Model;
 /// The index of the last entry of a history that changed nodes, slices or classes, and for each pool that of the last one
 /// that may have freed a device of it; 0 where there is none.
 ///
-/// A duplicate shares the indexes of the pools. A change while one is alive copies the list of their chunks, and one
-/// chunk of a few dozen pools.
+/// A duplicate shares the indexes of the pools. A change while one is alive copies those of a few pools.
 #[derive(Drop)]
 pub struct Dates {
     objects: u64,
