@@ -18,9 +18,10 @@ use crate::layout::{Halves, Layout};
 use crate::reading::{FileRecords, read_records};
 use crate::rows::table_of;
 use crate::spelling::{compacted, empty_file, half_for, halves_of};
-use crate::writing::{move_to, put};
+use crate::writing::move_to;
 use crate::{Journal, JournalError, Record, Row};
 use dra_ports::Disk;
+use stable_writes::put;
 use std::alloc::Global;
 
 /// Makes a journal of no record out of whatever the disk holds, and makes it stable: writes the 22 bytes and

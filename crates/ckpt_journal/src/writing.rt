@@ -1,46 +1,15 @@
-ghost use Rattle.std.specs.Prelude.{◌≡◌, ◌+◌, ◌<◌, ◌≤◌, ◌^◌, [], ◌∷◌, ℕ, IfErr, IfOk, IfSome, IsErrOf, OnErr, OnOk, length};
-ghost use Rattle.std.specs.Int.{to_be_bytes, w32};
+ghost use Rattle.std.specs.Prelude.{◌≡◌, ◌+◌, ◌<◌, ◌≤◌, ◌^◌, IfSome, IsErrOf, OnErr, OnOk, length};
 ghost use Rattle.std.specs.Option.{option_map};
-ghost use Rattle.dra_ports.specs.Causes.{HasCause, Rose};
+ghost use Rattle.dra_ports.specs.Causes.{HasCause};
 ghost use Rattle.dra_ports.specs.declared.error.PortError.TheVariants.{Memory};
-ghost use Rattle.ckpt_journal.specs.Layout.{IsSized, is_half, other_half, start_of};
-ghost use Rattle.ckpt_journal.specs.Plan.{append_steps, move_steps, new_file, switch_steps};
-ghost use Rattle.ckpt_journal.specs.Steps.{Cut, Put, StepFailed, StoppedIn, all_done, done};
+ghost use Rattle.ckpt_journal.specs.Layout.{IsSized, other_half, start_of};
+ghost use Rattle.ckpt_journal.specs.Plan.{append_steps, move_steps, switch_steps};
+ghost use Rattle.ckpt_journal.specs.Steps.{StoppedIn, all_done};
 
-use crate::JournalError;
 use crate::layout::Halves;
 use crate::spelling::OPEN;
 use dra_ports::{Disk, PortError};
-use std::alloc::Global;
-
-/// Writes bytes from the offset `at` on, and makes them stable.
-pub fn put<D: Disk>(disk: &mut D, at: u64, bytes: &[u8]) -> Result<(), PortError>
-    requires { IfSome (D.content disk.old) (λ c. at ≤ length c.bytes) }
-    ensures ok { OnOk result (D.content disk.new ≡ option_map (done (Put at bytes.now)) (D.content disk.old)) }
-    ensures err { OnErr result (StepFailed (Put at bytes.now) (D.content disk.old) (D.content disk.new)) }
-    ensures long { (n : ℕ) → IfSome (D.content disk.old) (λ c. n ≤ length c.bytes) → OnOk result (IfSome (D.content disk.new) (λ c. n ≤ length c.bytes)) }
-    ensures reach { OnOk result (IfSome (D.content disk.new) (λ c. at + length bytes.now ≤ length c.bytes)) }
-    ensures cause { HasCause (D.faults disk.old) (D.faults disk.new) result }
-    ensures no_memory { IsErrOf result Memory → ⊥ }
-{
-    disk.write_at(at, bytes)?;
-    disk.sync()?;
-    Ok(())
-}
-
-/// Cuts the disk to the length `len`, and makes that stable.
-fn cut_to<D: Disk>(disk: &mut D, len: u64) -> Result<(), PortError>
-    requires { IfSome (D.content disk.old) (λ c. len ≤ length c.bytes) }
-    ensures ok { OnOk result (D.content disk.new ≡ option_map (done (Cut len)) (D.content disk.old)) }
-    ensures err { OnErr result (StepFailed (Cut len) (D.content disk.old) (D.content disk.new)) }
-    ensures long { OnOk result (IfSome (D.content disk.new) (λ c. len ≤ length c.bytes)) }
-    ensures cause { HasCause (D.faults disk.old) (D.faults disk.new) result }
-    ensures no_memory { IsErrOf result Memory → ⊥ }
-{
-    disk.cut(len)?;
-    disk.sync()?;
-    Ok(())
-}
+use stable_writes::{cut_to, put, put_both};
 
 /// Adds a record's bytes and the next gate after the closed gate at the offset `gate`, and then opens that
 /// gate. Each of the two is stable before the next.
@@ -52,9 +21,7 @@ pub fn append_at<D: Disk>(disk: &mut D, gate: u64, bytes: &[u8]) -> Result<(), P
     ensures cause { HasCause (D.faults disk.old) (D.faults disk.new) result }
     ensures no_memory { IsErrOf result Memory → ⊥ }
 {
-    put(disk, gate + 1, bytes)?;
-    put(disk, gate, &[OPEN])?;
-    Ok(())
+    put_both(disk, gate + 1, bytes, gate, &[OPEN])
 }
 
 /// Writes a compacted table to the half that isn't live, and then makes that half live. Each of the two is
@@ -69,9 +36,8 @@ pub fn switch_half<D: Disk>(disk: &mut D, halves: Halves, table: &[u8]) -> Resul
     ensures no_memory { IsErrOf result Memory → ⊥ }
 {
     let other = halves.other();
-    put(disk, other.start(), table)?;
-    put(disk, halves.base + 4, &[other.selector()])?;
-    Ok(())
+    let selector = other.selector();
+    put_both(disk, other.start(), table, halves.base + 4, &[selector])
 }
 
 /// Moves a file of version 1 over: cuts it after its closed gate, at `base`, writes the halves from there on,

@@ -8,7 +8,6 @@
 mod announced;
 mod denials;
 mod exercise;
-mod file_disk;
 mod headline;
 mod last_line;
 mod laws;
@@ -21,8 +20,6 @@ mod serving;
 mod stdio;
 mod tail;
 mod task;
-#[cfg(test)]
-mod tests;
 mod yes_driver;
 
 use announced::AnnouncedDoors;
