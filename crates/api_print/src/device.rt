@@ -6,7 +6,7 @@ ghost use Rattle.api_print.specs.Selectors.{all_nodes_if, node_name_if, node_sel
 ghost use Rattle.api_print.specs.Shapes.{list_if, member_if, table_if};
 ghost use Rattle.api_print.specs.Taints.{taints_if};
 
-use crate::fields::{Members, before, before_if, none};
+use crate::fields::{Members, before_if, before_text, none};
 use crate::listing::{Printed, some_list, some_table};
 use crate::selector::{all_nodes, node_name, selector_of_nodes};
 use api_slice::{Device, Nodes};
@@ -56,13 +56,12 @@ fn name_and_nodes(alloc: Global, device: &Device) -> Result<Members, AllocError>
         (member_if (codes "nodeSelector") (option_and_then node_selector_if device.now.nodes)
         (member_if (codes "taints") (taints_if device.now.taints) no_members)))) }
 {
-    let name = Value::try_from_str(alloc, device.name.as_str())?;
-    let node_name = own_node_name(alloc, &device.nodes)?;
-    let selector = own_selector(alloc, &device.nodes)?;
     let members = with_taints(alloc, device)?;
+    let selector = own_selector(alloc, &device.nodes)?;
     let members = before_if(members, alloc, "nodeSelector", selector)?;
+    let node_name = own_node_name(alloc, &device.nodes)?;
     let members = before_if(members, alloc, "nodeName", node_name)?;
-    before(members, alloc, "name", name)
+    before_text(members, alloc, "name", device.name.as_str())
 }
 
 #[tactic(auto, using(crate::proofs::Order::before_member_if), unfolding(crate::specs::Devices::device_json))]
@@ -71,12 +70,12 @@ impl Printed for Device {
 
     fn value(&self, alloc: Global) -> Result<Value, AllocError> {
         let properties = &self.properties;
-        let attributes = some_table(alloc, properties.attributes())?;
-        let capacity = some_table(alloc, properties.capacity())?;
-        let consumes = some_list(alloc, self.consumes.as_slice())?;
         let members = name_and_nodes(alloc, self)?;
+        let consumes = some_list(alloc, self.consumes.as_slice())?;
         let members = before_if(members, alloc, "consumesCounters", consumes)?;
+        let capacity = some_table(alloc, properties.capacity())?;
         let members = before_if(members, alloc, "capacity", capacity)?;
+        let attributes = some_table(alloc, properties.attributes())?;
         let members = before_if(members, alloc, "attributes", attributes)?;
         let members = before_if(members, alloc, "allNodes", own_all_nodes(&self.nodes))?;
         Ok(Value::Object(members))

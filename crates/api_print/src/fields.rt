@@ -1,5 +1,5 @@
 ghost use Rattle.std.specs.Prelude.{◌≡◌, true, option_map, IfOk};
-ghost use Rattle.serde_json.specs.Data.{no_members, member, object};
+ghost use Rattle.serde_json.specs.Data.{no_members, member, object, string};
 ghost use Rattle.serde_json.specs.View.{members_view, view};
 ghost use Rattle.api_print.specs.Shapes.{comes_before, member_if};
 
@@ -30,6 +30,20 @@ pub fn before(
 {
     put(&mut members, alloc, key, value)?;
     Ok(members)
+}
+
+/// The same with a text.
+pub fn before_text(
+    members: Members,
+    alloc: Global,
+    key: &str,
+    text: &str,
+) -> Result<Members, AllocError>
+    requires { comes_before key.now (members_view members.entries) ≡ true }
+    ensures { IfOk result (λ m. members_view m.entries ≡ member key.now (string text.now) (members_view members.entries)) }
+{
+    let value = Value::try_from_str(alloc, text)?;
+    before(members, alloc, key, value)
 }
 
 /// The same with a member that may be missing.

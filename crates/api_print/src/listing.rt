@@ -85,8 +85,8 @@ pub fn table<K: Ord + Named, V: Printed>(
 {
     let mut members = Map::new(alloc);
     for (key, value) in table.as_map() {
-        let value = value.value(alloc)?;
         let name = key.name(alloc)?;
+        let value = value.value(alloc)?;
         put(&mut members, alloc, name.as_str(), value)?;
     }
     Ok(Value::Object(members))

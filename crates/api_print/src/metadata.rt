@@ -1,9 +1,9 @@
-ghost use Rattle.std.specs.Prelude.{◌≡◌, option_map, IfOk, decimal, string_bytes};
-ghost use Rattle.serde_json.specs.View.{view};
-ghost use Rattle.serde_json.specs.Data.{string};
+ghost use Rattle.std.specs.Prelude.{◌≡◌, option_map, IfOk, codes, decimal, string_bytes};
+ghost use Rattle.serde_json.specs.View.{members_view, view};
+ghost use Rattle.serde_json.specs.Data.{member, no_members, string};
 ghost use Rattle.api_print.specs.Metadata.{key_metadata_json, metadata_json, object_json, uid_text};
 
-use crate::fields::{before, before_if, none};
+use crate::fields::{Members, before, before_if, before_text, none};
 use object_fields::Key;
 use serde_json::Value;
 use std::alloc::{AllocError, Global};
@@ -34,6 +34,17 @@ fn version_string(alloc: Global, version: u64) -> Result<Value, AllocError>
     Ok(Value::String(text))
 }
 
+/// `resourceVersion` and `uid`.
+fn version_and_uid(alloc: Global, version: u64, place: u64) -> Result<Members, AllocError>
+    ensures { IfOk result (λ m. members_view m.entries ≡ member (codes "resourceVersion") (string (decimal version))
+        (member (codes "uid") (string (uid_text place)) no_members)) }
+{
+    let uid = uid(alloc, place)?;
+    let members = before(none(alloc), alloc, "uid", uid)?;
+    let version = version_string(alloc, version)?;
+    before(members, alloc, "resourceVersion", version)
+}
+
 /// The metadata of an object without namespace.
 pub fn metadata(
     alloc: Global,
@@ -44,12 +55,8 @@ pub fn metadata(
 ) -> Result<Value, AllocError>
     ensures { IfOk result (λ v. view v ≡ metadata_json (option_map view labels) name.now version place) }
 {
-    let name = Value::try_from_str(alloc, name)?;
-    let version = version_string(alloc, version)?;
-    let uid = uid(alloc, place)?;
-    let members = before(none(alloc), alloc, "uid", uid)?;
-    let members = before(members, alloc, "resourceVersion", version)?;
-    let members = before(members, alloc, "name", name)?;
+    let members = version_and_uid(alloc, version, place)?;
+    let members = before_text(members, alloc, "name", name)?;
     let members = before_if(members, alloc, "labels", labels)?;
     Ok(Value::Object(members))
 }
@@ -58,14 +65,9 @@ pub fn metadata(
 pub fn key_metadata(alloc: Global, key: &Key, version: u64, place: u64) -> Result<Value, AllocError>
     ensures { IfOk result (λ v. view v ≡ key_metadata_json key.now version place) }
 {
-    let name = Value::try_from_str(alloc, key.name.as_str())?;
-    let namespace = Value::try_from_str(alloc, key.namespace.as_str())?;
-    let version = version_string(alloc, version)?;
-    let uid = uid(alloc, place)?;
-    let members = before(none(alloc), alloc, "uid", uid)?;
-    let members = before(members, alloc, "resourceVersion", version)?;
-    let members = before(members, alloc, "namespace", namespace)?;
-    let members = before(members, alloc, "name", name)?;
+    let members = version_and_uid(alloc, version, place)?;
+    let members = before_text(members, alloc, "namespace", key.namespace.as_str())?;
+    let members = before_text(members, alloc, "name", key.name.as_str())?;
     Ok(Value::Object(members))
 }
 
@@ -81,12 +83,10 @@ pub fn object(
 ) -> Result<Value, AllocError>
     ensures { IfOk result (λ v. view v ≡ object_json version.now kind.now (view metadata) (option_map view spec) (option_map view status)) }
 {
-    let version = Value::try_from_str(alloc, version)?;
-    let kind = Value::try_from_str(alloc, kind)?;
     let members = before_if(none(alloc), alloc, "status", status)?;
     let members = before_if(members, alloc, "spec", spec)?;
     let members = before(members, alloc, "metadata", metadata)?;
-    let members = before(members, alloc, "kind", kind)?;
-    let members = before(members, alloc, "apiVersion", version)?;
+    let members = before_text(members, alloc, "kind", kind)?;
+    let members = before_text(members, alloc, "apiVersion", version)?;
     Ok(Value::Object(members))
 }

@@ -2,7 +2,7 @@ ghost use Rattle.std.specs.Prelude.{◌≡◌, IfOk};
 ghost use Rattle.serde_json.specs.View.{view};
 ghost use Rattle.api_print.specs.Pods.{pod_claim_json, pod_json, pod_spec_json};
 
-use crate::fields::{before, none, only_if};
+use crate::fields::{before_text, none, only_if};
 use crate::listing::{Printed, some_list};
 use crate::metadata::{key_metadata, object};
 use api_cluster::{Pod, PodResourceClaim};
@@ -15,10 +15,8 @@ impl Printed for PodResourceClaim {
     ghost json = { pod_claim_json };
 
     fn value(&self, alloc: Global) -> Result<Value, AllocError> {
-        let name = Value::try_from_str(alloc, self.name.as_str())?;
-        let claim = Value::try_from_str(alloc, self.claim.as_str())?;
-        let members = before(none(alloc), alloc, "resourceClaimName", claim)?;
-        let members = before(members, alloc, "name", name)?;
+        let members = before_text(none(alloc), alloc, "resourceClaimName", self.claim.as_str())?;
+        let members = before_text(members, alloc, "name", self.name.as_str())?;
         Ok(Value::Object(members))
     }
 }

@@ -7,7 +7,7 @@ ghost use Rattle.api_print.specs.Shapes.{member_if};
 ghost use Rattle.api_print.specs.Taints.{tolerations_if};
 
 use crate::class::some_selectors;
-use crate::fields::{Members, before, before_if, none};
+use crate::fields::{Members, before, before_if, before_text, none};
 use crate::listing::{Printed, flag, list, some_list};
 use api_claim::{
     AllocationMode, DeviceAsk, DeviceRequest, DeviceSubRequest, ExactDeviceRequest, RequestKind,
@@ -40,8 +40,8 @@ fn with_lists(alloc: Global, ask: &DeviceAsk) -> Result<Members, AllocError>
         (member_if (codes "tolerations") (tolerations_if ask.now.tolerations) no_members)) }
 {
     let tolerations = some_list(alloc, ask.tolerations.as_slice())?;
-    let selectors = some_selectors(alloc, ask.selectors.as_slice())?;
     let members = before_if(none(alloc), alloc, "tolerations", tolerations)?;
+    let selectors = some_selectors(alloc, ask.selectors.as_slice())?;
     before_if(members, alloc, "selectors", selectors)
 }
 
@@ -50,12 +50,10 @@ fn exactly(alloc: Global, exactly: &ExactDeviceRequest) -> Result<Value, AllocEr
     ensures { IfOk result (λ v. view v ≡ exactly_json exactly.now) }
 {
     let ask = &exactly.ask;
-    let class = Value::try_from_str(alloc, ask.class.as_str())?;
-    let mode = Value::try_from_str(alloc, mode_text(ask.mode))?;
     let members = with_lists(alloc, ask)?;
-    let members = before(members, alloc, "deviceClassName", class)?;
+    let members = before_text(members, alloc, "deviceClassName", ask.class.as_str())?;
     let members = before_if(members, alloc, "count", count(ask.mode))?;
-    let members = before(members, alloc, "allocationMode", mode)?;
+    let members = before_text(members, alloc, "allocationMode", mode_text(ask.mode))?;
     let members = before_if(members, alloc, "adminAccess", flag(exactly.admin))?;
     Ok(Value::Object(members))
 }
@@ -66,14 +64,11 @@ impl Printed for DeviceSubRequest {
 
     fn value(&self, alloc: Global) -> Result<Value, AllocError> {
         let ask = &self.ask;
-        let name = Value::try_from_str(alloc, self.name.as_str())?;
-        let class = Value::try_from_str(alloc, ask.class.as_str())?;
-        let mode = Value::try_from_str(alloc, mode_text(ask.mode))?;
         let members = with_lists(alloc, ask)?;
-        let members = before(members, alloc, "name", name)?;
-        let members = before(members, alloc, "deviceClassName", class)?;
+        let members = before_text(members, alloc, "name", self.name.as_str())?;
+        let members = before_text(members, alloc, "deviceClassName", ask.class.as_str())?;
         let members = before_if(members, alloc, "count", count(ask.mode))?;
-        let members = before(members, alloc, "allocationMode", mode)?;
+        let members = before_text(members, alloc, "allocationMode", mode_text(ask.mode))?;
         Ok(Value::Object(members))
     }
 }

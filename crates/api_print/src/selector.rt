@@ -5,7 +5,7 @@ ghost use Rattle.serde_json.specs.View.{view};
 ghost use Rattle.api_print.specs.Selectors.{all_nodes_if, node_name_if, node_selector_if, node_selector_json, operator_text, requirement_json, term_json, values_if};
 ghost use Rattle.api_print.specs.Shapes.{list_json};
 
-use crate::fields::{before, before_if, none, only};
+use crate::fields::{before_if, before_text, none, only};
 use crate::listing::{Printed, list, some_list};
 use api_slice::Nodes;
 use node_select::{Requirement, Selector, Test};
@@ -59,10 +59,8 @@ impl Printed for Requirement {
     ghost json = { requirement_json };
 
     fn value(&self, alloc: Global) -> Result<Value, AllocError> {
-        let key = Value::try_from_str(alloc, self.key.as_str())?;
-        let operator = Value::try_from_str(alloc, operator_text(&self.test))?;
         let values = some_values(alloc, &self.test)?;
-        requirement(alloc, key, operator, values)
+        requirement(alloc, self.key.as_str(), operator_text(&self.test), values)
     }
 }
 
@@ -73,15 +71,15 @@ ghost use Rattle.api_print.specs.Shapes.{member_if};
 #[tactic(auto, using(crate::proofs::Order::before_member_if))]
 fn requirement(
     alloc: Global,
-    key: Value,
-    operator: Value,
+    key: &str,
+    operator: &str,
     values: Option<Value>,
 ) -> Result<Value, AllocError>
-    ensures { IfOk result (λ v. view v ≡ object (member (codes "key") (view key) (member (codes "operator") (view operator) (member_if (codes "values") (option_map view values) no_members)))) }
+    ensures { IfOk result (λ v. view v ≡ object (member (codes "key") (string key.now) (member (codes "operator") (string operator.now) (member_if (codes "values") (option_map view values) no_members)))) }
 {
     let members = before_if(none(alloc), alloc, "values", values)?;
-    let members = before(members, alloc, "operator", operator)?;
-    let members = before(members, alloc, "key", key)?;
+    let members = before_text(members, alloc, "operator", operator)?;
+    let members = before_text(members, alloc, "key", key)?;
     Ok(Value::Object(members))
 }
 
@@ -89,9 +87,9 @@ fn requirement(
 fn term(alloc: Global, selector: &Selector) -> Result<Value, AllocError>
     ensures { IfOk result (λ v. view v ≡ term_json selector.now) }
 {
-    let expressions = some_list(alloc, selector.expressions.as_slice())?;
     let fields = some_list(alloc, selector.fields.as_slice())?;
     let members = before_if(none(alloc), alloc, "matchFields", fields)?;
+    let expressions = some_list(alloc, selector.expressions.as_slice())?;
     let members = before_if(members, alloc, "matchExpressions", expressions)?;
     Ok(Value::Object(members))
 }

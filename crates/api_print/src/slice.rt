@@ -5,7 +5,7 @@ ghost use Rattle.api_print.specs.Devices.{counter_set_json};
 ghost use Rattle.api_print.specs.Shapes.{list_if, member_if};
 ghost use Rattle.api_print.specs.Slices.{pool_json, slice_all_nodes, slice_json, slice_node_name, slice_node_selector, slice_per_device, slice_spec_json};
 
-use crate::fields::{Members, before, before_if, none};
+use crate::fields::{Members, before, before_if, before_text, none};
 use crate::listing::some_list;
 use crate::metadata::{metadata, object};
 use crate::selector::{all_nodes, node_name, selector_of_nodes};
@@ -18,10 +18,9 @@ use std::alloc::{AllocError, Global};
 fn pool(alloc: Global, pool: &Pool) -> Result<Value, AllocError>
     ensures { IfOk result (λ v. view v ≡ pool_json pool.now) }
 {
-    let name = Value::try_from_str(alloc, pool.name.as_str())?;
     let slices = Value::from(pool.slices);
     let members = before(none(alloc), alloc, "resourceSliceCount", slices)?;
-    let members = before(members, alloc, "name", name)?;
+    let members = before_text(members, alloc, "name", pool.name.as_str())?;
     let generation = Value::from(pool.generation);
     let members = before(members, alloc, "generation", generation)?;
     Ok(Value::Object(members))
@@ -68,9 +67,9 @@ fn pool_and_counters(alloc: Global, slice: &ResourceSlice) -> Result<Members, Al
     ensures { IfOk result (λ m. members_view m.entries ≡ member (codes "pool") (pool_json slice.now.pool)
         (member_if (codes "sharedCounters") (list_if counter_set_json slice.now.counters) no_members)) }
 {
-    let pool = pool(alloc, &slice.pool)?;
     let counters = some_list(alloc, slice.counters.as_slice())?;
     let members = before_if(none(alloc), alloc, "sharedCounters", counters)?;
+    let pool = pool(alloc, &slice.pool)?;
     before(members, alloc, "pool", pool)
 }
 
@@ -91,8 +90,7 @@ fn driver_and_nodes(alloc: Global, slice: &ResourceSlice) -> Result<Members, All
     let members = before_if(members, alloc, "nodeSelector", selector)?;
     let node_name = node_name_of(alloc, &slice.nodes)?;
     let members = before_if(members, alloc, "nodeName", node_name)?;
-    let driver = Value::try_from_str(alloc, slice.driver.as_text().as_str())?;
-    before(members, alloc, "driver", driver)
+    before_text(members, alloc, "driver", slice.driver.as_text().as_str())
 }
 
 /// The spec of a slice.

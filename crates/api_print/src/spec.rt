@@ -3,7 +3,7 @@ ghost use Rattle.serde_json.specs.View.{view};
 ghost use Rattle.api_print.specs.Claims.{claim_devices_json, claim_spec_json, constraint_json};
 ghost use Rattle.api_print.specs.Devices.{full_name};
 
-use crate::fields::{before, before_if, none, only};
+use crate::fields::{before, before_if, before_text, none, only};
 use crate::listing::{Named, Printed, list, some_list};
 use api_claim::{DeviceConstraint, ResourceClaim};
 use serde_json::Value;
@@ -14,11 +14,10 @@ impl Printed for DeviceConstraint {
     ghost json = { constraint_json };
 
     fn value(&self, alloc: Global) -> Result<Value, AllocError> {
-        let attribute = self.attribute.name(alloc)?;
-        let attribute = Value::try_from_str(alloc, attribute.as_str())?;
         let requests = some_list(alloc, self.requests.as_slice())?;
         let members = before_if(none(alloc), alloc, "requests", requests)?;
-        let members = before(members, alloc, "matchAttribute", attribute)?;
+        let attribute = self.attribute.name(alloc)?;
+        let members = before_text(members, alloc, "matchAttribute", attribute.as_str())?;
         Ok(Value::Object(members))
     }
 }
@@ -26,9 +25,9 @@ impl Printed for DeviceConstraint {
 fn claim_devices(alloc: Global, claim: &ResourceClaim) -> Result<Value, AllocError>
     ensures { IfOk result (λ v. view v ≡ claim_devices_json claim.now) }
 {
-    let constraints = some_list(alloc, claim.constraints.as_slice())?;
     let requests = list(alloc, claim.requests.as_slice())?;
     let members = before(none(alloc), alloc, "requests", requests)?;
+    let constraints = some_list(alloc, claim.constraints.as_slice())?;
     let members = before_if(members, alloc, "constraints", constraints)?;
     Ok(Value::Object(members))
 }

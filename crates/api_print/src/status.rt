@@ -3,7 +3,7 @@ ghost use Rattle.serde_json.specs.Data.{Data};
 ghost use Rattle.serde_json.specs.View.{view};
 ghost use Rattle.api_print.specs.Status.{allocation_json, grant_node_json, items_if, one_field_json, one_node_json, result_json, results_json, status_if, status_json, user_by, user_json, user_of, written_users};
 
-use crate::fields::{before, before_if, none, only};
+use crate::fields::{before, before_if, before_text, none, only};
 use crate::listing::{Printed, flag, list};
 use crate::metadata::uid;
 use crate::selector::list_of_one;
@@ -18,14 +18,11 @@ impl Printed for DeviceResult {
     ghost json = { result_json };
 
     fn value(&self, alloc: Global) -> Result<Value, AllocError> {
-        let device = Value::try_from_str(alloc, self.device.device.as_str())?;
-        let driver = Value::try_from_str(alloc, self.device.driver.as_str())?;
-        let pool = Value::try_from_str(alloc, self.device.pool.as_str())?;
-        let request = Value::try_from_str(alloc, self.name.as_str())?;
-        let members = before(none(alloc), alloc, "request", request)?;
-        let members = before(members, alloc, "pool", pool)?;
-        let members = before(members, alloc, "driver", driver)?;
-        let members = before(members, alloc, "device", device)?;
+        let device = &self.device;
+        let members = before_text(none(alloc), alloc, "request", self.name.as_str())?;
+        let members = before_text(members, alloc, "pool", device.pool.as_str())?;
+        let members = before_text(members, alloc, "driver", device.driver.as_str())?;
+        let members = before_text(members, alloc, "device", device.device.as_str())?;
         let members = before_if(members, alloc, "adminAccess", flag(self.admin))?;
         Ok(Value::Object(members))
     }
@@ -44,11 +41,9 @@ fn one_node(alloc: Global, node: &Text) -> Result<Value, AllocError>
 {
     let node = Value::try_from_str(alloc, node.as_str())?;
     let values = list_of_one(alloc, node)?;
-    let operator = Value::try_from_str(alloc, "In")?;
-    let key = Value::try_from_str(alloc, "metadata.name")?;
     let members = before(none(alloc), alloc, "values", values)?;
-    let members = before(members, alloc, "operator", operator)?;
-    let members = before(members, alloc, "key", key)?;
+    let members = before_text(members, alloc, "operator", "In")?;
+    let members = before_text(members, alloc, "key", "metadata.name")?;
     Ok(Value::Object(members))
 }
 
@@ -74,9 +69,9 @@ fn grant_node(alloc: Global, node: &Text) -> Result<Value, AllocError>
 fn allocation(alloc: Global, grant: &Granted) -> Result<Value, AllocError>
     ensures { IfOk result (λ v. view v ≡ allocation_json grant.now) }
 {
-    let results = results(alloc, &grant.results)?;
     let node = grant_node(alloc, &grant.node)?;
     let members = before(none(alloc), alloc, "nodeSelector", node)?;
+    let results = results(alloc, &grant.results)?;
     let members = before(members, alloc, "devices", results)?;
     Ok(Value::Object(members))
 }
@@ -84,12 +79,10 @@ fn allocation(alloc: Global, grant: &Granted) -> Result<Value, AllocError>
 fn user(alloc: Global, key: &Key, place: u64) -> Result<Value, AllocError>
     ensures { IfOk result (λ v. view v ≡ user_json key.now.name place) }
 {
-    let name = Value::try_from_str(alloc, key.name.as_str())?;
-    let resource = Value::try_from_str(alloc, "pods")?;
     let uid = uid(alloc, place)?;
     let members = before(none(alloc), alloc, "uid", uid)?;
-    let members = before(members, alloc, "resource", resource)?;
-    let members = before(members, alloc, "name", name)?;
+    let members = before_text(members, alloc, "resource", "pods")?;
+    let members = before_text(members, alloc, "name", key.name.as_str())?;
     Ok(Value::Object(members))
 }
 
@@ -156,9 +149,9 @@ fn status(
 ) -> Result<Value, AllocError>
     ensures { IfOk result (λ v. view v ≡ status_json pods.now grant.now users.now) }
 {
-    let allocation = allocation(alloc, grant)?;
     let users = written_users(alloc, pods, users)?;
     let members = before_if(none(alloc), alloc, "reservedFor", some_items(users))?;
+    let allocation = allocation(alloc, grant)?;
     let members = before(members, alloc, "allocation", allocation)?;
     Ok(Value::Object(members))
 }

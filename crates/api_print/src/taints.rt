@@ -2,7 +2,7 @@ ghost use Rattle.std.specs.Prelude.{◌≡◌, option_map, IfOk};
 ghost use Rattle.serde_json.specs.View.{view};
 ghost use Rattle.api_print.specs.Taints.{effect_if, effect_text, operator_name, taint_json, toleration_json, value_if};
 
-use crate::fields::{before, before_if, none};
+use crate::fields::{before_if, before_text, none};
 use crate::listing::{Printed, some_text};
 use device_taints::{Taint, TaintEffect, Toleration, TolerationOperator};
 use serde_json::Value;
@@ -22,12 +22,10 @@ impl Printed for Taint {
     ghost json = { taint_json };
 
     fn value(&self, alloc: Global) -> Result<Value, AllocError> {
-        let effect = Value::try_from_str(alloc, effect_text(self.effect))?;
-        let key = Value::try_from_str(alloc, self.key.as_str())?;
         let value = some_text(alloc, &self.value)?;
         let members = before_if(none(alloc), alloc, "value", value)?;
-        let members = before(members, alloc, "key", key)?;
-        let members = before(members, alloc, "effect", effect)?;
+        let members = before_text(members, alloc, "key", self.key.as_str())?;
+        let members = before_text(members, alloc, "effect", effect_text(self.effect))?;
         Ok(Value::Object(members))
     }
 }
@@ -65,13 +63,12 @@ impl Printed for Toleration {
     ghost json = { toleration_json };
 
     fn value(&self, alloc: Global) -> Result<Value, AllocError> {
-        let effect = some_effect(alloc, self.effect)?;
-        let key = some_text(alloc, &self.key)?;
-        let operator = Value::try_from_str(alloc, operator_name(&self.operator))?;
         let value = some_value(alloc, &self.operator)?;
         let members = before_if(none(alloc), alloc, "value", value)?;
-        let members = before(members, alloc, "operator", operator)?;
+        let members = before_text(members, alloc, "operator", operator_name(&self.operator))?;
+        let key = some_text(alloc, &self.key)?;
         let members = before_if(members, alloc, "key", key)?;
+        let effect = some_effect(alloc, self.effect)?;
         let members = before_if(members, alloc, "effect", effect)?;
         Ok(Value::Object(members))
     }

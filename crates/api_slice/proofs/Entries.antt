@@ -3,9 +3,11 @@ use Rattle.std.proofs.Common.{◌≡◌, ℕ, ◌+◌, ℤ, List, [], ◌∷◌,
 use Rattle.std.specs.BTreeMap.{insert_entry}
 use Rattle.std.specs.Cmp.Lexicographic.{slice_cmp}
 use Rattle.std.specs.Ordering.{nat_cmp}
-use Rattle.serde_json.specs.Data.{Data, Items, no_items, item, Members, no_members, member}
-use Rattle.object_fields.specs.Fields.{◌>>=◌}
+use Rattle.serde_json.specs.Data.{Items, no_items, item, Members, no_members, member}
+use Rattle.object_fields.specs.Fields.{UnlessMemory, ◌>>=◌}
 use Rattle.object_fields.specs.declared.error.FieldError.{FieldError}
+use Rattle.object_fields.specs.declared.kind.FieldErrorKind.{FieldErrorKind}
+use Rattle.object_fields.specs.declared.kind.FieldErrorKind.TheVariants as kind
 use Rattle.object_fields.specs.declared.path.Step.{Step}
 use Rattle.object_fields.specs.declared.path.Step.TheVariants as step
 use Rattle.object_fields.specs.declared.qualified.QualName.{QualName}
@@ -19,10 +21,27 @@ use Rattle.api_slice.specs.declared.types.Attribute.{Attribute}
 use Rattle.api_slice.specs.declared.types.CounterConsumption.{CounterConsumption}
 
 -- two steps whose values are joined before the rest are the two steps and the rest
-joined : {A B E C : Type 0} (a : Result A FieldError) (b : Result B FieldError) (e : A → B → E) (f : E → Result C FieldError) (g : A → B → Result C FieldError) → ((x : A) → (y : B) → f (e x y) ≡ g x y) → ((a >>= λ x. b >>= λ y. Ok (e x y)) >>= f) ≡ (a >>= λ x. b >>= λ y. g x y)
+pub joined : {A B E C : Type 0} (a : Result A FieldError) (b : Result B FieldError) (e : A → B → E) (f : E → Result C FieldError) (g : A → B → Result C FieldError) → ((x : A) → (y : B) → f (e x y) ≡ g x y) → ((a >>= λ x. b >>= λ y. Ok (e x y)) >>= f) ≡ (a >>= λ x. b >>= λ y. g x y)
 joined (Err z) b e f g h = refl
 joined (Ok x) (Err z) e f g h = refl
 joined (Ok x) (Ok y) e f g h = h x y
+
+-- what follows from a fact, where that holds unless out of memory
+pub unless_map : {P Q : Type 0} (k : FieldErrorKind) → (P → Q) → UnlessMemory k P → UnlessMemory k Q
+unless_map kind.Missing f p = f p
+unless_map kind.WrongType f p = f p
+unless_map kind.BadName f p = f p
+unless_map kind.TooLong f p = f p
+unless_map kind.TooMany f p = f p
+unless_map kind.NotSupported f p = f p
+unless_map kind.Memory f p = tt
+unless_map kind.Doubled f p = f p
+unless_map kind.OutOfRange f p = f p
+unless_map kind.NotOne f p = f p
+unless_map kind.BadQuantity f p = f p
+unless_map kind.BadVersion f p = f p
+unless_map kind.Unknown f p = f p
+unless_map (kind.Selector stage) f p = f p
 
 abbrev with_amounts : List ℕ → List (List ℕ × ℤ) × ℕ → CounterConsumption × ℕ
 with_amounts set amounts = (record { set = set; amounts = amounts.0 }, amounts.1)

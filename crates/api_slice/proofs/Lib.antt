@@ -6,3 +6,5 @@ pub mod Placement
 pub mod Limits
 pub mod Listed
 pub mod Entries
+pub mod Sets
+pub mod Contents

@@ -1,6 +1,8 @@
-ghost use Rattle.std.specs.Prelude.{◌≡◌, ◌&&◌, [], codes, not};
+ghost use Rattle.std.specs.Prelude.{◌≡◌, ◌&&◌, ◌++◌, ◌∷◌, [], Ok, codes, not};
 ghost use Rattle.serde_json.specs.View.{items_view, members_view, view};
+ghost use Rattle.object_fields.specs.Fields as reading;
 ghost use Rattle.object_fields.specs.Fields.{Reads, has_no_items, member_of};
+ghost use Rattle.object_fields.specs.declared.path.Step.TheVariants.{Place};
 ghost use Rattle.api_slice.specs.Counters as fields;
 ghost use Rattle.api_slice.specs.Entries.{counter_entry, counters_by};
 ghost use Rattle.api_slice.specs.Lists.{is_empty_or_none};
@@ -86,13 +88,31 @@ fn each_set(alloc: Global, values: &[Value], path: &Path) -> Result<Seq<CounterS
     let mut sets = ByName::empty(alloc);
     let mut met = 0;
     for place in 0..values.len() {
-        let at = path.place(alloc, place)?;
-        let name = new_set_name(alloc, &values[place], &at, &sets)?;
-        let (counters, more) = read_counters(alloc, &values[place], path, &at, met)?;
-        sets = or_memory(alloc, sets.with(alloc, CounterSet { name, counters }))?;
+        let (set, more) = read_set(alloc, &values[place], path, place, met, &sets)?;
+        sets = or_memory(alloc, sets.with(alloc, set))?;
         met = more;
     }
     Ok(sets.into_seq())
+}
+
+/// The set at an index of the list, and how many counters there are so far with its own.
+fn read_set(
+    alloc: Global,
+    value: &Value,
+    list: &Path,
+    place: usize,
+    met: usize,
+    sets: &ByName<CounterSet>,
+) -> Result<(CounterSet, usize), FieldError>
+    ensures { Reads result
+        (reading.◌>>=◌ (fields.new_set_name (list.now ++ Place place ∷ []) sets.now (view value.now)) (λ name.
+        reading.◌>>=◌ (fields.counters_at list.now (list.now ++ Place place ∷ []) met (view value.now)) (λ counters.
+        Ok (record { name = name; counters = counters.0 }, counters.1)))) }
+{
+    let at = list.place(alloc, place)?;
+    let name = new_set_name(alloc, value, &at, sets)?;
+    let (counters, more) = read_counters(alloc, value, list, &at, met)?;
+    Ok((CounterSet { name, counters }, more))
 }
 
 /// The name of a set that none of these has.

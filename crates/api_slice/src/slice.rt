@@ -1,17 +1,20 @@
-ghost use Rattle.std.specs.Prelude.{◌≡◌};
+ghost use Rattle.std.specs.Prelude.{◌≡◌, Ok};
 ghost use Rattle.serde_json.specs.View.{view};
+ghost use Rattle.object_fields.specs.Fields as reading;
 ghost use Rattle.object_fields.specs.Fields.{Reads};
 ghost use Rattle.object_fields.specs.Limits.{NameKept, VersionKept};
 ghost use Rattle.api_slice.specs.Slices as fields;
+ghost use Rattle.api_slice.specs.Counters.{counter_sets_at};
+ghost use Rattle.api_slice.specs.Devices.{devices_at};
 ghost use Rattle.api_slice.specs.Nodes.{is_per_device};
 
 use crate::counters::read_counter_sets;
 use crate::device::read_devices;
 use crate::driver::DriverName;
 use crate::nodes::read_slice_nodes;
-use crate::types::{Pool, ResourceSlice, SliceNodes};
+use crate::types::{CounterSet, Device, Pool, ResourceSlice, SliceNodes};
 use device_taints::taints_keep_limits;
-use dra_values::Text;
+use dra_values::{Seq, Text};
 use object_fields::{
     FieldError, ObjectMeta, Path, Scope, metadata_keeps_limits, natural, object, read_pool_name,
 };
@@ -102,8 +105,7 @@ fn read_spec(
     let driver = DriverName::read(alloc, spec, path)?;
     let pool = read_pool(alloc, spec, path)?;
     let nodes = read_slice_nodes(alloc, spec, path)?;
-    let counters = read_counter_sets(alloc, spec, path)?;
-    let devices = read_devices(alloc, spec, path, &driver, is_per_device(&nodes))?;
+    let (counters, devices) = read_contents(alloc, spec, path, &driver, is_per_device(&nodes))?;
     Ok(ResourceSlice {
         name,
         version,
@@ -113,6 +115,24 @@ fn read_spec(
         counters,
         devices,
     })
+}
+
+/// The counter sets and the devices. The driver and `per_device`, whether each device says where it
+/// is, are the slice's.
+fn read_contents(
+    alloc: Global,
+    spec: &Value,
+    path: &Path,
+    driver: &DriverName,
+    per_device: bool,
+) -> Result<(Seq<CounterSet>, Seq<Device>), FieldError>
+    ensures { Reads result
+        (reading.◌>>=◌ (counter_sets_at path.now (view spec.now)) (λ counters.
+        reading.◌>>=◌ (devices_at driver.now per_device path.now (view spec.now)) (λ devices. Ok (counters, devices)))) }
+{
+    let counters = read_counter_sets(alloc, spec, path)?;
+    let devices = read_devices(alloc, spec, path, driver, per_device)?;
+    Ok((counters, devices))
 }
 
 /// Whether each device says where it is.

@@ -51,7 +51,9 @@ pub fn value_of<'x>(
             }
             None => {
                 let left = value_of(alloc, device, left, scope, steps)?;
-                combined(alloc, device, *op, &left, right, scope, steps)
+                let joined = combined(alloc, device, *op, &left, right, scope, steps);
+                drop(left);
+                joined
             }
         },
         Kind::Conditional(test, then, otherwise) => {
@@ -62,7 +64,9 @@ pub fn value_of<'x>(
         Kind::Member(object, name) => member_of(alloc, device, object, name.as_str(), scope, steps),
         Kind::Index(object, place) => {
             let object = value_of(alloc, device, object, scope, steps)?;
-            indexed(alloc, device, &object, place, scope, steps)
+            let item = indexed(alloc, device, &object, place, scope, steps);
+            drop(object);
+            item
         }
         Kind::Call(function, arguments) => {
             call(alloc, device, function.as_str(), arguments, scope, steps)
@@ -73,7 +77,9 @@ pub fn value_of<'x>(
                 return bind(alloc, device, arguments, scope, steps);
             }
             let object = value_of(alloc, device, object, scope, steps)?;
-            method(alloc, device, &object, name, arguments, scope, steps)
+            let returned = method(alloc, device, &object, name, arguments, scope, steps);
+            drop(object);
+            returned
         }
         Kind::List(items) => list_value(items_of(alloc, device, items, scope, steps)),
         Kind::Map(entries) => map_value(table_of(alloc, device, entries, scope, steps)),
@@ -97,7 +103,9 @@ fn unary_of<'x>(
         (cost device.now (bindings scope.now) (tree_view operand.now)) }
 {
     let operand = value_of(alloc, device, operand, scope, steps)?;
-    unary(op, &operand)
+    let made = unary(op, &operand);
+    drop(operand);
+    made
 }
 
 /// `left && right` or `left || right`, after its left side.
@@ -145,7 +153,9 @@ fn combined<'x>(
 {
     let right = value_of(alloc, device, right, scope, steps)?;
     steps.count += weighed(op, left, &right);
-    binary(alloc, device, op, left, &right)
+    let made = binary(alloc, device, op, left, &right);
+    drop(right);
+    made
 }
 
 /// `object.name`, beside the node's own step.
@@ -170,7 +180,9 @@ fn member_of<'x>(
         return device_member(alloc, device, name);
     }
     let object = value_of(alloc, device, object, scope, steps)?;
-    member(alloc, device, &object, name)
+    let found = member(alloc, device, &object, name);
+    drop(object);
+    found
 }
 
 /// `object[place]`, after its object.
@@ -190,7 +202,9 @@ fn indexed<'x>(
         (cost device.now (bindings scope.now) (tree_view place.now)) }
 {
     let place = value_of(alloc, device, place, scope, steps)?;
-    index(alloc, device, object, &place)
+    let item = index(alloc, device, object, &place);
+    drop(place);
+    item
 }
 
 /// What a test, or a side of `&&` or `||`, means.
@@ -208,7 +222,11 @@ fn truth_of<'x>(
         (cost device.now (bindings scope.now) (tree_view tree.now)) }
 {
     match value_of(alloc, device, tree, scope, steps) {
-        Ok(value) => truth(&value),
+        Ok(value) => {
+            let holds = truth(&value);
+            drop(value);
+            holds
+        }
         Err(error) => Err(error),
     }
 }
@@ -305,7 +323,9 @@ fn has_member<'x>(
                 return Err(EvalError::NoOverload);
             }
             let object = value_of(alloc, device, object, scope, steps)?;
-            has(alloc, device, &object, name.as_str())
+            let found = has(alloc, device, &object, name.as_str());
+            drop(object);
+            found
         }
         _ => Err(EvalError::NoOverload),
     }
@@ -625,7 +645,9 @@ fn value_at<'x>(
         (cost device.now (bound_to name.now element.now (bindings scope.now)) (tree_view body.now)) }
 {
     let value = Value::Single(element.duplicate(alloc)?);
-    under(alloc, device, name, &value, body, scope, steps)
+    let made = under(alloc, device, name, &value, body, scope, steps);
+    drop(value);
+    made
 }
 
 /// What a body means with one more name.
@@ -669,7 +691,11 @@ fn truth_at<'x>(
         (cost device.now (bound_to name.now element.now (bindings scope.now)) (tree_view test.now)) }
 {
     match value_at(alloc, device, element, name, test, scope, steps) {
-        Ok(value) => truth(&value),
+        Ok(value) => {
+            let holds = truth(&value);
+            drop(value);
+            holds
+        }
         Err(error) => Err(error),
     }
 }
@@ -696,7 +722,9 @@ fn bind<'x>(
         return Err(EvalError::NoOverload);
     };
     let value = value_of(alloc, device, &arguments[1], scope, steps)?;
-    under(alloc, device, name, &value, &arguments[2], scope, steps)
+    let made = under(alloc, device, name, &value, &arguments[2], scope, steps);
+    drop(value);
+    made
 }
 
 /// The values of arguments, one after another.

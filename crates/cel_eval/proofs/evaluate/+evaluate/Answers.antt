@@ -76,12 +76,12 @@ table_of-loop-at-preserved t c = record {
 }
 
 pub value_of-returns-in_ok-object-in-Method-clause-means : goal.value_of-returns-in_ok-object-in-Method-clause-means
-value_of-returns-in_ok-object-in-Method-clause-means t c = method-arm c.args.device.now (bindings c.args.scope.now) (kind_view c.args.tree.now.kind) (tree_view c.in-Method.object.value) c.in-Method.function c.as_str-name.result.now c.in-Method.arguments.items c.deref-in-Method-3.result.now c.in_ok-object-in-Method.object c.method.result
+value_of-returns-in_ok-object-in-Method-clause-means t c = method-arm c.args.device.now (bindings c.args.scope.now) (kind_view c.args.tree.now.kind) (tree_view c.in-Method.object.value) c.in-Method.function c.as_str-name.result.now c.in-Method.arguments.items c.deref-in-Method-3.result.now c.in_ok-object-in-Method.object c.method-returned.result
     (ap kind_view c.in-Method.is ∙ c.nodes_have_their_lists.ensures.method c.in-Method.object c.in-Method.function c.in-Method.arguments)
     (ap (λ (u : Tree). is_bind (tree_view u) c.in-Method.function) (sym c.deref-in-Method.ensures) ∙ ap (is_bind (tree_view c.deref-in-Method.result.now)) (sym c.as_str-name.ensures) ∙ sym c.if-is_bind.ensures)
     (ap (λ (u : Tree). means c.args.device.now (bindings c.args.scope.now) (tree_view u)) (sym c.deref-in-Method-2.ensures) ∙ c.in_ok-object-in-Method.ensures.means)
     c.as_str-name.ensures c.deref-in-Method-3.ensures.value
-    c.method.ensures.means
+    c.method-returned.ensures.means
 
 pub value_of-returns-in_ok-object-in-Method-clause-counts : goal.value_of-returns-in_ok-object-in-Method-clause-counts
 value_of-returns-in_ok-object-in-Method-clause-counts t c =
@@ -91,10 +91,10 @@ value_of-returns-in_ok-object-in-Method-clause-counts t c =
     (ap (λ (u : Tree). means c.args.device.now (bindings c.args.scope.now) (tree_view u)) (sym c.deref-in-Method-2.ensures) ∙ c.in_ok-object-in-Method.ensures.means)
     c.as_str-name.ensures c.deref-in-Method-3.ensures.value in
     let rose = (c.in_ok-object-in-Method.ensures.counts ∙ ap (λ (u : Tree). c.args.steps.now.count + 1 + cost c.args.device.now (bindings c.args.scope.now) (tree_view u)) c.deref-in-Method-2.ensures) in
-    counts-after c.method.result c.args.steps.now.count c.value_of-in-Method.new.steps.count c.method.new.steps.count (1 + cost c.args.device.now (bindings c.args.scope.now) (tree_view c.in-Method.object.value)) _ _ (omega (arith, rose)) (omega (arith, room)) c.method.ensures.counts
+    counts-after c.method-returned.result c.args.steps.now.count c.value_of-in-Method.new.steps.count c.method-returned.new.steps.count (1 + cost c.args.device.now (bindings c.args.scope.now) (tree_view c.in-Method.object.value)) _ _ (omega (arith, rose)) (omega (arith, room)) c.method-returned.ensures.counts
 
-pub value_of-method-requires : goal.value_of-method-requires
-value_of-method-requires t c =
+pub value_of-method-returned-requires : goal.value_of-method-returned-requires
+value_of-method-returned-requires t c =
     let room = method-room c.args.device.now (bindings c.args.scope.now) (kind_view c.args.tree.now.kind) (tree_view c.in-Method.object.value) c.in-Method.function c.as_str-name.result.now c.in-Method.arguments.items c.deref-in-Method-3.result.now c.in_ok-object-in-Method.object
     (ap kind_view c.in-Method.is ∙ c.nodes_have_their_lists.ensures.method c.in-Method.object c.in-Method.function c.in-Method.arguments)
     (ap (λ (u : Tree). is_bind (tree_view u) c.in-Method.function) (sym c.deref-in-Method.ensures) ∙ ap (is_bind (tree_view c.deref-in-Method.result.now)) (sym c.as_str-name.ensures) ∙ sym c.if-is_bind.ensures)
