@@ -3,3 +3,4 @@ mod Printed
 mod Whole
 mod Rows
 pub mod Counts
+mod Unsat

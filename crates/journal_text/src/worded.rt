@@ -1,7 +1,8 @@
-ghost use Rattle.std.specs.Prelude.{◌≡◌, ◌++◌, OnOk, IfSome, List, ℕ, option_copied, codes, decimal};
+ghost use Rattle.std.specs.Prelude.{◌≡◌, ◌∷◌, ◌++◌, OnOk, IfSome, List, ℕ, option_copied, codes, decimal};
 ghost use Rattle.std.specs.List.{flat_map, join_by};
 ghost use Rattle.cluster.specs.PassedOver.{cause_or_unsat, passed_from};
 ghost use Rattle.object_fields.specs.Keys.{device_text, key_text};
+ghost use Rattle.journal_text.specs.Passing.{unsat_next};
 ghost use Rattle.journal_text.specs.Journal.{admin_mark, cause_text, error_word, fault_text, grant_text, listed, passed_text, result_text, status_result_text, why_word};
 
 use api_claim::StatusResult;
@@ -14,6 +15,9 @@ use object_fields::{DeviceId, Key};
 use std::alloc::AllocError;
 use std::fmt::Display;
 use std::io::Write;
+
+/// The most bytes for which room is made at once.
+const MOST_ROOM: usize = 65_536;
 
 /// A part of a line.
 pub trait Worded {
@@ -253,18 +257,58 @@ fn push_nodes(out: &mut Vec<u8>, names: &[Text], causes: &[NodeCause]) -> Result
     Ok(())
 }
 
+/// How many bytes to make room for, where so many nodes follow a name: about as many as they take, and not too many.
+fn room_after(name: &Text, count: usize) -> usize {
+    let each = name.as_str().len().saturating_add(7);
+    count.saturating_mul(each).min(MOST_ROOM)
+}
+
+/// Writes names, each after the cause of the node before it, which has no allocation.
+fn push_unsat(out: &mut Vec<u8>, names: &[Text]) -> Result<(), AllocError>
+    ensures { OnOk result (out.new.items ++ codes ":unsat" ≡ out.old.items ++ codes ":unsat" ++ flat_map unsat_next names.now) }
+{
+    for name in names {
+        push_text(out, ":unsat,")?;
+        push_text(out, name.as_str())?;
+    }
+    Ok(())
+}
+
+/// Writes nodes without an allocation, of which this is the first.
+fn push_all_unsat(out: &mut Vec<u8>, first: &Text, rest: &[Text]) -> Result<(), AllocError>
+    ensures { OnOk result (out.new.items ≡ out.old.items ++ (first.now ++ codes ":unsat" ++ flat_map unsat_next rest.now)) }
+{
+    out.reserve(room_after(first, rest.len()))?;
+    push_text(out, first.as_str())?;
+    push_unsat(out, rest)?;
+    push_text(out, ":unsat")
+}
+
+/// Writes nodes, of which this is the first.
+fn push_some(
+    out: &mut Vec<u8>,
+    first: &Text,
+    rest: &[Text],
+    causes: &[NodeCause],
+) -> Result<(), AllocError>
+    ensures { OnOk result (out.new.items ≡ out.old.items ++ join_by passed_text (codes ",") (passed_from 0 (first.now ∷ rest.now) causes.now)) }
+{
+    if causes.is_empty() {
+        push_all_unsat(out, first, rest)
+    } else {
+        push_node(out, first, next_cause(causes, 0))?;
+        push_nodes(out, rest, later_causes(causes, 0))
+    }
+}
+
 /// The nodes joined by `,`, and `-` if there are none.
 impl Worded for PassedNodes {
     ghost words = { listed passed_text };
 
     fn push_to(&self, out: &mut Vec<u8>) -> Result<(), AllocError> {
-        let causes = self.causes();
         match self.names().split_first() {
             None => push_text(out, "-"),
-            Some((first, rest)) => {
-                push_node(out, first, next_cause(causes, 0))?;
-                push_nodes(out, rest, later_causes(causes, 0))
-            }
+            Some((first, rest)) => push_some(out, first, rest, self.causes()),
         }
     }
 }

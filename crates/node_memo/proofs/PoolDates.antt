@@ -1,5 +1,5 @@
 -- The index of a pool among entries after an insertion, and at a place.
-use Rattle.std.proofs.Common.{ℕ, zero, suc, ◌≡◌, ◌≤◌, ◌∙◌, List, [], ◌∷◌, ◌++◌, Bool, true, false, cond, ◌&&◌, Option, None, Some, refl, sym, ap, arith}
+use Rattle.std.proofs.Common.{ℕ, zero, suc, ◌≡◌, ◌≤◌, ◌∙◌, List, [], ◌∷◌, ◌++◌, Bool, true, false, cond, ◌&&◌, Option, None, Some, refl, sym, ap, arith, eqb, eq-eqb}
 use Rattle.std.specs.BTreeMap.{insert_entry}
 use Rattle.std.specs.Cmp.Lexicographic.{same_text, texts_ties}
 use Rattle.std.specs.List.{AllByRecursion, slice_get}
@@ -9,12 +9,13 @@ use Rattle.std.specs.Option.{is_some, unwrap_or}
 use Rattle.std.specs.Ordering.{is_eq, match_ordering, ordering_reverse, ordering_then}
 use Rattle.std.specs.declared.cmp.Ordering.{Ordering}
 use Rattle.std.specs.declared.cmp.Ordering.TheVariants.{Less, Equal, Greater}
+use Rattle.std.proofs.lemmas.Bool.{eqb-true}
 use Rattle.std.proofs.lemmas.Cmp.{nat_list_cmp_total}
 use Rattle.pool_view.specs.declared.names.PoolName.{PoolName}
 use Rattle.pool_view.specs.Names.{text_cmp, text_eq}
 use Rattle.pool_view.specs.Usable.{pool_cmp}
 use Rattle.shared_map.specs.Chunks.{IsEntry}
-use Rattle.node_memo.specs.Dated.{AreUpTo, at, index_in, names}
+use Rattle.node_memo.specs.Dated.{AreKept, AreNumbered, AreUpTo, IsAbove, IsRaised, at, index_in, names, number_of}
 
 -- ---- names
 
@@ -133,15 +134,54 @@ up_by false v n latest most h i j = omega (arith, i, j)
 pub room_same : (es new : List (PoolName × ℕ)) (k name p : PoolName) (b : Bool) → b ≡ is_some (at name es) → b ≡ false → name ≡ k → new ≡ insert_entry pool_cmp es name 0 → index_in new p ≡ index_in es p
 room_same es new k name p b has none is e = ap (λ (t : List (PoolName × ℕ)). index_in t p) e ∙ room_made es name p (none_by (at name es) b has none)
 
-pub up_to_same : (old new : List (PoolName × ℕ)) (latest : ℕ) → AreUpTo old latest → ((p : PoolName) → index_in new p ≡ index_in old p) → AreUpTo new latest
+up_to_same : (old new : List (PoolName × ℕ)) (latest : ℕ) → AreUpTo old latest → ((p : PoolName) → index_in new p ≡ index_in old p) → AreUpTo new latest
 up_to_same old new latest up same = record { each = λ p. let is = same p in let before = up.each p in omega (arith, is, before) }
 
 pub index_put : (es new : List (PoolName × ℕ)) (k name p : PoolName) (v : ℕ) → name ≡ k → new ≡ insert_entry pool_cmp es name v → index_in new p ≡ cond (names p k) v (index_in es p)
 index_put es new k name p v is e = ap (λ (t : List (PoolName × ℕ)). index_in t p) e ∙ put es name p v ∙ ap (λ (n : PoolName). cond (names p n) v (index_in es p)) is
 
-pub up_to_put : (es new : List (PoolName × ℕ)) (k name : PoolName) (v latest most : ℕ) → name ≡ k → new ≡ insert_entry pool_cmp es name v → v ≤ most → latest ≤ most → AreUpTo es latest → AreUpTo new most
+up_to_put : (es new : List (PoolName × ℕ)) (k name : PoolName) (v latest most : ℕ) → name ≡ k → new ≡ insert_entry pool_cmp es name v → v ≤ most → latest ≤ most → AreUpTo es latest → AreUpTo new most
 up_to_put es new k name v latest most is e h i up =
     record { each = λ p. let same = index_put es new k name p v is e in let bound = up_by (names p k) v (index_in es p) latest most h i (up.each p) in rw same bound }
+
+-- ---- by numbers
+
+other_by : (p k : PoolName) (number v n most : ℕ) (b : Bool) → number ≡ number_of k → (number_of p ≡ number → ⊥) → names p k ≡ b → n ≤ most → cond b v n ≤ most
+other_by p k number v n most true is apart e h = absurd (apart (ap number_of (same_pool p k e) ∙ sym is))
+other_by p k number v n most false is apart e h = h
+
+here_by : (es : List (PoolName × ℕ)) (p k : PoolName) (old : List ℕ) (number v most : ℕ) → number_of p ≡ number → IsAbove old number v most → AreNumbered es old → cond (names p k) v (index_in es p) ≤ most
+here_by es p k old number v most is above kept =
+    up_by (names p k) v (index_in es p) above.before most above.index_within above.rises
+    (kept.each p above.before (ap (λ (i : ℕ). slice_get old i) is ∙ above.there))
+
+each_by : (es : List (PoolName × ℕ)) (p k : PoolName) (old now : List ℕ) (number v most : ℕ) (b : Bool) → eqb (number_of p) number ≡ b → number ≡ number_of k → IsRaised old number v now → AreNumbered es old
+    → slice_get now (number_of p) ≡ Some most → cond (names p k) v (index_in es p) ≤ most
+each_by es p k old now number v most true e is raised kept at =
+    let f : number_of p ≡ number = eqb-true (number_of p) number e in
+    here_by es p k old number v most f (raised.here most (ap (λ (i : ℕ). slice_get now i) (sym f) ∙ at)) kept
+each_by es p k old now number v most false e is raised kept at =
+    let apart : number_of p ≡ number → ⊥ = λ f. let g = eq-eqb (number_of p) number f in absurd (cc) in
+    other_by p k number v (index_in es p) most (names p k) is apart refl (kept.each p most (raised.others (number_of p) most apart at))
+
+-- what was put at a pool, where there is at least that at its number
+numbered_put : (es new : List (PoolName × ℕ)) (k : PoolName) (number v : ℕ) (old now : List ℕ) → ((p : PoolName) → index_in new p ≡ cond (names p k) v (index_in es p)) → number ≡ number_of k → IsRaised old number v now
+    → AreNumbered es old → AreNumbered new now
+numbered_put es new k number v old now is n raised kept =
+    record { each = λ p most at. let e = is p in let bound = each_by es p k old now number v most (eqb (number_of p) number) refl n raised kept at in rw e bound }
+
+numbered_same : (old new : List (PoolName × ℕ)) (numbered : List ℕ) → AreNumbered old numbered → ((p : PoolName) → index_in new p ≡ index_in old p) → AreNumbered new numbered
+numbered_same old new numbered kept same = record { each = λ p most at. let is = same p in let before = kept.each p most at in omega (arith, is, before) }
+
+pub kept_same : (old new : List (PoolName × ℕ)) (latest : ℕ) (numbered : List ℕ) → AreKept old latest numbered → ((p : PoolName) → index_in new p ≡ index_in old p) → AreKept new latest numbered
+kept_same old new latest numbered kept same = record { up_to = up_to_same old new latest kept.up_to same; by_number = numbered_same old new numbered kept.by_number same }
+
+pub kept_put : (es new : List (PoolName × ℕ)) (k name : PoolName) (number v latest most : ℕ) (old now : List ℕ) → name ≡ k → new ≡ insert_entry pool_cmp es name v → v ≤ most → latest ≤ most → number ≡ number_of k → IsRaised old number v now
+    → AreKept es latest old → AreKept new most now
+kept_put es new k name number v latest most old now is e h i n raised kept = record {
+  up_to = up_to_put es new k name v latest most is e h i kept.up_to;
+  by_number = numbered_put es new k number v old now (λ p. index_put es new k name p v is e) n raised kept.by_number;
+}
 
 -- ---- at a place
 

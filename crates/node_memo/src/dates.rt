@@ -1,11 +1,12 @@
-ghost use Rattle.std.specs.Prelude.{◌≡◌, ◌≤◌, [], Some, IfOk, IfSome, OnOk, OnErr, if◌then◌else◌};
+ghost use Rattle.std.specs.Prelude.{◌≡◌, ◌≤◌, ℕ, List, [], Some, true, IfOk, IfSome, OnOk, OnErr, if◌then◌else◌, nat_le};
 ghost use Rattle.std.specs.BTreeMap.{insert_entry};
 ghost use Rattle.pool_view.specs.declared.names.PoolName.{PoolName};
 ghost use Rattle.pool_view.specs.Usable.{pool_cmp};
 ghost use Rattle.allocations.specs.Lacking.{freed_for};
-ghost use Rattle.node_memo.specs.Dated.{at, index_in, names};
+ghost use Rattle.node_memo.specs.Dated.{AreNumbered, IsRaised, at, index_in, names};
 
-use dra_values::{Duplicate, Shared};
+use crate::pools::{NUMBERS, NumberedPool, number_of};
+use dra_values::{Duplicate, Seq, Shared};
 use pool_view::PoolName;
 use shared_map::{Place, SharedMap};
 use std::alloc::{AllocError, Global};
@@ -21,17 +22,19 @@ pub struct Dates {
     freed: SharedMap<Shared<PoolName>, u64>,
     /// No index of a pool is greater.
     latest: u64,
+    /// For each number of pools an index that is at least that of each pool of this number. So most pools aren't looked up.
+    numbered: Shared<Seq<u64>>,
 }
 
 impl Model for Dates {
     ghost use Rattle.allocations.specs.Lacking as lacking;
-    ghost use Rattle.node_memo.specs.Dated.{AreUpTo};
+    ghost use Rattle.node_memo.specs.Dated.{AreKept};
 
     ghost Value = { lacking.Dates };
 
     ghost view = { λ d. record { objects = d.objects; freed = d.freed } };
 
-    ghost invariant = { λ d. AreUpTo d.freed d.latest };
+    ghost invariant = { λ d. AreKept d.freed d.latest d.numbered };
 }
 
 impl Dates {
@@ -43,6 +46,7 @@ impl Dates {
             objects: 0,
             freed: SharedMap::new(alloc)?,
             latest: 0,
+            numbered: no_numbers(alloc)?,
         })
     }
 
@@ -71,6 +75,14 @@ impl Dates {
             None => self.freed(pool),
             Some(index) => index,
         }
+    }
+
+    /// Whether no entry after an index may have freed a device of a pool, which has this place (`place`). Allocates nothing.
+    pub(crate) fn is_up_to(&self, pool: &NumberedPool, place: Place, index: u64) -> bool
+        ensures { result ≡ nat_le (freed_for self.now pool.now) index }
+    {
+        are_up_to(self.numbered.as_slice(), pool, index)
+            || self.freed_at(pool.pool(), place) <= index
     }
 
     /// Where `freed_at` finds the index of a pool, until another pool is added. Allocates nothing. Any other place is as
@@ -121,8 +133,11 @@ impl Dates {
         ensures err { OnErr result ((p : PoolName) → freed_for self.new p ≡ freed_for self.old p) }
     {
         let name = shared_name(alloc, pool)?;
+        let number = number_of(pool);
+        let numbered = numbered_with(alloc, self.numbered.as_slice(), number, index)?;
         self.freed.insert(alloc, name, index)?;
         self.latest = self.latest.max(index);
+        self.numbered = numbered;
         Ok(())
     }
 }
@@ -134,7 +149,48 @@ impl Duplicate for Dates {
             objects: self.objects,
             freed: self.freed.share()?,
             latest: self.latest,
+            numbered: self.numbered.share()?,
         })
+    }
+}
+
+/// The indexes by the numbers of pools while no pool has one.
+fn no_numbers(alloc: Global) -> Result<Shared<Seq<u64>>, AllocError> {
+    let mut indexes = Vec::new(alloc);
+    indexes.resize(NUMBERS, 0)?;
+    Shared::new(alloc, Seq::new(indexes))
+}
+
+/// The indexes by the numbers of pools, where that of one number is now at least this one.
+fn numbered_with(
+    alloc: Global,
+    numbered: &[u64],
+    number: usize,
+    index: u64,
+) -> Result<Shared<Seq<u64>>, AllocError>
+    ensures { IfOk result (IsRaised numbered.now number index) }
+{
+    let mut indexes = Vec::from_slice(alloc, numbered)?;
+    raise(&mut indexes, number, index);
+    Shared::new(alloc, Seq::new(indexes))
+}
+
+/// Makes what there is at a number at least this index.
+fn raise(indexes: &mut Vec<u64>, number: usize, index: u64)
+    ensures { IsRaised indexes.old.items number index indexes.new.items }
+{
+    if number < indexes.len() {
+        indexes[number] = indexes[number].max(index);
+    }
+}
+
+/// Whether no pool of the same number has an index greater than this one.
+fn are_up_to(numbered: &[u64], pool: &NumberedPool, index: u64) -> bool
+    ensures { result ≡ true → (freed : List (PoolName × ℕ)) → AreNumbered freed numbered.now → index_in freed pool.now ≤ index }
+{
+    match numbered.get(pool.number()) {
+        None => false,
+        Some(latest) => *latest <= index,
     }
 }
 

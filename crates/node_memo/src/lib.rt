@@ -7,8 +7,6 @@ mod memo;
 mod nodes;
 mod pools;
 mod same;
-#[cfg(test)]
-mod tests;
 
 pub use dates::Dates;
 pub use memo::Memo;

@@ -15,13 +15,13 @@ ghost use Rattle.allocations.specs.Lacking.{IsLacking, freed_for};
 ghost use Rattle.node_memo.specs.Memo.{AreWith, IsKnownAt, IsRowSince, TellsOf};
 
 use crate::Dates;
-use crate::pools::pools_of;
+use crate::pools::{NumberedPool, pools_of};
 use crate::same::{ask_the_same, copies_of};
 use allocations::lacking_is_found;
 use api_claim::ResourceClaim;
 use device_match::Verdicts;
-use dra_values::{Seq, Shared, Text};
-use pool_view::{DeviceRef, PoolName};
+use dra_values::{Seq, Text};
+use pool_view::DeviceRef;
 use request_rows::WantedClaim;
 use shared_map::Place;
 use std::alloc::{AllocError, Global};
@@ -34,7 +34,7 @@ pub struct LackingNode {
     pub node: Text,
     pub index: u64,
     /// The pools of the devices that it saw.
-    pub pools: Seq<Shared<PoolName>>,
+    pub pools: Seq<NumberedPool>,
     /// The place of each among the dates, where it had one.
     pub places: Vec<Place>,
 }
@@ -138,12 +138,12 @@ impl LackingNodes {
 /// The place of each pool among dates; any place if it has none.
 fn places_of(
     alloc: Global,
-    pools: &[Shared<PoolName>],
+    pools: &[NumberedPool],
     dates: &Dates,
 ) -> Result<Vec<Place>, AllocError> {
     let mut places = Vec::with_capacity(alloc, pools.len())?;
     for pool in pools {
-        places.push(dates.place(pool))?;
+        places.push(dates.place(pool.pool()))?;
     }
     Ok(places)
 }
@@ -157,11 +157,11 @@ fn place_at(places: &[Place], position: usize) -> Place {
 }
 
 /// Whether no pool of these has an index greater than this one. `places` says where to look.
-fn are_since(pools: &[Shared<PoolName>], places: &[Place], dates: &Dates, index: u64) -> bool
+fn are_since(pools: &[NumberedPool], places: &[Place], dates: &Dates, index: u64) -> bool
     ensures { result ≡ list_all (λ p. nat_le (freed_for dates.now p) index) pools.now }
 {
     for position in 0..pools.len() {
-        if dates.freed_at(&pools[position], place_at(places, position)) > index {
+        if !dates.is_up_to(&pools[position], place_at(places, position), index) {
             return false;
         }
     }
