@@ -1,5 +1,5 @@
 -- Totals to which the devices of results are added, one after another.
-use Rattle.std.proofs.Common.{ℕ, zero, ◌+◌, ◌<◌, ◌≤◌, ◌≡◌, ◌∙◌, List, [], ◌∷◌, ◌++◌, Bool, true, false, cond, Option, None, Some, get_or, is_some, length, map, suc, take, refl, sym, ap, subst, arith, append_assoc, append-nil}
+use Rattle.std.proofs.Common.{ℕ, zero, ◌+◌, ◌<◌, ◌≤◌, ◌≡◌, ◌∙◌, List, [], ◌∷◌, ◌++◌, Bool, false, cond, Option, None, Some, get_or, is_some, length, map, suc, take, refl, sym, ap, subst, arith, append_assoc, append-nil}
 use Rattle.std.specs.List.{Contains, slice_get, sum_by}
 use Rattle.object_fields.specs.declared.key.DeviceId.{DeviceId}
 use Rattle.object_fields.specs.declared.key.Key.{Key}

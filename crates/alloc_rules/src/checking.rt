@@ -22,7 +22,7 @@ use crate::results::{device_gone, selector_fault, selector_no, tainted};
 use crate::shape::misshapen;
 use api_claim::ClaimStatus;
 use cluster::{DeviceResult, Failure, Grant, Plan, PodState, State};
-use counter_sets::{Held, Totals};
+use counter_sets::{Held, SharedTotals};
 use dra_values::{Seq, Text};
 use node_inputs::{devices_differ, wanted_claims};
 use object_fields::Key;
@@ -32,12 +32,12 @@ use request_rows::{Rows, WantedClaim, Wants};
 use std::alloc::{AllocError, Global};
 
 /// The first counter that doesn't have enough for the results, whose devices nobody holds. Only if one of them
-/// draws on a counter are the totals copied.
+/// draws on a counter are counters copied, of the pools on which they draw.
 fn failing_counters<'a>(
     alloc: Global,
     state: &State,
     holders: &Held,
-    totals: &Totals,
+    totals: &SharedTotals,
     rows: &'a Rows<'a>,
     node: &Text,
     dues: &[Due],
@@ -65,7 +65,7 @@ fn failing_held<'a>(
     alloc: Global,
     state: &State,
     holders: &Held,
-    totals: &Totals,
+    totals: &SharedTotals,
     rows: &'a Rows<'a>,
     node: &Text,
     claims: &'a [WantedClaim<'a>],
@@ -93,7 +93,7 @@ fn failing_tolerated<'a>(
     alloc: Global,
     state: &State,
     holders: &Held,
-    totals: &Totals,
+    totals: &SharedTotals,
     rows: &'a Rows<'a>,
     node: &Text,
     claims: &'a [WantedClaim<'a>],
@@ -118,7 +118,7 @@ fn failing_shaped<'a>(
     alloc: Global,
     state: &State,
     holders: &Held,
-    totals: &Totals,
+    totals: &SharedTotals,
     rows: &'a Rows<'a>,
     node: &Text,
     claims: &'a [WantedClaim<'a>],
@@ -147,7 +147,7 @@ fn failing_rows<'a>(
     alloc: Global,
     state: &State,
     holders: &Held,
-    totals: &Totals,
+    totals: &SharedTotals,
     view: &PoolView,
     rows: &'a Rows<'a>,
     node: &Text,
@@ -179,7 +179,7 @@ fn failing_on(
     alloc: Global,
     state: &State,
     holders: &Held,
-    totals: &Totals,
+    totals: &SharedTotals,
     view: &PoolView,
     node: &Text,
     wants: &Wants,
@@ -213,7 +213,7 @@ fn failing_at(
     alloc: Global,
     state: &State,
     holders: &Held,
-    totals: &Totals,
+    totals: &SharedTotals,
     claims: Vec<WantedClaim>,
     node: &Text,
     grants: &[Grant],
@@ -238,7 +238,7 @@ fn failing_for(
     alloc: Global,
     state: &State,
     holders: &Held,
-    totals: &Totals,
+    totals: &SharedTotals,
     key: &Key,
     pod: &PodState,
     plan: &Plan,
@@ -271,7 +271,7 @@ pub fn check(
     alloc: Global,
     state: &State,
     holders: &Held,
-    totals: &Totals,
+    totals: &SharedTotals,
     pod: &Key,
     plan: &Plan,
 ) -> Result<Option<Failure>, AllocError>
@@ -294,7 +294,7 @@ pub fn check_again(
     alloc: Global,
     state: &State,
     holders: &Held,
-    totals: &Totals,
+    totals: &SharedTotals,
     pod: &Key,
     plan: &Plan,
     at: u64,
@@ -333,7 +333,7 @@ fn failing_write(
     alloc: Global,
     state: &State,
     holders: &Held,
-    totals: &Totals,
+    totals: &SharedTotals,
     key: &Key,
     claim: &ReadyClaim,
     status: &ClaimStatus,
@@ -363,7 +363,7 @@ pub fn check_status(
     alloc: Global,
     state: &State,
     holders: &Held,
-    totals: &Totals,
+    totals: &SharedTotals,
     claim: &Key,
     status: &ClaimStatus,
 ) -> Result<Option<Failure>, AllocError>

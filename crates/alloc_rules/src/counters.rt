@@ -11,7 +11,7 @@ ghost use Rattle.plan_rules.specs.Standing as spec;
 
 use crate::due::Due;
 use cluster::{Failure, Shortfall};
-use counter_sets::{Shortage, Totals};
+use counter_sets::{SharedTotals, Shortage};
 use request_rows::Rows;
 use std::alloc::{AllocError, Global};
 
@@ -39,20 +39,26 @@ pub fn draws_any(rows: &Rows, dues: &[Due]) -> bool
 
 /// The first counter of a device that doesn't cover what is drawn from it with all results, among which the
 /// device's is. The totals have what all results draw, and are the same after it if there is none.
-fn short_of<'a>(rows: &'a Rows<'a>, totals: &mut Totals, due: &Due) -> Option<Shortage<'a>>
+fn short_of<'a>(
+    alloc: Global,
+    rows: &'a Rows<'a>,
+    totals: &mut SharedTotals,
+    due: &Due,
+) -> Result<Option<Shortage<'a>>, AllocError>
     requires { IsDue (input_of rows.now) due.now }
     ensures found { (w : SearchInput) (ps : List Pick) (i : ℕ) → HasDrawn (input_of rows.now) w totals.old ps → slice_get ps i ≡ Some (pick_of w (due_seen (input_of rows.now) due.now)) → due.now.result.admin ≡ false →
-        option_map (λ s. record { set = s.set.now; counter = s.counter.now; drawn = s.drawn; value = s.value }) result ≡ spec.short_on w ps (pick_of w (due_seen (input_of rows.now) due.now)) }
+        IfOk result (λ short. option_map (λ s. record { set = s.set.now; counter = s.counter.now; drawn = s.drawn; value = s.value }) short ≡ spec.short_on w ps (pick_of w (due_seen (input_of rows.now) due.now))) }
     ensures same { (w : SearchInput) (ps : List Pick) (i : ℕ) → HasDrawn (input_of rows.now) w totals.old ps → slice_get ps i ≡ Some (pick_of w (due_seen (input_of rows.now) due.now)) → due.now.result.admin ≡ false →
-        result ≡ None → HasDrawn (input_of rows.now) w totals.new ps }
+        IfOk result (λ short. short ≡ None → HasDrawn (input_of rows.now) w totals.new ps) }
 {
     let device = &rows.devices()[due.position];
-    totals.give_back(device);
+    totals.give_back(device, alloc)?;
     let short = totals.first_short(device);
     if short.is_none() {
-        totals.draw(device);
+        totals.draw(device, alloc)?;
+        return Ok(short);
     }
-    short
+    Ok(short)
 }
 
 fn shortfall(alloc: Global, short: Shortage) -> Result<Shortfall, AllocError>
@@ -71,7 +77,7 @@ fn shortfall(alloc: Global, short: Shortage) -> Result<Shortfall, AllocError>
 fn short_for<'a>(
     alloc: Global,
     rows: &'a Rows<'a>,
-    totals: &mut Totals,
+    totals: &mut SharedTotals,
     due: &Due,
 ) -> Result<Option<Failure>, AllocError>
     requires { IsDue (input_of rows.now) due.now }
@@ -83,7 +89,7 @@ fn short_for<'a>(
     if due.result.admin {
         return Ok(None);
     }
-    match short_of(rows, totals, due) {
+    match short_of(alloc, rows, totals, due)? {
         None => Ok(None),
         Some(short) => Ok(Some(Failure::Counter(shortfall(alloc, short)?))),
     }
@@ -94,7 +100,7 @@ fn short_for<'a>(
 pub fn counter_short<'a>(
     alloc: Global,
     rows: &'a Rows<'a>,
-    totals: &mut Totals,
+    totals: &mut SharedTotals,
     dues: &[Due],
 ) -> Result<Option<Failure>, AllocError>
     requires { Each (IsDue (input_of rows.now)) dues.now }

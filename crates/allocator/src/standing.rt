@@ -14,7 +14,7 @@ ghost use Rattle.allocator.specs.Placing.{IsPick, IsPlacing, covered_by, least_b
 
 use crate::held::HeldDevices;
 use crate::pick::Pick;
-use constraints::Picked;
+use constraints::{Picked, excludes};
 use counter_sets::Totals;
 use pool_view::DeviceRef;
 use request_rows::{Row, Rows, Seat, Slot};
@@ -53,13 +53,6 @@ pub fn last_of(positions: &[usize]) -> Option<usize>
         return None;
     }
     Some(positions[count - 1])
-}
-
-/// Whether two results may not be of one device: they are of one claim, or both without admin access.
-fn excludes(claim: usize, admin: bool, other_claim: usize, other_admin: bool) -> bool
-    ensures { result ≡ (claim == other_claim) || (not admin && not other_admin) }
-{
-    claim == other_claim || (!admin && !other_admin)
 }
 
 /// Whether the two results may be placed together. Devices of a node are the same only at one position.

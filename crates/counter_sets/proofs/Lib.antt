@@ -1,4 +1,3 @@
-pub mod Clearing
 pub mod Fresh
 pub mod Holding
 pub mod Leaving

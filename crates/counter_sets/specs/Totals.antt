@@ -1,5 +1,5 @@
 -- What is kept of the counters of slices, and how a device's draws change it.
-use Rattle.std.specs.Prelude.{ℕ, ◌≡◌, ◌+◌, ◌-◌, ◌==◌, ℤ, List, [], ◌∷◌, Bool, true, false, Option, None, Some, is_some, map, min, nat_le, option_map, if◌then◌else◌}
+use Rattle.std.specs.Prelude.{ℕ, ◌+◌, ◌-◌, ◌==◌, ℤ, List, [], ◌∷◌, Bool, false, Option, None, Some, is_some, map, min, nat_le, option_map, if◌then◌else◌}
 use Rattle.std.specs.BTreeMap.{insert_entry, is_at}
 use Rattle.std.specs.List.{list_all}
 use Rattle.std.specs.Map.{remove_entry, set_value}
@@ -13,7 +13,7 @@ use Rattle.request_rules.specs.Draws.{CounterId, natural}
 use Rattle.counter_sets.specs.declared.counter.Counter.{Counter}
 use Rattle.counter_sets.specs.declared.added.GrownSet.{GrownSet}
 use Rattle.counter_sets.specs.declared.change.Change.{Change}
-use Rattle.counter_sets.specs.declared.change.Change.TheVariants.{Clear, Draw, Return}
+use Rattle.counter_sets.specs.declared.change.Change.TheVariants.{Draw, Return}
 
 -- values by name
 abbrev pub Tabled : Type 0 → Type 0
@@ -72,7 +72,6 @@ sum_most = 340282366920938463463374607431768211455
 abbrev pub moved : Change → ℕ → ℕ → ℕ
 moved Draw drawn amount = if amount == 0 then drawn else min (drawn + amount) sum_most
 moved Return drawn amount = drawn - amount
-moved Clear drawn amount = 0
 
 abbrev pub counter_moved : Change → ℕ → Counter → Counter
 counter_moved change amount k = record k { drawn = moved change k.drawn amount }
@@ -97,18 +96,6 @@ moved_pools change pool consumes pools = changed_at pool (λ sets. moved_sets ch
 
 abbrev pub moved_by : Change → Offered → KeptCounters → KeptCounters
 moved_by change o kept = changed_at o.slice.driver (λ pools. moved_pools change o.slice.pool.name o.device.consumes pools) kept
-
--- ---- counters of a slice, from which nothing is drawn any more
-
-abbrev pub cleared_sets : List CounterSet → PoolCounters → PoolCounters
-cleared_sets [] sets = sets
-cleared_sets (s ∷ ss) sets = cleared_sets ss (changed_at s.name (λ counters. moved_counters Clear s.counters counters) sets)
-
-abbrev pub cleared_pools : List ℕ → List CounterSet → Tabled PoolCounters → Tabled PoolCounters
-cleared_pools pool ss pools = changed_at pool (λ sets. cleared_sets ss sets) pools
-
-abbrev pub cleared : ResourceSlice → KeptCounters → KeptCounters
-cleared x kept = changed_at x.driver (λ pools. cleared_pools x.pool.name x.counters pools) kept
 
 -- ---- sums
 
@@ -208,25 +195,13 @@ with_slice x kept = put_in x.driver (λ pools. pools_with x.pool.name x.counters
 
 -- ---- the counters of a pool, in place of those that are kept of it
 
--- there is room for the counters of the slice's pool
-unfoldable pub has_pool : ResourceSlice → KeptCounters → Bool
-has_pool x kept = is_some (at_name (or_empty (at_name kept x.driver)) x.pool.name)
+-- with these counters of the slice's pool
+unfoldable pub with_pool : ResourceSlice → PoolCounters → KeptCounters → KeptCounters
+with_pool x sets kept = put_in x.driver (λ pools. insert_entry text_cmp pools x.pool.name sets) kept
 
--- the counters that other totals have of the slice's pool can be put in place of those that are kept of it
-abbrev pub HasPlace : ResourceSlice → (from kept : KeptCounters) → Type 0
-HasPlace x from kept = has_pool x from ≡ true → has_pool x kept ≡ true
+-- without counters of the slice's pool
+abbrev pub emptied_pools : List ℕ → Tabled PoolCounters → Tabled PoolCounters
+emptied_pools pool pools = changed_at pool (λ sets. []) pools
 
--- with room for the slice's pool
-unfoldable pub with_pool : ResourceSlice → KeptCounters → KeptCounters
-with_pool x kept = put_in x.driver (λ pools. pools_with x.pool.name [] pools) kept
-
--- if other totals have counters of it
-abbrev pub with_place : ResourceSlice → (from kept : KeptCounters) → KeptCounters
-with_place x from kept = if has_pool x from then with_pool x kept else kept
-
-abbrev pub sets_replaced : List ℕ → PoolCounters → Tabled PoolCounters → Tabled PoolCounters
-sets_replaced pool sets pools = changed_at pool (λ old. sets) pools
-
--- with these counters of the slice's pool, if there is room for them
-unfoldable pub replaced : ResourceSlice → PoolCounters → KeptCounters → KeptCounters
-replaced x sets kept = changed_at x.driver (λ pools. sets_replaced x.pool.name sets pools) kept
+abbrev pub emptied : ResourceSlice → KeptCounters → KeptCounters
+emptied x kept = changed_at x.driver (λ pools. emptied_pools x.pool.name pools) kept

@@ -188,7 +188,7 @@ fn add_to_pool(
 
 /// Adds these sets to those of a pool.
 #[tactic(auto, using(std::proofs::lemmas::Map::Steps::set_value_same))]
-pub fn add_to_driver(
+fn add_to_driver(
     drivers: &mut Table<Text, DriverCounters>,
     driver: &Text,
     pool: &Text,

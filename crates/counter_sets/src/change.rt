@@ -2,11 +2,10 @@
 
 ghost use Rattle.std.specs.Prelude.{◌≡◌};
 ghost use Rattle.counter_sets.specs.Totals as spec;
-ghost use Rattle.counter_sets.specs.declared.change.Change.TheVariants.{Clear};
 
 use crate::amount::amount_of;
 use crate::counter::{DriverCounters, PoolCounters, SetCounters};
-use api_slice::{CounterConsumption, CounterSet, ResourceSlice};
+use api_slice::{CounterConsumption, ResourceSlice};
 use dra_values::{Table, Text};
 use quantity::Quantity;
 
@@ -17,8 +16,6 @@ pub enum Change {
     Draw,
     /// They are subtracted.
     Return,
-    /// All that is drawn is subtracted, whatever they are.
-    Clear,
 }
 
 fn moved(change: Change, drawn: u128, amount: u128) -> u128
@@ -32,7 +29,6 @@ fn moved(change: Change, drawn: u128, amount: u128) -> u128
             drawn.saturating_add(amount)
         }
         Change::Return => drawn.saturating_sub(amount),
-        Change::Clear => 0,
     }
 }
 
@@ -60,7 +56,8 @@ fn move_set(sets: &mut PoolCounters, change: Change, consumption: &CounterConsum
     }
 }
 
-fn move_sets(sets: &mut PoolCounters, change: Change, consumes: &[CounterConsumption])
+/// Counts what consumptions of a device draw from the sets of its pool, as far as they were added.
+pub fn move_sets(sets: &mut PoolCounters, change: Change, consumes: &[CounterConsumption])
     ensures { sets.new ≡ spec.moved_sets change consumes.now sets.old }
 {
     for consumption in consumes {
@@ -106,49 +103,4 @@ pub fn move_device(
 {
     let driver = slice.driver.as_text();
     move_driver(drivers, change, driver, &slice.pool.name, consumes);
-}
-
-fn clear_set(sets: &mut PoolCounters, set: &CounterSet)
-    ensures { sets.new ≡ spec.changed_at set.now.name (λ counters. spec.moved_counters Clear set.now.counters counters) sets.old }
-{
-    if let Some(counters) = sets.get_mut(&set.name) {
-        move_counters(counters, Change::Clear, &set.counters);
-    }
-}
-
-fn clear_sets(sets: &mut PoolCounters, cleared: &[CounterSet])
-    ensures { sets.new ≡ spec.cleared_sets cleared.now sets.old }
-{
-    for set in cleared {
-        clear_set(sets, set);
-    }
-}
-
-fn clear_pool(pools: &mut DriverCounters, pool: &Text, cleared: &[CounterSet])
-    ensures { pools.new ≡ spec.cleared_pools pool.now cleared.now pools.old }
-{
-    if let Some(sets) = pools.get_mut(pool) {
-        clear_sets(sets, cleared);
-    }
-}
-
-fn clear_driver(
-    drivers: &mut Table<Text, DriverCounters>,
-    driver: &Text,
-    pool: &Text,
-    cleared: &[CounterSet],
-)
-    ensures { drivers.new ≡ spec.changed_at driver.now (λ pools. spec.cleared_pools pool.now cleared.now pools) drivers.old }
-{
-    if let Some(pools) = drivers.get_mut(driver) {
-        clear_pool(pools, pool, cleared);
-    }
-}
-
-/// Gives back all that is drawn from the counters of a slice, as far as they were added.
-pub fn clear_slice(drivers: &mut Table<Text, DriverCounters>, slice: &ResourceSlice)
-    ensures { drivers.new ≡ spec.cleared slice.now drivers.old }
-{
-    let driver = slice.driver.as_text();
-    clear_driver(drivers, driver, &slice.pool.name, slice.counters.as_slice());
 }

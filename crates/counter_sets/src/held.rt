@@ -10,7 +10,7 @@ ghost use Rattle.counter_sets.specs.Holding.{AreHeld, holder_in};
 use crate::change::{Change, move_device};
 use crate::counter::DriverCounters;
 use api_slice::{Device, ResourceSlice};
-use dra_values::{Duplicate, Table, Text};
+use dra_values::{Table, Text};
 use object_fields::{DeviceId, Key};
 use shared_map::{NoValue, SharedMap};
 use std::alloc::{AllocError, Global};
@@ -127,13 +127,6 @@ impl Held {
         Ok(Held {
             drivers: self.drivers.share()?,
         })
-    }
-}
-
-/// A duplicate is a copy that shares all of it.
-impl Duplicate for Held {
-    fn duplicate(&self, _alloc: Global) -> Result<Held, AllocError> {
-        self.share()
     }
 }
 

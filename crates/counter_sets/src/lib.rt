@@ -8,9 +8,11 @@ mod counter;
 mod covered;
 mod held;
 mod pools;
+mod shared;
 mod short;
 mod totals;
 
 pub use held::{Held, HeldInPool};
+pub use shared::SharedTotals;
 pub use short::Shortage;
 pub use totals::Totals;

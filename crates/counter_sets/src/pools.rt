@@ -1,56 +1,106 @@
 //! The counters of a pool, in place of those that are kept of it.
 
-ghost use Rattle.std.specs.Prelude.{◌≡◌, IfOk, OnOk, OnErr};
-ghost use Rattle.pool_view.specs.Names.{at_name};
+ghost use Rattle.std.specs.Prelude.{◌≡◌, [], OnOk, OnErr};
+ghost use Rattle.std.specs.BTreeMap.{insert_entry};
+ghost use Rattle.pool_view.specs.Names.{at_name, text_cmp};
 ghost use Rattle.counter_sets.specs.Totals as spec;
 
-use crate::added::add_to_driver;
 use crate::counter::{DriverCounters, PoolCounters};
-use crate::covered::pool_of;
 use api_slice::ResourceSlice;
 use dra_values::{Table, Text};
 use std::alloc::{AllocError, Global};
 
-/// Whether there are counters of the slice's pool, or room for them.
-#[tactic(auto, unfolding(crate::specs::Totals::has_pool))]
-fn has_pool(drivers: &Table<Text, DriverCounters>, slice: &ResourceSlice) -> bool
-    ensures { result ≡ spec.has_pool slice.now drivers.now }
-{
-    pool_of(drivers, slice).is_some()
-}
-
-/// Makes room for the counters of the slice's pool.
-#[tactic(auto, unfolding(crate::specs::Totals::with_pool))]
-fn add_pool(
-    drivers: &mut Table<Text, DriverCounters>,
-    slice: &ResourceSlice,
+fn put_sets(
+    pools: &mut DriverCounters,
+    pool: &Text,
+    sets: PoolCounters,
     alloc: Global,
 ) -> Result<(), AllocError>
-    ensures ok { OnOk result (drivers.new ≡ spec.with_pool slice.now drivers.old) }
-    ensures err { OnErr result (drivers.new ≡ drivers.old) }
+    ensures ok { OnOk result (pools.new ≡ insert_entry text_cmp pools.old pool.now sets) }
+    ensures err { OnErr result (pools.new ≡ pools.old) }
 {
-    let driver = slice.driver.as_text();
-    add_to_driver(drivers, driver, &slice.pool.name, &[], alloc)
+    let name = pool.copy(alloc)?;
+    pools.insert(name, sets)
 }
 
-/// Makes room for the counters of the slice's pool, if the other totals have some.
-pub fn keep_pool(
+/// Adds a driver that has no entry, with the counters of a pool.
+fn add_driver(
     drivers: &mut Table<Text, DriverCounters>,
-    from: &Table<Text, DriverCounters>,
-    slice: &ResourceSlice,
+    driver: &Text,
+    pool: &Text,
+    sets: PoolCounters,
     alloc: Global,
 ) -> Result<(), AllocError>
-    ensures ok { OnOk result (drivers.new ≡ spec.with_place slice.now from.now drivers.old) }
+    ensures ok { OnOk result (drivers.new ≡ insert_entry text_cmp drivers.old driver.now (insert_entry text_cmp [] pool.now sets)) }
     ensures err { OnErr result (drivers.new ≡ drivers.old) }
 {
-    if has_pool(from, slice) {
-        add_pool(drivers, slice, alloc)
-    } else {
-        Ok(())
+    let name = driver.copy(alloc)?;
+    let mut pools = Table::new(alloc);
+    put_sets(&mut pools, pool, sets, alloc)?;
+    drivers.insert(name, pools)
+}
+
+#[tactic(auto, using(std::proofs::lemmas::Map::Steps::set_value_same))]
+fn put_in_driver(
+    drivers: &mut Table<Text, DriverCounters>,
+    driver: &Text,
+    pool: &Text,
+    sets: PoolCounters,
+    alloc: Global,
+) -> Result<(), AllocError>
+    ensures ok { OnOk result (drivers.new ≡ spec.put_in driver.now (λ pools. insert_entry text_cmp pools pool.now sets) drivers.old) }
+    ensures err { OnErr result (drivers.new ≡ drivers.old) }
+{
+    match drivers.get_mut(driver) {
+        Some(pools) => put_sets(pools, pool, sets, alloc),
+        None => add_driver(drivers, driver, pool, sets, alloc),
     }
 }
 
-/// The counters of a pool.
+/// Puts the counters of the slice's pool in place of those that are kept of it.
+#[tactic(auto, unfolding(crate::specs::Totals::with_pool))]
+pub fn put_pool(
+    drivers: &mut Table<Text, DriverCounters>,
+    slice: &ResourceSlice,
+    sets: PoolCounters,
+    alloc: Global,
+) -> Result<(), AllocError>
+    ensures ok { OnOk result (drivers.new ≡ spec.with_pool slice.now sets drivers.old) }
+    ensures err { OnErr result (drivers.new ≡ drivers.old) }
+{
+    let driver = slice.driver.as_text();
+    put_in_driver(drivers, driver, &slice.pool.name, sets, alloc)
+}
+
+fn empty_sets(pools: &mut DriverCounters, pool: &Text, alloc: Global)
+    ensures { pools.new ≡ spec.emptied_pools pool.now pools.old }
+{
+    if let Some(sets) = pools.get_mut(pool) {
+        *sets = Table::new(alloc);
+    }
+}
+
+fn empty_in_driver(
+    drivers: &mut Table<Text, DriverCounters>,
+    driver: &Text,
+    pool: &Text,
+    alloc: Global,
+)
+    ensures { drivers.new ≡ spec.changed_at driver.now (λ pools. spec.emptied_pools pool.now pools) drivers.old }
+{
+    if let Some(pools) = drivers.get_mut(driver) {
+        empty_sets(pools, pool, alloc);
+    }
+}
+
+/// Takes the counters of the slice's pool away. Allocates nothing.
+pub fn empty_pool(drivers: &mut Table<Text, DriverCounters>, slice: &ResourceSlice, alloc: Global)
+    ensures { drivers.new ≡ spec.emptied slice.now drivers.old }
+{
+    let driver = slice.driver.as_text();
+    empty_in_driver(drivers, driver, &slice.pool.name, alloc);
+}
+
 fn of_pool(pools: Option<DriverCounters>, pool: &Text, alloc: Global) -> PoolCounters
     ensures { result ≡ spec.or_empty (at_name (spec.or_empty pools) pool.now) }
 {
@@ -74,52 +124,4 @@ pub fn taken_pool(
 {
     let pools = drivers.remove(driver);
     of_pool(pools, pool, alloc)
-}
-
-/// A copy of the counters of the slice's pool.
-pub fn copied_pool(
-    drivers: &Table<Text, DriverCounters>,
-    slice: &ResourceSlice,
-    alloc: Global,
-) -> Result<PoolCounters, AllocError>
-    ensures { IfOk result (λ sets. sets ≡ spec.pool_in drivers.now slice.now.driver slice.now.pool.name) }
-{
-    match pool_of(drivers, slice) {
-        None => Ok(Table::new(alloc)),
-        Some(sets) => sets.copy(alloc),
-    }
-}
-
-fn put_sets(pools: &mut DriverCounters, pool: &Text, sets: PoolCounters)
-    ensures { pools.new ≡ spec.sets_replaced pool.now sets pools.old }
-{
-    if let Some(old) = pools.get_mut(pool) {
-        *old = sets;
-    }
-}
-
-#[tactic(auto, using(std::proofs::lemmas::Map::Steps::set_value_same))]
-fn put_in_driver(
-    drivers: &mut Table<Text, DriverCounters>,
-    driver: &Text,
-    pool: &Text,
-    sets: PoolCounters,
-)
-    ensures { drivers.new ≡ spec.changed_at driver.now (λ pools. spec.sets_replaced pool.now sets pools) drivers.old }
-{
-    if let Some(pools) = drivers.get_mut(driver) {
-        put_sets(pools, pool, sets);
-    }
-}
-
-/// Puts these counters in place of those of the slice's pool, if there is room for them. Allocates nothing.
-#[tactic(auto, unfolding(crate::specs::Totals::replaced))]
-pub fn put_pool(
-    drivers: &mut Table<Text, DriverCounters>,
-    slice: &ResourceSlice,
-    sets: PoolCounters,
-)
-    ensures { drivers.new ≡ spec.replaced slice.now sets drivers.old }
-{
-    put_in_driver(drivers, slice.driver.as_text(), &slice.pool.name, sets);
 }

@@ -1,21 +1,21 @@
-ghost use Rattle.std.specs.Prelude.{◌≡◌, Option, None, Some, IfSome, min, option_map, List, ◌∷◌, ◌++◌, ◌+◌, ◌-◌, ◌<◌, ◌≤◌, [], true, false, OnOk, OnErr, IfOk, is_some, if◌then◌else◌};
-ghost use Rattle.request_rules.specs.Draws.{CounterId, counter_for, counter_value, first_short, drawn, drawn_by, drawn_from, is_covered, is_of_pool, or_value};
+ghost use Rattle.std.specs.Prelude.{◌≡◌, None, List, ◌∷◌, ◌++◌, ◌+◌, ◌-◌, ◌<◌, ◌≤◌, [], false, true, OnOk, OnErr, if◌then◌else◌};
+ghost use Rattle.request_rules.specs.Draws.{CounterId, counter_value, drawn, drawn_by, drawn_from, is_covered, is_of_pool, or_value};
 ghost use Rattle.counter_sets.specs.Totals as spec;
-ghost use Rattle.counter_sets.specs.Totals.{HasPlace, drawn_in, has_pool, keeps, value_of};
+ghost use Rattle.counter_sets.specs.Totals.{drawn_in, keeps, value_of};
 ghost use Rattle.counter_sets.specs.Holding.{AreHeld, added_held, offered_held};
 ghost use Rattle.object_fields.specs.declared.key.DeviceId.{DeviceId};
 ghost use Rattle.object_fields.specs.declared.key.Key.{Key};
 ghost use Rattle.api_slice.specs.declared.types.ResourceSlice.{ResourceSlice};
 
 use crate::added::add_slice;
-use crate::change::{Change, clear_slice, move_device};
+use crate::change::{Change, move_device};
 use crate::counter::{DriverCounters, PoolCounters};
 use crate::covered::{covers, pool_of};
 use crate::held::{Held, draw_devices};
-use crate::pools::{copied_pool, keep_pool, put_pool, taken_pool};
-use crate::short::{Shortage, first_short, missing_from};
+use crate::pools::{empty_pool, put_pool, taken_pool};
+use crate::shared::SharedTotals;
 use api_slice::ResourceSlice;
-use dra_values::{Duplicate, Table, Text};
+use dra_values::{Table, Text};
 use pool_view::DeviceRef;
 use std::alloc::{AllocError, Global};
 use std::marker::Model;
@@ -24,7 +24,7 @@ use std::marker::Model;
 /// drawn from it, in 10^-9.
 ///
 /// Clauses see the value of each counter (`value_of`), which is `None` if no slice that was added has
-/// it, and how much is drawn from it (`drawn_in`). Only `add_slice` and `copy` allocate.
+/// it, and how much is drawn from it (`drawn_in`). Only `add_slice` and `copy_pool` allocate.
 #[derive(Drop)]
 pub struct Totals {
     drivers: Table<Text, DriverCounters>,
@@ -94,36 +94,10 @@ impl Totals {
         covers(pool_of(&self.drivers, device.slice()), device)
     }
 
-    /// The first counter, in the order of the device's list and then of the names' bytes, that
-    /// doesn't have enough for what the device draws from it; `None` if and only if the device is covered.
-    /// Allocates nothing.
-    pub fn first_short<'a>(&self, device: &DeviceRef<'a>) -> Option<Shortage<'a>>
-        ensures counter { option_map (λ s. counter_for device.now.slice s.set.now s.counter.now) result ≡ option_map (λ d. d.counter) (first_short (value_of self.now) (drawn_in self.now) device.now) }
-        ensures drawn { IfSome result (λ s. s.drawn ≡ min (drawn_in self.now (counter_for device.now.slice s.set.now s.counter.now) + drawn_from (counter_for device.now.slice s.set.now s.counter.now) device.now) spec.sum_most) }
-        ensures value { IfSome result (λ s. s.value ≡ value_of self.now (counter_for device.now.slice s.set.now s.counter.now)) }
-    {
-        let sets = pool_of(&self.drivers, device.slice());
-        match first_short(sets, device) {
-            None => None,
-            Some(names) => Some(missing_from(sets, device, names.0, names.1)),
-        }
-    }
-
     /// Draws what a covered device draws. Allocates nothing.
     #[tactic(auto, using(crate::proofs::Moves::drawn_more))]
     pub fn draw(&mut self, device: &DeviceRef<'_>)
         requires covered { is_covered (value_of self.old) (drawn_in self.old) device.now ≡ true }
-        ensures drawn { (c : CounterId) → drawn_in self.new c ≡ drawn_in self.old c + drawn_from c device.now }
-        ensures value { (c : CounterId) → value_of self.new c ≡ value_of self.old c }
-    {
-        self.change(Change::Draw, device);
-    }
-
-    /// Draws what a device draws that a claim holds, also if its counters, which were added, don't cover it.
-    /// What is drawn must stay below 2^128. Allocates nothing.
-    pub fn hold(&mut self, device: &DeviceRef<'_>)
-        requires kept { (c : CounterId) → keeps self.old c ≡ false → drawn_from c device.now ≡ 0 }
-        requires fits { (c : CounterId) → drawn_in self.old c + drawn_from c device.now ≤ spec.sum_most }
         ensures drawn { (c : CounterId) → drawn_in self.new c ≡ drawn_in self.old c + drawn_from c device.now }
         ensures value { (c : CounterId) → value_of self.new c ≡ value_of self.old c }
     {
@@ -150,106 +124,53 @@ impl Totals {
         );
     }
 
-    /// Gives back all that is drawn from the counters of a slice, whoever drew it. What is drawn from the others
-    /// stays. Allocates nothing.
-    pub fn clear(&mut self, slice: &ResourceSlice)
-        ensures drawn { (c : CounterId) → drawn_in self.new c ≡ (if is_some (counter_value slice.now c) then 0 else drawn_in self.old c) }
-        ensures value { (c : CounterId) → value_of self.new c ≡ value_of self.old c }
-    {
-        slice.keeps_limits();
-        self.clear_counters(slice);
-    }
-
-    fn clear_counters(&mut self, slice: &ResourceSlice)
-        ensures { self.new ≡ spec.cleared slice.now self.old }
-    {
-        clear_slice(&mut self.drivers, slice);
-    }
-
-    /// Makes room for the counters that other totals have of a slice's pool (`take_pool`); none if these have no
-    /// slice of it. No counter changes. `AllocError` is returned only if memory runs out.
-    pub fn keep_pool(
-        &mut self,
-        slice: &ResourceSlice,
-        from: &Totals,
-        alloc: Global,
-    ) -> Result<(), AllocError>
-        ensures place { OnOk result (HasPlace slice.now from.now self.new) }
-        ensures others { (x : ResourceSlice) → has_pool x self.old ≡ true → has_pool x self.new ≡ true }
-        ensures value { (c : CounterId) → value_of self.new c ≡ value_of self.old c }
-        ensures drawn { (c : CounterId) → drawn_in self.new c ≡ drawn_in self.old c }
-    {
-        self.room_for(slice, from, alloc)
-    }
-
-    fn room_for(
-        &mut self,
-        slice: &ResourceSlice,
-        from: &Totals,
-        alloc: Global,
-    ) -> Result<(), AllocError>
-        ensures ok { OnOk result (self.new ≡ spec.with_place slice.now from.now self.old) }
-        ensures err { OnErr result (self.new ≡ self.old) }
-    {
-        keep_pool(&mut self.drivers, &from.drivers, slice, alloc)
-    }
-
-    /// Takes the counters of a slice's pool from other totals, in place of its own, with what is drawn from them.
-    /// Allocates nothing.
-    pub fn take_pool(&mut self, slice: &ResourceSlice, from: Totals, alloc: Global)
-        requires { HasPlace slice.now from self.old }
-        ensures others { (x : ResourceSlice) → has_pool x self.old ≡ true → has_pool x self.new ≡ true }
-        ensures value { (c : CounterId) → value_of self.new c ≡ (if is_of_pool slice.now c then value_of from c else value_of self.old c) }
-        ensures drawn { (c : CounterId) → drawn_in self.new c ≡ (if is_of_pool slice.now c then drawn_in from c else drawn_in self.old c) }
-    {
-        self.replace_pool(slice, from, alloc);
-    }
-
-    fn replace_pool(&mut self, slice: &ResourceSlice, from: Totals, alloc: Global)
-        ensures { self.new ≡ spec.replaced slice.now (spec.pool_in from slice.now.driver slice.now.pool.name) self.old }
+    /// The counters of the slice's pool. Allocates nothing.
+    pub(crate) fn into_pool(self, slice: &ResourceSlice, alloc: Global) -> PoolCounters
+        ensures { result ≡ spec.pool_in self slice.now.driver slice.now.pool.name }
     {
         let driver = slice.driver.as_text();
-        let sets = taken_pool(from.drivers, driver, &slice.pool.name, alloc);
-        put_pool(&mut self.drivers, slice, sets);
+        taken_pool(self.drivers, driver, &slice.pool.name, alloc)
     }
 
-    /// Copies the counters that other totals have of a slice's pool, with what is drawn from them, in place of its own.
+    /// Copies the counters that shared totals have of a slice's pool, with what is drawn from them, in place of its own.
     /// `AllocError` is returned only if memory runs out, and then nothing changes.
     pub fn copy_pool(
         &mut self,
         slice: &ResourceSlice,
-        from: &Totals,
+        from: &SharedTotals,
         alloc: Global,
     ) -> Result<(), AllocError>
         ensures value { OnOk result ((c : CounterId) → value_of self.new c ≡ (if is_of_pool slice.now c then value_of from.now c else value_of self.old c)) }
         ensures drawn { OnOk result ((c : CounterId) → drawn_in self.new c ≡ (if is_of_pool slice.now c then drawn_in from.now c else drawn_in self.old c)) }
         ensures err { OnErr result (self.new ≡ self.old) }
     {
-        let sets = copied_pool(&from.drivers, slice, alloc)?;
-        self.room_for(slice, from, alloc)?;
-        self.put_sets(slice, sets);
-        Ok(())
+        match from.pool_of(slice) {
+            None => {
+                self.empty_pool(slice, alloc);
+                Ok(())
+            }
+            Some(sets) => {
+                let sets = sets.copy(alloc)?;
+                self.put_sets(slice, sets, alloc)
+            }
+        }
     }
 
-    fn put_sets(&mut self, slice: &ResourceSlice, sets: PoolCounters)
-        ensures { self.new ≡ spec.replaced slice.now sets self.old }
+    fn empty_pool(&mut self, slice: &ResourceSlice, alloc: Global)
+        ensures { self.new ≡ spec.emptied slice.now self.old }
     {
-        put_pool(&mut self.drivers, slice, sets);
+        empty_pool(&mut self.drivers, slice, alloc);
     }
 
-    /// Equal totals. `AllocError` is returned only if memory runs out.
-    pub fn copy(&self, alloc: Global) -> Result<Totals, AllocError>
-        ensures { IfOk result (λ copy. copy ≡ self.now) }
+    fn put_sets(
+        &mut self,
+        slice: &ResourceSlice,
+        sets: PoolCounters,
+        alloc: Global,
+    ) -> Result<(), AllocError>
+        ensures ok { OnOk result (self.new ≡ spec.with_pool slice.now sets self.old) }
+        ensures err { OnErr result (self.new ≡ self.old) }
     {
-        Ok(Totals {
-            drivers: self.drivers.copy(alloc)?,
-        })
-    }
-}
-
-/// A copy is equal. `AllocError` is returned only if memory runs out.
-impl Duplicate for Totals {
-    fn duplicate(&self, alloc: Global) -> Result<Totals, AllocError> {
-        self.copy(alloc)
+        put_pool(&mut self.drivers, slice, sets, alloc)
     }
 }

@@ -1,5 +1,5 @@
 -- What a ledger remembers beside its entries: dates, and nodes that are known to have no allocation.
-use Rattle.std.specs.Prelude.{ℕ, ◌≡◌, ◌+◌, ◌++◌, List, [], ◌∷◌, Bool, true, length, if◌then◌else◌}
+use Rattle.std.specs.Prelude.{ℕ, ◌≡◌, ◌+◌, ◌++◌, List, [], ◌∷◌, Bool, length, if◌then◌else◌}
 use Rattle.object_fields.specs.declared.key.DeviceId.{DeviceId}
 use Rattle.pool_view.specs.declared.names.PoolName.{PoolName}
 use Rattle.cluster.specs.declared.entry.Entry.{Entry}

@@ -1,7 +1,7 @@
 //! The totals that a ledger keeps, where objects are put and removed: where a slice is, those of its pool are made
 //! anew.
 
-ghost use Rattle.std.specs.Prelude.{◌≡◌, true, IfOk, OnOk, OnErr};
+ghost use Rattle.std.specs.Prelude.{◌≡◌, true, OnOk, OnErr};
 ghost use Rattle.cluster.specs.declared.object.Object.TheVariants as objects;
 ghost use Rattle.cluster.specs.declared.object.Target.TheVariants as targets;
 ghost use Rattle.cluster.specs.Applied.{with_object};
@@ -12,21 +12,10 @@ ghost use Rattle.pool_totals.specs.Counting.{AreCounted};
 
 use api_slice::ResourceSlice;
 use cluster::{Kept, State, Target};
-use counter_sets::{Held, Totals};
+use counter_sets::{Held, SharedTotals};
 use dra_values::{Shared, Text};
-use pool_totals::{kept_totals, recount_with, recount_without};
+use pool_totals::{recount_with, recount_without};
 use std::alloc::{AllocError, Global};
-
-/// The totals of a state. `AllocError` only if memory runs out.
-pub fn new_totals(
-    alloc: Global,
-    state: &State,
-    holders: &Held,
-) -> Result<Shared<Totals>, AllocError>
-    ensures { IfOk result (AreCounted state.now.inventory holders.now) }
-{
-    Shared::new(alloc, kept_totals(alloc, &state.inventory, holders)?)
-}
 
 /// Puts a slice that there is room for, and counts the pools anew that it touches. `AllocError` only if memory runs
 /// out, and then the state is as it was.
@@ -34,7 +23,7 @@ fn put_slice(
     alloc: Global,
     state: &mut State,
     holders: &Held,
-    totals: &mut Totals,
+    totals: &mut SharedTotals,
     index: u64,
     slice: Shared<ResourceSlice>,
 ) -> Result<(), AllocError>
@@ -44,9 +33,9 @@ fn put_slice(
     ensures err { OnErr result (state.new ≡ state.old) }
     ensures counted { AreCounted state.new.inventory holders.now totals.new }
 {
-    let recount = recount_with(alloc, &state.inventory, holders, totals, index, &slice)?;
+    let next = recount_with(alloc, &state.inventory, holders, totals, index, &slice)?;
     state.put(alloc, index, Kept::Slice(slice))?;
-    recount.settle(alloc, totals);
+    *totals = next;
     Ok(())
 }
 
@@ -56,7 +45,7 @@ pub fn put(
     alloc: Global,
     state: &mut State,
     holders: &Held,
-    totals: &mut Shared<Totals>,
+    totals: &mut SharedTotals,
     index: u64,
     kept: Kept,
 ) -> Result<(), AllocError>
@@ -67,10 +56,7 @@ pub fn put(
     ensures counted { AreCounted state.new.inventory holders.now totals.new }
 {
     match kept {
-        Kept::Slice(slice) => {
-            let totals = totals.change(alloc)?;
-            put_slice(alloc, state, holders, totals, index, slice)
-        }
+        Kept::Slice(slice) => put_slice(alloc, state, holders, totals, index, slice),
         Kept::Node(node) => state.put(alloc, index, Kept::Node(node)),
         Kept::Class(class) => state.put(alloc, index, Kept::Class(class)),
         Kept::Claim(claim) => state.put(alloc, index, Kept::Claim(claim)),
@@ -84,7 +70,7 @@ fn remove_slice(
     alloc: Global,
     state: &mut State,
     holders: &Held,
-    totals: &mut Totals,
+    totals: &mut SharedTotals,
     target: &Target,
     name: &Text,
 ) -> Result<(), AllocError>
@@ -94,9 +80,9 @@ fn remove_slice(
     ensures err { OnErr result (state.new ≡ state.old) }
     ensures counted { AreCounted state.new.inventory holders.now totals.new }
 {
-    let recount = recount_without(alloc, &state.inventory, holders, totals, name)?;
+    let next = recount_without(alloc, &state.inventory, holders, totals, name)?;
     state.remove(alloc, target)?;
-    recount.settle(alloc, totals);
+    *totals = next;
     Ok(())
 }
 
@@ -105,7 +91,7 @@ pub fn remove(
     alloc: Global,
     state: &mut State,
     holders: &Held,
-    totals: &mut Shared<Totals>,
+    totals: &mut SharedTotals,
     target: &Target,
 ) -> Result<(), AllocError>
     requires counted { AreCounted state.old.inventory holders.now totals.old }
@@ -114,10 +100,7 @@ pub fn remove(
     ensures counted { AreCounted state.new.inventory holders.now totals.new }
 {
     match target {
-        Target::Slice(name) => {
-            let totals = totals.change(alloc)?;
-            remove_slice(alloc, state, holders, totals, target, name)
-        }
+        Target::Slice(name) => remove_slice(alloc, state, holders, totals, target, name),
         Target::Node(_) => state.remove(alloc, target),
         Target::Class(_) => state.remove(alloc, target),
         Target::Claim(_) => state.remove(alloc, target),

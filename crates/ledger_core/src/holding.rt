@@ -21,11 +21,11 @@ use crate::dating::{pools_held, pools_lost, set_freed};
 use allocations::keys_of_pod;
 use api_claim::{ClaimStatus, StatusResult};
 use cluster::{ClaimState, DeviceResult, Grant, Granted, Plan, State, Target};
-use counter_sets::{Held, Totals};
+use counter_sets::{Held, SharedTotals};
 use dra_values::{Duplicate, Seq, Shared};
 use node_memo::Dates;
 use object_fields::Key;
-use pool_totals::{hold, redraw};
+use pool_totals::hold;
 use pool_view::{PoolName, Pools};
 use shared_map::SharedMap;
 use std::alloc::{AllocError, Global};
@@ -35,14 +35,13 @@ fn give(
     alloc: Global,
     pools: &Pools,
     holders: &mut Held,
-    totals: &mut Totals,
+    totals: &mut SharedTotals,
     claim: &Key,
     found: &DeviceResult,
 ) -> Result<(), AllocError>
     requires counted { AreCounted pools.now holders.old totals.old }
     ensures ok { OnOk result ((id : DeviceId) → holder_in holders.new id ≡ given_one claim.now found.now id (holder_in holders.old id)) }
-    ensures err { OnErr result (holders.new ≡ holders.old) }
-    ensures counted { AreCounted pools.now holders.new totals.new }
+    ensures counted { OnOk result (AreCounted pools.now holders.new totals.new) }
 {
     if found.admin {
         return Ok(());
@@ -56,13 +55,13 @@ fn give_all(
     alloc: Global,
     pools: &Pools,
     holders: &mut Held,
-    totals: &mut Totals,
+    totals: &mut SharedTotals,
     claim: &Key,
     results: &[DeviceResult],
 ) -> Result<(), AllocError>
     requires counted { AreCounted pools.now holders.old totals.old }
     ensures ok { OnOk result ((id : DeviceId) → holder_in holders.new id ≡ given_to claim.now results.now id (holder_in holders.old id)) }
-    ensures counted { AreCounted pools.now holders.new totals.new }
+    ensures counted { OnOk result (AreCounted pools.now holders.new totals.new) }
 {
     for found in results {
         give(alloc, pools, holders, totals, claim, found)?;
@@ -75,12 +74,12 @@ fn give_each(
     alloc: Global,
     pools: &Pools,
     holders: &mut Held,
-    totals: &mut Totals,
+    totals: &mut SharedTotals,
     grants: &[Grant],
 ) -> Result<(), AllocError>
     requires counted { AreCounted pools.now holders.old totals.old }
     ensures ok { OnOk result ((id : DeviceId) → holder_in holders.new id ≡ given_each grants.now id (holder_in holders.old id)) }
-    ensures counted { AreCounted pools.now holders.new totals.new }
+    ensures counted { OnOk result (AreCounted pools.now holders.new totals.new) }
 {
     for grant in grants {
         give_all(
@@ -100,12 +99,12 @@ fn leave(
     alloc: Global,
     pools: &Pools,
     holders: &mut Held,
-    totals: &mut Totals,
+    totals: &mut SharedTotals,
     found: &DeviceResult,
 ) -> Result<(), AllocError>
     requires counted { AreCounted pools.now holders.old totals.old }
     ensures left { OnOk result ((id : DeviceId) → holder_in holders.new id ≡ left_one found.now id (holder_in holders.old id)) }
-    ensures counted { AreCounted pools.now holders.new totals.new }
+    ensures counted { OnOk result (AreCounted pools.now holders.new totals.new) }
 {
     if found.admin {
         return Ok(());
@@ -118,12 +117,12 @@ fn leave_all(
     alloc: Global,
     pools: &Pools,
     holders: &mut Held,
-    totals: &mut Totals,
+    totals: &mut SharedTotals,
     results: &[DeviceResult],
 ) -> Result<(), AllocError>
     requires counted { AreCounted pools.now holders.old totals.old }
     ensures left { OnOk result ((id : DeviceId) → holder_in holders.new id ≡ left_of results.now id (holder_in holders.old id)) }
-    ensures counted { AreCounted pools.now holders.new totals.new }
+    ensures counted { OnOk result (AreCounted pools.now holders.new totals.new) }
 {
     for found in results {
         leave(alloc, pools, holders, totals, found)?;
@@ -136,12 +135,12 @@ fn leave_lost(
     alloc: Global,
     pools: &Pools,
     holders: &mut Held,
-    totals: &mut Totals,
+    totals: &mut SharedTotals,
     lost: &[Shared<Granted>],
 ) -> Result<(), AllocError>
     requires counted { AreCounted pools.now holders.old totals.old }
     ensures left { OnOk result ((id : DeviceId) → holder_in holders.new id ≡ left_by lost.now id (holder_in holders.old id)) }
-    ensures counted { AreCounted pools.now holders.new totals.new }
+    ensures counted { OnOk result (AreCounted pools.now holders.new totals.new) }
 {
     for grant in lost {
         leave_all(alloc, pools, holders, totals, grant.results.as_slice())?;
@@ -157,7 +156,7 @@ fn reserve_held(
     state: &mut State,
     pools: &Pools,
     holders: &mut Held,
-    totals: &mut Totals,
+    totals: &mut SharedTotals,
     job: u64,
     pod: &Key,
     plan: &Plan,
@@ -166,7 +165,7 @@ fn reserve_held(
     ensures ok { OnOk result (state.new ≡ with_reserved job pod.now plan.now state.old) }
     ensures given { OnOk result ((id : DeviceId) → holder_in holders.new id ≡ given_each plan.now.grants id (holder_in holders.old id)) }
     ensures err { OnErr result (state.new ≡ state.old) }
-    ensures counted { AreCounted pools.now holders.new totals.new }
+    ensures counted { OnOk result (AreCounted pools.now holders.new totals.new) }
 {
     give_each(alloc, pools, holders, totals, plan.grants.as_slice())?;
     state.reserve(alloc, job, pod, plan)
@@ -177,8 +176,8 @@ fn reserve_held(
 pub fn reserve(
     alloc: Global,
     state: &mut State,
-    holders: &mut Shared<Held>,
-    totals: &mut Shared<Totals>,
+    holders: &mut Held,
+    totals: &mut SharedTotals,
     job: u64,
     pod: &Key,
     plan: &Plan,
@@ -196,19 +195,12 @@ pub fn reserve(
     state.sort(alloc)?;
     let inventory = state.inventory.share()?;
     let pools = Pools::of(alloc, &inventory)?;
-    let totals = totals.change(alloc)?;
     let mut next = holders.share()?;
-    let with = next.change(alloc)?;
-    match reserve_held(alloc, state, &pools, with, totals, job, pod, plan) {
-        Ok(()) => {
-            *holders = next;
-            Ok((kept_pod, kept_plan))
-        }
-        Err(error) => {
-            redraw(&pools, holders.value(), totals);
-            Err(error)
-        }
-    }
+    let mut drawn = totals.share()?;
+    reserve_held(alloc, state, &pools, &mut next, &mut drawn, job, pod, plan)?;
+    *holders = next;
+    *totals = drawn;
+    Ok((kept_pod, kept_plan))
 }
 
 // ---- the uses of a pod
@@ -290,7 +282,7 @@ fn free_held(
     state: &mut State,
     pools: &Pools,
     holders: &mut Held,
-    totals: &mut Totals,
+    totals: &mut SharedTotals,
     dates: &mut Dates,
     index: u64,
     pod: &Key,
@@ -300,7 +292,7 @@ fn free_held(
     ensures left { OnOk result ((id : DeviceId) → holder_in holders.new id ≡ left_by (lost_with state.old pod.now) id (holder_in holders.old id)) }
     ensures dated { OnOk result (AreSet false (lost_with state.old pod.now) index dates.old dates.new) }
     ensures err { OnErr result (state.new ≡ state.old) }
-    ensures counted { AreCounted pools.now holders.new totals.new }
+    ensures counted { OnOk result (AreCounted pools.now holders.new totals.new) }
 {
     let lost = lost_with(alloc, state, pod)?;
     let freed = pools_lost(alloc, &lost)?;
@@ -314,8 +306,8 @@ fn free_held(
 pub fn free(
     alloc: Global,
     state: &mut State,
-    holders: &mut Shared<Held>,
-    totals: &mut Shared<Totals>,
+    holders: &mut Held,
+    totals: &mut SharedTotals,
     dates: &mut Shared<Dates>,
     index: u64,
     pod: &Key,
@@ -334,22 +326,17 @@ pub fn free(
     state.sort(alloc)?;
     let inventory = state.inventory.share()?;
     let pools = Pools::of(alloc, &inventory)?;
-    let totals = totals.change(alloc)?;
     let mut next = holders.share()?;
+    let mut drawn = totals.share()?;
     let mut later = dates.share()?;
-    let with = next.change(alloc)?;
     let dated = later.change(alloc)?;
-    match free_held(alloc, state, &pools, with, totals, dated, index, pod) {
-        Ok(()) => {
-            *holders = next;
-            *dates = later;
-            Ok(kept)
-        }
-        Err(error) => {
-            redraw(&pools, holders.value(), totals);
-            Err(error)
-        }
-    }
+    free_held(
+        alloc, state, &pools, &mut next, &mut drawn, dated, index, pod,
+    )?;
+    *holders = next;
+    *totals = drawn;
+    *dates = later;
+    Ok(kept)
 }
 
 // ---- objects that are taken away
@@ -374,7 +361,7 @@ fn remove_held(
     state: &mut State,
     pools: &Pools,
     holders: &mut Held,
-    totals: &mut Totals,
+    totals: &mut SharedTotals,
     target: &Target,
     results: &[DeviceResult],
 ) -> Result<(), AllocError>
@@ -382,7 +369,7 @@ fn remove_held(
     ensures ok { OnOk result (state.new ≡ without_object target.now state.old) }
     ensures left { OnOk result ((id : DeviceId) → holder_in holders.new id ≡ left_of results.now id (holder_in holders.old id)) }
     ensures err { OnErr result (state.new ≡ state.old) }
-    ensures counted { AreCounted pools.now holders.new totals.new }
+    ensures counted { OnOk result (AreCounted pools.now holders.new totals.new) }
 {
     leave_all(alloc, pools, holders, totals, results)?;
     state.remove(alloc, target)
@@ -392,8 +379,8 @@ fn remove_held(
 fn remove_granted(
     alloc: Global,
     state: &mut State,
-    holders: &mut Shared<Held>,
-    totals: &mut Shared<Totals>,
+    holders: &mut Held,
+    totals: &mut SharedTotals,
     target: &Target,
     key: &Key,
     results: &[DeviceResult],
@@ -409,27 +396,20 @@ fn remove_granted(
     state.sort(alloc)?;
     let inventory = state.inventory.share()?;
     let pools = Pools::of(alloc, &inventory)?;
-    let totals = totals.change(alloc)?;
     let mut next = holders.share()?;
-    let with = next.change(alloc)?;
-    match remove_held(alloc, state, &pools, with, totals, target, results) {
-        Ok(()) => {
-            *holders = next;
-            Ok(())
-        }
-        Err(error) => {
-            redraw(&pools, holders.value(), totals);
-            Err(error)
-        }
-    }
+    let mut drawn = totals.share()?;
+    remove_held(alloc, state, &pools, &mut next, &mut drawn, target, results)?;
+    *holders = next;
+    *totals = drawn;
+    Ok(())
 }
 
 /// Takes away a claim, with whose grant its devices go back.
 fn remove_claim(
     alloc: Global,
     state: &mut State,
-    holders: &mut Shared<Held>,
-    totals: &mut Shared<Totals>,
+    holders: &mut Held,
+    totals: &mut SharedTotals,
     target: &Target,
     key: &Key,
     grant: &Option<Shared<Granted>>,
@@ -443,7 +423,7 @@ fn remove_claim(
     ensures counted { AreCounted state.new.inventory holders.new totals.new }
 {
     match grant {
-        None => counting::remove(alloc, state, holders.value(), totals, target),
+        None => counting::remove(alloc, state, holders, totals, target),
         Some(grant) => {
             let results = grant.results.as_slice();
             remove_granted(alloc, state, holders, totals, target, key, results)
@@ -468,8 +448,8 @@ fn pools_of_grant(
 fn remove_dated(
     alloc: Global,
     state: &mut State,
-    holders: &mut Shared<Held>,
-    totals: &mut Shared<Totals>,
+    holders: &mut Held,
+    totals: &mut SharedTotals,
     dates: &mut Shared<Dates>,
     index: u64,
     target: &Target,
@@ -499,7 +479,7 @@ fn remove_searched(
     alloc: Global,
     state: &mut State,
     holders: &Held,
-    totals: &mut Shared<Totals>,
+    totals: &mut SharedTotals,
     dates: &mut Shared<Dates>,
     index: u64,
     target: &Target,
@@ -520,8 +500,8 @@ fn remove_searched(
 fn remove_by(
     alloc: Global,
     state: &mut State,
-    holders: &mut Shared<Held>,
-    totals: &mut Shared<Totals>,
+    holders: &mut Held,
+    totals: &mut SharedTotals,
     dates: &mut Shared<Dates>,
     index: u64,
     target: &Target,
@@ -539,9 +519,9 @@ fn remove_by(
         Target::Claim(key) => {
             remove_dated(alloc, state, holders, totals, dates, index, target, key)
         }
-        Target::Pod(_) => counting::remove(alloc, state, holders.value(), totals, target),
+        Target::Pod(_) => counting::remove(alloc, state, holders, totals, target),
         Target::Node(_) | Target::Slice(_) | Target::Class(_) => {
-            remove_searched(alloc, state, holders.value(), totals, dates, index, target)
+            remove_searched(alloc, state, holders, totals, dates, index, target)
         }
     }
 }
@@ -551,8 +531,8 @@ fn remove_by(
 pub fn remove(
     alloc: Global,
     state: &mut State,
-    holders: &mut Shared<Held>,
-    totals: &mut Shared<Totals>,
+    holders: &mut Held,
+    totals: &mut SharedTotals,
     dates: &mut Shared<Dates>,
     index: u64,
     target: &Target,
@@ -601,7 +581,7 @@ fn adopt_held(
     state: &mut State,
     pools: &Pools,
     holders: &mut Held,
-    totals: &mut Totals,
+    totals: &mut SharedTotals,
     index: u64,
     claim: &Key,
     status: &ClaimStatus,
@@ -610,7 +590,7 @@ fn adopt_held(
     ensures ok { OnOk result (state.new ≡ with_adopted index claim.now status.now state.old) }
     ensures given { OnOk result ((id : DeviceId) → holder_in holders.new id ≡ given_to claim.now (map result_of status.now.results) id (holder_in holders.old id)) }
     ensures err { OnErr result (state.new ≡ state.old) }
-    ensures counted { AreCounted pools.now holders.new totals.new }
+    ensures counted { OnOk result (AreCounted pools.now holders.new totals.new) }
 {
     let results = status_results(alloc, status)?;
     give_all(alloc, pools, holders, totals, claim, results.as_slice())?;
@@ -622,8 +602,8 @@ fn adopt_held(
 pub fn adopt(
     alloc: Global,
     state: &mut State,
-    holders: &mut Shared<Held>,
-    totals: &mut Shared<Totals>,
+    holders: &mut Held,
+    totals: &mut SharedTotals,
     index: u64,
     claim: &Key,
     status: &ClaimStatus,
@@ -640,17 +620,12 @@ pub fn adopt(
     state.sort(alloc)?;
     let inventory = state.inventory.share()?;
     let pools = Pools::of(alloc, &inventory)?;
-    let totals = totals.change(alloc)?;
     let mut next = holders.share()?;
-    let with = next.change(alloc)?;
-    match adopt_held(alloc, state, &pools, with, totals, index, claim, status) {
-        Ok(()) => {
-            *holders = next;
-            Ok(kept)
-        }
-        Err(error) => {
-            redraw(&pools, holders.value(), totals);
-            Err(error)
-        }
-    }
+    let mut drawn = totals.share()?;
+    adopt_held(
+        alloc, state, &pools, &mut next, &mut drawn, index, claim, status,
+    )?;
+    *holders = next;
+    *totals = drawn;
+    Ok(kept)
 }

@@ -37,8 +37,9 @@ ghost use Rattle.histories.specs.Unreserved.{MayUnreserve};
 ghost use Rattle.histories.specs.Wrote.{MayWrite};
 
 use crate::LedgerError;
-use crate::counting::{new_totals, put};
+use crate::counting::put;
 use crate::dating::{is_searched, make_slice_row, memory_goes_on};
+use crate::deleting::delete_refusal;
 use crate::holding::{adopt, free, remove, reserve};
 use crate::memos::{put_last, take_last};
 use crate::plans::true_plans_pass;
@@ -50,15 +51,15 @@ use cluster::{
     Command, Entry, Event, Failure, JobState, Kept, Mode, Outcome, Phase, Plan, Ready, ReadyParts,
     Refusal, State, Target, Use, Users, Verdict,
 };
-use counter_sets::{Held, Totals};
+use counter_sets::{Held, SharedTotals};
 use dra_values::{Shared, Table, Text};
 use full_nodes::learn_full_slices;
-use histories::{one_holder, uids_keep_claims};
+use histories::{one_holder, uids_keep_claims, users_are_busy};
 use node_inputs::wanted_in;
 use node_memo::{Dates, Memo};
 use object_fields::{DeviceId, FieldError, FieldErrorKind, Key};
 use plan_rules::{checked_is_allocation, checked_is_known};
-use pool_totals::kept_totals_are_drawn;
+use pool_totals::{kept_totals_are_drawn, new_totals};
 use std::alloc::{AllocError, Global};
 use std::marker::Model;
 use std::mem;
@@ -86,8 +87,8 @@ pub enum Start {
 pub struct Ledger {
     entries: Vec<Entry>,
     state: State,
-    holders: Shared<Held>,
-    totals: Shared<Totals>,
+    holders: Held,
+    totals: SharedTotals,
     job_states: JobStates,
     limit: u64,
     dates: Shared<Dates>,
@@ -117,8 +118,8 @@ impl Ledger {
     {
         memory_goes_on();
         let state = State::new(alloc)?;
-        let holders = no_holders(alloc)?;
-        let totals = new_totals(alloc, &state, &holders)?;
+        let holders = Held::new(alloc)?;
+        let totals = new_totals(alloc, &state.inventory)?;
         let dates = Shared::new(alloc, Dates::new(alloc)?)?;
         Ok(Ledger {
             entries: Vec::new(alloc),
@@ -172,7 +173,7 @@ impl Ledger {
 
     /// The counters of the usable pools after all entries, with what the devices draw from each that claims hold.
     /// Allocates nothing.
-    pub fn totals(&self) -> &Totals
+    pub fn totals(&self) -> &SharedTotals
         ensures { AreDrawn (state_of self.now.entries).inventory (held (state_of self.now.entries)) result.now }
     {
         kept_totals_are_drawn();
@@ -274,7 +275,8 @@ impl Ledger {
         ensures full { (n : ℕ) → IsErrOf result (LedgerError.Full n) → (length self.old.entries ≡ n) × (self.old.limit ≤ n) }
         ensures err { OnErr result (self.new ≡ self.old) }
     {
-        match self.state.delete_refusal(target) {
+        users_are_busy();
+        match delete_refusal(&self.state, target) {
             None => self.take_away(alloc, job, target),
             Some(refusal) => {
                 let target = target.copy(alloc)?;
@@ -932,13 +934,6 @@ impl Ledger {
     }
 }
 
-/// No device is held.
-fn no_holders(alloc: Global) -> Result<Shared<Held>, AllocError>
-    ensures { IfOk result (λ holders. AreHeld holders []) }
-{
-    Shared::new(alloc, Held::new(alloc)?)
-}
-
 /// Allocates all memory for an entry, puts its object, and sets the date of nodes, slices and classes if it is one.
 fn put_object(
     alloc: Global,
@@ -946,7 +941,7 @@ fn put_object(
     job_states: &mut JobStates,
     state: &mut State,
     holders: &Held,
-    totals: &mut Shared<Totals>,
+    totals: &mut SharedTotals,
     dates: &mut Shared<Dates>,
     limit: u64,
     job: u64,
@@ -983,7 +978,7 @@ fn put_searched(
     alloc: Global,
     state: &mut State,
     holders: &Held,
-    totals: &mut Shared<Totals>,
+    totals: &mut SharedTotals,
     dates: &mut Dates,
     index: u64,
     kept: Kept,
@@ -1081,8 +1076,8 @@ fn bind(alloc: Global, state: &mut State, pod: &Key) -> Result<(Key, Text), Allo
 fn take_snapshot(
     alloc: Global,
     state: &mut State,
-    holders: &Shared<Held>,
-    totals: &Shared<Totals>,
+    holders: &Held,
+    totals: &SharedTotals,
     pod: &Key,
     at: u64,
     learns: bool,

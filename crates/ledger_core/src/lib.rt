@@ -3,6 +3,7 @@
 
 mod counting;
 mod dating;
+mod deleting;
 mod error;
 mod holding;
 mod ledger;

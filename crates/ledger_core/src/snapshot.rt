@@ -5,8 +5,7 @@ ghost use Rattle.pool_totals.specs.Counting.{AreCounted};
 ghost use Rattle.pool_totals.specs.Drawn.{AreDrawn};
 
 use cluster::State;
-use counter_sets::{Held, Totals};
-use dra_values::Shared;
+use counter_sets::{Held, SharedTotals};
 use pool_totals::kept_totals_are_drawn;
 use std::marker::Model;
 
@@ -16,8 +15,8 @@ use std::marker::Model;
 pub struct Snapshot {
     at: u64,
     state: State,
-    holders: Shared<Held>,
-    totals: Shared<Totals>,
+    holders: Held,
+    totals: SharedTotals,
 }
 
 impl Model for Snapshot {
@@ -35,12 +34,7 @@ impl Model for Snapshot {
 
 impl Snapshot {
     /// The snapshot of a state after so many entries.
-    pub(crate) fn of(
-        at: u64,
-        state: State,
-        holders: Shared<Held>,
-        totals: Shared<Totals>,
-    ) -> Snapshot
+    pub(crate) fn of(at: u64, state: State, holders: Held, totals: SharedTotals) -> Snapshot
         requires holders { AreHeld holders (held state) }
         requires totals { AreCounted state.inventory holders totals }
         ensures { result ≡ record { at = at; state = state } }
@@ -75,7 +69,7 @@ impl Snapshot {
     }
 
     /// The counters of this state's usable pools, with what the devices draw from each that claims hold.
-    pub fn totals(&self) -> &Totals
+    pub fn totals(&self) -> &SharedTotals
         ensures { AreDrawn self.now.state.inventory (held self.now.state) result.now }
     {
         kept_totals_are_drawn();

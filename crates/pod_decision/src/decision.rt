@@ -20,7 +20,7 @@ use crate::tries::NodeTries;
 use allocations::{keys_of_pod, unsat_is_true};
 use api_cluster::Pod;
 use cluster::{Known, PassedBuilder, PassedNodes, Phase, Plan, PodState, Reason, State, Verdict};
-use counter_sets::{Held, Totals};
+use counter_sets::{Held, SharedTotals};
 use dra_values::Seq;
 use node_inputs::wanted_claims;
 use node_memo::{Dates, LackingNodes, Memo};
@@ -69,7 +69,7 @@ pub fn decide(
     alloc: Global,
     state: &State,
     holders: &Held,
-    totals: &Totals,
+    totals: &SharedTotals,
     pod: &Key,
     at: u64,
     budget: u64,
@@ -94,7 +94,7 @@ pub fn decide_with(
     alloc: Global,
     state: &State,
     holders: &Held,
-    totals: &Totals,
+    totals: &SharedTotals,
     pod: &Key,
     at: u64,
     budget: u64,
@@ -120,7 +120,7 @@ fn decide_for(
     alloc: Global,
     state: &State,
     holders: &Held,
-    totals: &Totals,
+    totals: &SharedTotals,
     key: &Key,
     pod: &PodState,
     at: u64,
@@ -147,7 +147,7 @@ fn decide_known(
     alloc: Global,
     state: &State,
     holders: &Held,
-    totals: &Totals,
+    totals: &SharedTotals,
     key: &Key,
     pod: &PodState,
     at: u64,
@@ -186,7 +186,7 @@ fn decide_by_memo(
     alloc: Global,
     state: &State,
     holders: &Held,
-    totals: &Totals,
+    totals: &SharedTotals,
     key: &Key,
     pod: &PodState,
     claims: &[Key],

@@ -19,7 +19,7 @@ use allocator::{Outcome, search_devices};
 use api_cluster::Pod;
 use api_slice::ResourceSlice;
 use cluster::State;
-use counter_sets::{Held, Totals};
+use counter_sets::{Held, SharedTotals, Totals};
 use device_match::Verdicts;
 use dra_values::{Seq, Text};
 use full_nodes::{is_full, known_for};
@@ -106,7 +106,7 @@ impl<'a> PodSearch<'a> {
         &self,
         alloc: Global,
         node: &Text,
-        totals: &Totals,
+        totals: &SharedTotals,
         budget: u64,
         verdicts: &mut Verdicts,
     ) -> Result<Outcome, AllocError>
@@ -152,7 +152,11 @@ fn is_like_before(devices: &[DeviceRef], position: usize) -> bool
 }
 
 /// The counters of the devices' pools, with what is drawn from them.
-fn own_totals(alloc: Global, totals: &Totals, devices: &[DeviceRef]) -> Result<Totals, AllocError>
+fn own_totals(
+    alloc: Global,
+    totals: &SharedTotals,
+    devices: &[DeviceRef],
+) -> Result<Totals, AllocError>
     ensures { IfOk result (λ own. AreCopied devices.now totals.now own) }
 {
     let mut own = Totals::new(alloc);
@@ -171,7 +175,7 @@ fn search_among(
     broken: bool,
     wants: &Wants,
     holders: &Held,
-    totals: &Totals,
+    totals: &SharedTotals,
     budget: u64,
     verdicts: &mut Verdicts,
 ) -> Result<Outcome, AllocError>

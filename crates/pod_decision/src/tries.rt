@@ -19,7 +19,7 @@ use allocations::lacking_is_found;
 use allocator::Outcome;
 use api_cluster::Pod;
 use cluster::State;
-use counter_sets::{Held, Totals};
+use counter_sets::{Held, SharedTotals};
 use device_match::Verdicts;
 use dra_values::Text;
 use node_memo::{Dates, LackingNodes};
@@ -33,7 +33,7 @@ pub struct NodeTries<'a> {
     state: &'a State,
     pod: &'a Pod,
     holders: &'a Held,
-    totals: &'a Totals,
+    totals: &'a SharedTotals,
     budget: u64,
     dates: &'a Dates,
     at: u64,
@@ -58,7 +58,7 @@ impl<'a> NodeTries<'a> {
         state: &'a State,
         pod: &'a Pod,
         holders: &'a Held,
-        totals: &'a Totals,
+        totals: &'a SharedTotals,
         budget: u64,
         dates: &'a Dates,
         at: u64,
@@ -179,7 +179,7 @@ fn search_for<'a>(
 fn search_node(
     alloc: Global,
     search: &PodSearch,
-    totals: &Totals,
+    totals: &SharedTotals,
     nodes: &mut Option<LackingNodes>,
     position: usize,
     node: &Text,
@@ -207,7 +207,7 @@ fn search_node(
 fn outcome_of(
     alloc: Global,
     search: &PodSearch,
-    totals: &Totals,
+    totals: &SharedTotals,
     nodes: &mut Option<LackingNodes>,
     node: &Text,
     budget: u64,

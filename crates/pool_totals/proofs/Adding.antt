@@ -1,13 +1,12 @@
 -- What the held devices of slices draw, added slice after slice.
-use Rattle.std.proofs.Common.{ℕ, ◌+◌, ◌<◌, ◌≤◌, ◌≡◌, ◌∙◌, List, [], ◌∷◌, false, cond, Option, None, Some, drop, get_or, is_some, length, refl, sym, ap, subst, arith}
+use Rattle.std.proofs.Common.{ℕ, ◌+◌, ◌<◌, ◌≤◌, ◌≡◌, ◌∙◌, List, [], ◌∷◌, false, Option, None, Some, drop, get_or, is_some, length, refl, sym, ap, subst, arith}
 use Rattle.std.proofs.lemmas.List.Sums.{sum_by-cons}
 use Rattle.api_slice.specs.declared.types.ResourceSlice.{ResourceSlice}
 use Rattle.pool_view.specs.Usable.{counted_slices, usable_slices}
 use Rattle.pool_view.specs.declared.inventory.Inventory.{Inventory}
 use Rattle.request_rules.specs.Draws.{CounterId, counter_value, drawn_by, or_value, value_among}
 use Rattle.counter_sets.specs.Holding.{Holders, offered_held}
-use Rattle.counter_sets.specs.Totals.{KeptCounters, counter_at, drawn_in, drawn_kept, keeps, sum_most, value_kept, value_of}
-use Rattle.counter_sets.specs.declared.counter.Counter.{Counter}
+use Rattle.counter_sets.specs.Totals.{KeptCounters, drawn_in, keeps, sum_most, value_of}
 use Rattle.pool_totals.specs.Adding.{AreUndrawn, HasRoom, IsAdding, held_draws}
 use Rattle.pool_totals.proofs.Counted.{AreThere, no_held_draws, value_counted}
 use Rattle.pool_totals.proofs.Places.{item_at}
@@ -43,43 +42,6 @@ fills_next all left x now new f value same = record {
 
 pub filled : (all : List ResourceSlice) (kept : KeptCounters) → IsFilling all [] kept → AreUndrawn all kept
 filled all kept f = record { value_is = λ c. sym (or_nothing (value_of kept c)) ∙ f.value_is c; none = f.none }
-
--- ---- counters of slices that are cleared
-
--- those of the slices that are left are to be cleared
-pub record IsClearing (all left : List ResourceSlice) (kept : KeptCounters) : Type 0 where
-  pub value_is : (c : CounterId) → value_of kept c ≡ value_among all c
-  pub none : (c : CounterId) → is_some (value_among left c) ≡ false → drawn_in kept c ≡ 0
-
-pub clearing_at : (xs : List ResourceSlice) (i : ℕ) (x y : ResourceSlice) (now : KeptCounters) → i < length xs → x ≡ get_or xs i x → y ≡ x → IsClearing xs (drop i xs) now → IsClearing xs (y ∷ drop (i + 1) xs) now
-clearing_at xs i x y now lt is same f =
-    subst (λ (z : ResourceSlice). IsClearing xs (z ∷ drop (i + 1) xs) now) (sym same) (subst (λ (l : List ResourceSlice). IsClearing xs l now) (item_at xs i x lt is) f)
-
-none_kept : (o : Option Counter) → is_some (value_kept o) ≡ false → drawn_kept o ≡ 0
-none_kept None e = refl
-none_kept (Some k) e = absurd (cc)
-
--- nothing is drawn from a counter that isn't kept
-not_kept : (kept : KeptCounters) (c : CounterId) → keeps kept c ≡ false → drawn_in kept c ≡ 0
-unfolding value_of drawn_in
-not_kept kept c e = none_kept (counter_at kept c) e
-
-pub clears_none : (xs : List ResourceSlice) (kept : KeptCounters) → ((c : CounterId) → value_of kept c ≡ value_among xs c) → IsClearing xs xs kept
-clears_none xs kept value = record { value_is = value; none = λ c out. not_kept kept c (ap is_some (value c) ∙ out) }
-
-cleared_by : (o r : Option ℕ) (n : ℕ) → is_some r ≡ false → (is_some (or_value o r) ≡ false → n ≡ 0) → cond (is_some o) 0 n ≡ 0
-cleared_by None r n out h = h out
-cleared_by (Some v) r n out h = refl
-
-pub clears_next : (all left : List ResourceSlice) (x : ResourceSlice) (now new : KeptCounters) → IsClearing all (x ∷ left) now → ((c : CounterId) → value_of new c ≡ value_of now c)
-    → ((c : CounterId) → drawn_in new c ≡ cond (is_some (counter_value x c)) 0 (drawn_in now c)) → IsClearing all left new
-clears_next all left x now new f value drawn = record {
-  value_is = λ c. value c ∙ f.value_is c;
-  none = λ c out. drawn c ∙ cleared_by (counter_value x c) (value_among left c) (drawn_in now c) out (f.none c);
-}
-
-pub cleared : (all : List ResourceSlice) (kept : KeptCounters) → IsClearing all [] kept → AreUndrawn all kept
-cleared all kept f = record { value_is = f.value_is; none = λ c. f.none c refl }
 
 -- ---- what held devices draw
 

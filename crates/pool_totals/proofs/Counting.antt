@@ -16,13 +16,14 @@ use Rattle.api_slice.specs.declared.types.ResourceSlice.{ResourceSlice}
 use Rattle.pool_view.specs.declared.inventory.Inventory.{Inventory}
 use Rattle.pool_view.specs.Differing.{offers, usable_devices}
 use Rattle.pool_view.specs.Names.{device_eq, text_eq}
-use Rattle.pool_view.specs.Pools.{Offered, id_in, id_of, offered_by}
-use Rattle.pool_view.specs.Usable.{counted_slices, usable_slices}
+use Rattle.pool_view.specs.Pools.{Offered, id_in, id_of, offered_by, pool_of}
+use Rattle.pool_view.specs.Inventory.{Named}
+use Rattle.pool_view.specs.Usable.{counted_slices, if_usable, is_counted, pools, usable_slices}
 use Rattle.request_rules.specs.Draws.{CounterId, drawn, drawn_by, drawn_from, held_devices, held_in, is_held, value_among}
 use Rattle.counter_sets.specs.Holding.{AreHeld, Holders, holder_in, offered_held}
 use Rattle.counter_sets.specs.Totals.{KeptCounters, drawn_in, keeps, sum_most, value_of}
 use Rattle.pool_totals.specs.Adding.{AreUndrawn, HasRoom, IsAdding, device_most, devices_in, held_draws}
-use Rattle.pool_totals.specs.Counting.{AllFit, AreCounted, AreWithinLimits, HaveCounters, device_of, draws_among, found_in, found_or, is_of, is_taken}
+use Rattle.pool_totals.specs.Counting.{AllFit, AreCounted, AreWithinLimits, device_of, draws_among, found_in, found_or, is_of, is_taken}
 use Rattle.pool_totals.specs.Drawn.{AreDrawn}
 use Rattle.pool_totals.proofs.Adding.{none_left}
 use Rattle.pool_totals.proofs.Counted.{AreThere, counted_usable, drawn_counted, fewer_counted, none_drawn, value_counted}
@@ -243,9 +244,25 @@ are_counted i h xs kept new e fit fresh adding = record {
   fits = fit;
 }
 
--- the counters are those of the slices that counters are about
-pub counters_counted : (i : Inventory) (xs : List ResourceSlice) (kept : KeptCounters) → HaveCounters i kept → xs ≡ counted_slices i → (c : CounterId) → value_of kept c ≡ value_among xs c
-counters_counted i xs kept have e c = have.value_is c ∙ sym (value_counted i c) ∙ ap (λ (l : List ResourceSlice). value_among l c) (sym e)
+-- ---- no slices
+
+no_usable : (i : Inventory) → i.slices ≡ [] → usable_slices i ≡ []
+unfolding usable_slices
+no_usable i e = ap (λ (s : Named ResourceSlice). flat_map (λ p. if_usable (pool_of s p.driver p.pool)) (pools s)) e
+
+no_counted : (i : Inventory) → i.slices ≡ [] → counted_slices i ≡ []
+unfolding counted_slices
+no_counted i e = ap (filter is_counted) (no_usable i e)
+
+none_fits : (chosen : Offered → Bool) (c : CounterId) → draws_among chosen [] c ≤ sum_most
+none_fits chosen c = omega arith
+
+pub none_counted : (i : Inventory) (kept : KeptCounters) → i.slices ≡ [] → ((c : CounterId) → value_of kept c ≡ None) → ((c : CounterId) → drawn_in kept c ≡ 0) → (h : Holders) → AreCounted i h kept
+none_counted i kept e none undrawn h = record {
+  value_is = λ c. none c ∙ sym (ap (λ (xs : List ResourceSlice). value_among xs c) (no_usable i e));
+  drawn_is = λ c. undrawn c ∙ sym (ap (λ (xs : List ResourceSlice). draws_among (is_taken h) xs c) (no_counted i e));
+  fits = λ chosen c. subst (λ (xs : List ResourceSlice). draws_among chosen xs c ≤ sum_most) (sym (no_counted i e)) (none_fits chosen c);
+}
 
 -- ---- the device of an id
 

@@ -19,9 +19,8 @@ use Rattle.request_rules.specs.Draws.{CounterId, counter_eq, counter_for, counte
 use Rattle.counter_sets.specs.Holding.{Holders}
 use Rattle.counter_sets.specs.Totals.{KeptCounters, drawn_in, sum_most, value_of}
 use Rattle.pool_totals.specs.declared.recount.PoolTotals.{PoolTotals}
-use Rattle.pool_totals.specs.declared.recount.Recount.{Recount}
 use Rattle.pool_totals.specs.Counting.{AreCounted, draws_among, is_taken}
-use Rattle.pool_totals.specs.Recounting.{IsCounted, IsOld, IsRecount, drawn_taken, is_recounted, value_taken}
+use Rattle.pool_totals.specs.Recounting.{IsCounted, IsOld, drawn_taken, is_recounted, value_taken}
 use Rattle.pool_totals.proofs.Counted.{none_at}
 use Rattle.pool_totals.proofs.Draws.{held_none, no_flat_sum, no_map_sum}
 
@@ -114,9 +113,6 @@ of_each i h kept each = record { value_is = λ c. (each c).value_is; drawn_is = 
 seen_same : (c : CounterId) (i : Inventory) (h : Holders) (kept new : KeptCounters) → value_of new c ≡ value_of kept c → drawn_in new c ≡ drawn_in kept c → IsCounted i h kept c → IsCounted i h new c
 seen_same c i h kept new value drawn counted = record { value_is = value ∙ counted.value_is; drawn_is = drawn ∙ counted.drawn_is; fits = counted.fits }
 
-pub all_same : (i : Inventory) (h : Holders) (kept new : KeptCounters) → ((c : CounterId) → value_of new c ≡ value_of kept c) → ((c : CounterId) → drawn_in new c ≡ drawn_in kept c) → AreCounted i h kept → AreCounted i h new
-all_same i h kept new value drawn counted = of_each i h new (λ c. seen_same c i h kept new (value c) (drawn c) (of_all c i h kept counted))
-
 -- ---- a pool that was counted anew
 
 at_pool : (x : ResourceSlice) (c : CounterId) (us vs : List ResourceSlice) → is_of_pool x c ≡ true → filter (is_in x.driver x.pool.name) us ≡ filter (is_in x.driver x.pool.name) vs → filter (is_in c.driver c.pool) us ≡ filter (is_in c.driver c.pool) vs
@@ -158,33 +154,6 @@ old_removed : (i : Inventory) (h : Holders) (n : List ℕ) (q : Option PoolTotal
 old_removed i h n None alone order g c of = tt
 old_removed i h n (Some q) alone order g c of = anew c (without_slice n i) (without_slice n (only_pool q.slice.driver q.slice.pool.name i)) h q.slice q refl (alone i n q.slice.driver q.slice.pool.name order) g of
 
-pub put_ready : (i : Inventory) (h : Holders) (old new : KeptCounters) (k : ℕ) (x : ResourceSlice) (p : PoolTotals) (q : Option PoolTotals) → PutAlone → PutElsewhere → AreInOrder i → AreCounted i h old
-    → ((c : CounterId) → value_of new c ≡ value_of old c) → ((c : CounterId) → drawn_in new c ≡ drawn_in old c)
-    → p.slice ≡ x → AreCounted (with_slice k x (only_pool x.driver x.pool.name i)) h p.totals
-    → IsOld (at_name i.slices x.name) q → IfSome q (λ q. AreCounted (with_slice k x (only_pool q.slice.driver q.slice.pool.name i)) h q.totals)
-    → IsRecount (with_slice k x i) h new (record { new = Some p; old = q })
-put_ready i h old new k x p q alone away order counted value drawn is mine there others = record {
-  new = λ c of. anew c (with_slice k x i) (with_slice k x (only_pool x.driver x.pool.name i)) h x p is (alone i k x x.driver x.pool.name order) mine of;
-  old = old_put i h k x q alone order others;
-  others = λ c first second.
-      carried c i (with_slice k x i) h new
-      (sym (away i k x c.driver c.pool order (ap (λ (y : ResourceSlice). is_of_pool y c) (sym is) ∙ first) (old_elsewhere (at_name i.slices x.name) q c there second)))
-      (seen_same c i h old new (value c) (drawn c) (of_all c i h old counted));
-}
-
-pub removed_ready : (i : Inventory) (h : Holders) (old new : KeptCounters) (n : List ℕ) (q : Option PoolTotals) → RemovedAlone → RemovedElsewhere → AreInOrder i → AreCounted i h old
-    → ((c : CounterId) → value_of new c ≡ value_of old c) → ((c : CounterId) → drawn_in new c ≡ drawn_in old c)
-    → IsOld (at_name i.slices n) q → IfSome q (λ q. AreCounted (without_slice n (only_pool q.slice.driver q.slice.pool.name i)) h q.totals)
-    → IsRecount (without_slice n i) h new (record { new = None; old = q })
-removed_ready i h old new n q alone away order counted value drawn there others = record {
-  new = λ c of. tt;
-  old = old_removed i h n q alone order others;
-  others = λ c first second.
-      carried c i (without_slice n i) h new
-      (sym (away i n c.driver c.pool order (old_elsewhere (at_name i.slices n) q c there second)))
-      (seen_same c i h old new (value c) (drawn c) (of_all c i h old counted));
-}
-
 -- ---- the counters of pools are taken
 
 taken_by : (b : Bool) (i : Inventory) (h : Holders) (o : Option PoolTotals) (kept new : KeptCounters) (c : CounterId) → is_recounted o c ≡ b → (is_recounted o c ≡ true → IfSome o (λ p. IsCounted i h p.totals c)) → (is_recounted o c ≡ false → IsCounted i h kept c)
@@ -195,11 +164,33 @@ taken_by true i h (Some p) kept new c e anew others value drawn =
 taken_by false i h (Some p) kept new c e anew others value drawn =
     seen_same c i h kept new (value ∙ ap (λ (b : Bool). cond b (value_of p.totals c) (value_of kept c)) e) (drawn ∙ ap (λ (b : Bool). cond b (drawn_in p.totals c) (drawn_in kept c)) e) (others e)
 
-pub settled : (i : Inventory) (h : Holders) (r : Recount) (kept mid new : KeptCounters) → IsRecount i h kept r
-    → ((c : CounterId) → value_of mid c ≡ value_taken r.new (value_of kept c) c) → ((c : CounterId) → drawn_in mid c ≡ drawn_taken r.new (drawn_in kept c) c)
-    → ((c : CounterId) → value_of new c ≡ value_taken r.old (value_of mid c) c) → ((c : CounterId) → drawn_in new c ≡ drawn_taken r.old (drawn_in mid c) c) → AreCounted i h new
-settled i h r kept mid new ready value drawn value_then drawn_then =
-    of_each i h new
+-- a slice is put: the counters of its pool are taken, and then those of the slice that it replaces
+pub put_counted : (i : Inventory) (h : Holders) (kept mid new : KeptCounters) (k : ℕ) (x : ResourceSlice) (p : PoolTotals) (q : Option PoolTotals) → PutAlone → PutElsewhere → AreInOrder i → AreCounted i h kept
+    → p.slice ≡ x → AreCounted (with_slice k x (only_pool x.driver x.pool.name i)) h p.totals
+    → IsOld (at_name i.slices x.name) q → IfSome q (λ q. AreCounted (with_slice k x (only_pool q.slice.driver q.slice.pool.name i)) h q.totals)
+    → ((c : CounterId) → value_of mid c ≡ value_taken (Some p) (value_of kept c) c) → ((c : CounterId) → drawn_in mid c ≡ drawn_taken (Some p) (drawn_in kept c) c)
+    → ((c : CounterId) → value_of new c ≡ value_taken q (value_of mid c) c) → ((c : CounterId) → drawn_in new c ≡ drawn_taken q (drawn_in mid c) c)
+    → AreCounted (with_slice k x i) h new
+put_counted i h kept mid new k x p q alone away order counted is mine there others value drawn value_then drawn_then =
+    let put : Inventory = with_slice k x i in
+    of_each put h new
     (λ c.
-    taken_by (is_recounted r.old c) i h r.old mid new c refl (ready.old c)
-    (λ away. taken_by (is_recounted r.new c) i h r.new kept mid c refl (ready.new c) (λ first. ready.others c first away) (value c) (drawn c)) (value_then c) (drawn_then c))
+    taken_by (is_recounted q c) put h q mid new c refl (old_put i h k x q alone order others c)
+    (λ second.
+    taken_by (is_of_pool p.slice c) put h (Some p) kept mid c refl (anew c put (with_slice k x (only_pool x.driver x.pool.name i)) h x p is (alone i k x x.driver x.pool.name order) mine)
+    (λ first.
+    carried c i put h kept (sym (away i k x c.driver c.pool order (ap (λ (y : ResourceSlice). is_of_pool y c) (sym is) ∙ first) (old_elsewhere (at_name i.slices x.name) q c there second))) (of_all c i h kept counted))
+    (value c) (drawn c))
+    (value_then c) (drawn_then c))
+
+-- a slice is removed, if it is there: the counters of its pool are taken
+pub removed_counted : (i : Inventory) (h : Holders) (kept new : KeptCounters) (n : List ℕ) (q : Option PoolTotals) → RemovedAlone → RemovedElsewhere → AreInOrder i → AreCounted i h kept
+    → IsOld (at_name i.slices n) q → IfSome q (λ q. AreCounted (without_slice n (only_pool q.slice.driver q.slice.pool.name i)) h q.totals)
+    → ((c : CounterId) → value_of new c ≡ value_taken q (value_of kept c) c) → ((c : CounterId) → drawn_in new c ≡ drawn_taken q (drawn_in kept c) c)
+    → AreCounted (without_slice n i) h new
+removed_counted i h kept new n q alone away order counted there others value drawn =
+    let left : Inventory = without_slice n i in
+    of_each left h new
+    (λ c.
+    taken_by (is_recounted q c) left h q kept new c refl (old_removed i h n q alone order others c)
+    (λ second. carried c i left h kept (sym (away i n c.driver c.pool order (old_elsewhere (at_name i.slices n) q c there second))) (of_all c i h kept counted)) (value c) (drawn c))

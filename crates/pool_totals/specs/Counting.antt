@@ -27,12 +27,6 @@ draws_among chosen xs c = sum_by (λ x. sum_by (drawn_from c) (filter chosen (of
 abbrev pub AllFit : Inventory → Type 0
 AllFit i = (chosen : Offered → Bool) (c : CounterId) → draws_among chosen (counted_slices i) c ≤ sum_most
 
--- The totals have the counters of the usable pools, whatever is drawn from them. What any of their devices draw stays
--- below 2^128.
-pub record HaveCounters (i : Inventory) (kept : KeptCounters) : Type 0 where
-  pub value_is : (c : CounterId) → value_of kept c ≡ value_among (usable_slices i) c
-  pub fits : AllFit i
-
 -- The totals have the counters of the usable pools, with what the held devices of these draw from each. What any of
 -- their devices draw stays below 2^128.
 pub record AreCounted (i : Inventory) (h : Holders) (kept : KeptCounters) : Type 0 where

@@ -1,5 +1,5 @@
--- The totals of the pools that a change of slices touches, made before the change.
-use Rattle.std.specs.Prelude.{ℕ, ◌≡◌, ◌≤◌, Bool, true, false, Option, None, Some, IfSome, if◌then◌else◌}
+-- The totals of the pools that a change of slices touches, made anew.
+use Rattle.std.specs.Prelude.{ℕ, ◌≡◌, ◌≤◌, Bool, false, Option, None, Some, if◌then◌else◌}
 use Rattle.api_slice.specs.declared.types.ResourceSlice.{ResourceSlice}
 use Rattle.pool_view.specs.declared.inventory.Inventory.{Inventory}
 use Rattle.pool_view.specs.declared.stored.Stored.{Stored}
@@ -7,10 +7,9 @@ use Rattle.pool_view.specs.Pools.{Offered}
 use Rattle.pool_view.specs.Usable.{counted_slices, usable_slices}
 use Rattle.request_rules.specs.Draws.{CounterId, is_of_pool, value_among}
 use Rattle.counter_sets.specs.Holding.{Holders}
-use Rattle.counter_sets.specs.Totals.{HasPlace, KeptCounters, drawn_in, sum_most, value_of}
+use Rattle.counter_sets.specs.Totals.{KeptCounters, drawn_in, sum_most, value_of}
 use Rattle.pool_totals.specs.Counting.{draws_among, is_taken}
 use Rattle.pool_totals.specs.declared.recount.PoolTotals.{PoolTotals}
-use Rattle.pool_totals.specs.declared.recount.Recount.{Recount}
 
 -- What the totals have of one counter is so (`AreCounted` says it of each).
 pub record IsCounted (i : Inventory) (h : Holders) (kept : KeptCounters) (c : CounterId) : Type 0 where
@@ -32,20 +31,9 @@ abbrev pub drawn_taken : Option PoolTotals → ℕ → CounterId → ℕ
 drawn_taken None drawn c = drawn
 drawn_taken (Some p) drawn c = if is_of_pool p.slice c then drawn_in p.totals c else drawn
 
--- There is room for the counters of each of the pools.
-pub record HasRoomFor (r : Recount) (kept : KeptCounters) : Type 0 where
-  pub new : IfSome r.new (λ p. HasPlace p.slice p.totals kept)
-  pub old : IfSome r.old (λ p. HasPlace p.slice p.totals kept)
-
 -- they are those of the pool of a stored slice, if there is one
 abbrev pub IsOld : Option (Stored ResourceSlice) → Option PoolTotals → Type 0
 IsOld None None = Unit {0}
 IsOld None (Some q) = ⊥
 IsOld (Some s) None = ⊥
 IsOld (Some s) (Some q) = q.slice ≡ s.object
-
--- The counters of the pools are counted, and the totals have those of all others.
-pub record IsRecount (i : Inventory) (h : Holders) (kept : KeptCounters) (r : Recount) : Type 0 where
-  pub new : (c : CounterId) → is_recounted r.new c ≡ true → IfSome r.new (λ p. IsCounted i h p.totals c)
-  pub old : (c : CounterId) → is_recounted r.old c ≡ true → IfSome r.old (λ p. IsCounted i h p.totals c)
-  pub others : (c : CounterId) → is_recounted r.new c ≡ false → is_recounted r.old c ≡ false → IsCounted i h kept c

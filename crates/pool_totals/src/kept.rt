@@ -1,6 +1,6 @@
 //! Totals that are kept while claims take devices and give them back.
 
-ghost use Rattle.std.specs.Prelude.{◌≡◌, ◌≤◌, List, Contains, None, Some, false, find, is_some, IfOk, OnOk, OnErr, option_copied, if◌then◌else◌};
+ghost use Rattle.std.specs.Prelude.{◌≡◌, ◌≤◌, List, [], Contains, None, Some, false, find, is_some, IfOk, OnOk, option_copied, if◌then◌else◌};
 ghost use Rattle.object_fields.specs.declared.key.DeviceId.{DeviceId};
 ghost use Rattle.object_fields.specs.declared.key.Key.{Key};
 ghost use Rattle.pool_view.specs.declared.inventory.Inventory.{Inventory};
@@ -10,12 +10,12 @@ ghost use Rattle.pool_view.specs.Usable.{usable_slices};
 ghost use Rattle.request_rules.specs.Draws.{CounterId, drawn, drawn_from, value_among};
 ghost use Rattle.counter_sets.specs.Holding.{AreHeld, Holders, holder_in};
 ghost use Rattle.counter_sets.specs.Totals.{KeptCounters, sum_most};
-ghost use Rattle.pool_totals.specs.Counting.{AreCounted, AreWithinLimits, HaveCounters, device_of, found_in, is_of};
+ghost use Rattle.pool_totals.specs.Counting.{AreCounted, AreWithinLimits, device_of, found_in, is_of};
 ghost use Rattle.pool_totals.specs.Drawn.{AreDrawn};
 
-use crate::totals::{add_held, clear, undrawn};
+use crate::totals::{add_held, undrawn};
 use api_slice::{Device, ResourceSlice};
-use counter_sets::{Held, Totals};
+use counter_sets::{Held, SharedTotals, Totals};
 use dra_values::{Shared, Text};
 use object_fields::{DeviceId, Key};
 use pool_view::{
@@ -65,17 +65,13 @@ pub fn kept_totals(
     Ok(totals)
 }
 
-/// Draws what the held devices draw, in place of all that is drawn: for holders that are again those from before a
-/// change that ran out of memory, where the totals have followed a part of the change. It goes over the slices that
-/// have counter sets or devices that draw from some, and allocates nothing.
-pub fn redraw(pools: &Pools, holders: &Held, totals: &mut Totals)
-    requires { HaveCounters pools.now totals.old }
-    ensures { AreCounted pools.now holders.now totals.new }
+/// The totals of an inventory without slices. `AllocError` only if memory runs out.
+pub fn new_totals(alloc: Global, inventory: &Inventory) -> Result<SharedTotals, AllocError>
+    requires { inventory.now.slices ≡ [] }
+    ensures { IfOk result (λ totals. (h : Holders) → AreCounted inventory.now h totals) }
 {
-    usable_counters_are_there();
-    let counted = pools.counted();
-    clear(totals, counted);
-    add_held(totals, counted, holders);
+    let totals = SharedTotals::new(alloc)?;
+    Ok(totals)
 }
 
 /// Whether the slice is one of the device's pool.
@@ -117,19 +113,18 @@ fn found_in<'a>(slices: &'a [Shared<ResourceSlice>], id: &DeviceId) -> Option<De
 }
 
 /// Gives a device to a claim, in place of another that held it, and draws what it draws if it was free.
-/// `AllocError` only if memory runs out, and then nothing changes.
+/// `AllocError` only if memory runs out; then holders or totals may have changed, so whoever needs both changes copies.
 pub fn hold(
     alloc: Global,
     pools: &Pools,
     holders: &mut Held,
-    totals: &mut Totals,
+    totals: &mut SharedTotals,
     device: &DeviceId,
     claim: Key,
 ) -> Result<(), AllocError>
     requires { AreCounted pools.now holders.old totals.old }
     ensures ok { OnOk result ((id : DeviceId) → holder_in holders.new id ≡ (if device_eq device.now id then Some claim else holder_in holders.old id)) }
-    ensures err { OnErr result (holders.new ≡ holders.old) }
-    ensures counted { AreCounted pools.now holders.new totals.new }
+    ensures counted { OnOk result (AreCounted pools.now holders.new totals.new) }
 {
     usable_counters_are_there();
     usable_slices_differ();
@@ -137,32 +132,31 @@ pub fn hold(
     holders.insert(device, claim, alloc)?;
     if is_free {
         if let Some(found) = found_in(pools.counted(), device) {
-            totals.hold(&found);
+            totals.hold(&found, alloc)?;
         }
     }
     Ok(())
 }
 
 /// Takes a device from the claim that holds it, and gives back what it drew; changes nothing if none holds it.
-/// `AllocError` only if memory runs out, and then nothing changes.
+/// `AllocError` only if memory runs out; then holders or totals may have changed, so whoever needs both changes copies.
 pub fn leave(
     alloc: Global,
     pools: &Pools,
     holders: &mut Held,
-    totals: &mut Totals,
+    totals: &mut SharedTotals,
     device: &DeviceId,
 ) -> Result<(), AllocError>
     requires { AreCounted pools.now holders.old totals.old }
     ensures ok { OnOk result ((id : DeviceId) → holder_in holders.new id ≡ (if device_eq device.now id then None else holder_in holders.old id)) }
-    ensures err { OnErr result (holders.new ≡ holders.old) }
-    ensures counted { AreCounted pools.now holders.new totals.new }
+    ensures counted { OnOk result (AreCounted pools.now holders.new totals.new) }
 {
     usable_slices_differ();
     let is_held = holders.holder(device).is_some();
     holders.remove(device, alloc)?;
     if is_held {
         if let Some(found) = found_in(pools.counted(), device) {
-            totals.give_back(&found);
+            totals.give_back(&found, alloc)?;
         }
     }
     Ok(())

@@ -5,5 +5,5 @@ mod kept;
 mod recount;
 mod totals;
 
-pub use kept::{hold, kept_totals, kept_totals_are_drawn, leave, redraw};
-pub use recount::{PoolTotals, Recount, recount_with, recount_without};
+pub use kept::{hold, kept_totals_are_drawn, leave, new_totals};
+pub use recount::{recount_with, recount_without};

@@ -19,7 +19,7 @@ use Rattle.cluster.proofs.state.Granted.TheSendSync as granted
 use Rattle.cluster.proofs.state.PodState.TheSendSync as pod_state
 use Rattle.cluster.proofs.users.Users.TheSendSync as users
 use Rattle.counter_sets.proofs.held.Held.TheSendSync as held
-use Rattle.counter_sets.proofs.totals.Totals.TheSendSync as totals
+use Rattle.counter_sets.proofs.shared.SharedTotals.TheSendSync as totals
 use Rattle.dra_values.proofs.text.Text.TheSendSync as text
 use Rattle.node_memo.proofs.dates.Dates.TheSendSync as dates
 use Rattle.node_memo.proofs.memo.Memo.TheSendSync as memo

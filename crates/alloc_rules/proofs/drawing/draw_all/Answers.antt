@@ -30,8 +30,8 @@ draw-requires-clause-fits c = λ own k.
 pub loop-due-preserved : goal.loop-due-preserved
 loop-due-preserved c =
     draws_next c.args.state.now.inventory (held c.args.state.now) (input_of c.args.rows.now) c.args.dues.now c.loop-due.due-index c.due-item.result c.device_of-device.result.now c.loop-due.totals c.draw.new.totals (listed_rows c.args.state.now _ c.args.node.now c.args.rows.now c.deref.ensures c.requires.rows c.devices_differ.ensures.listed) (c.usable_slices_differ.ensures.ids c.args.state.now.inventory)
-    (c.requires.dues c.loop-due.due-index c.due-item.result (here c.args.dues.now c.loop-due.due-index c.due-item.result c.loop-due-test.true c.due-item.is)) c.requires.free c.loop-due-test.true c.due-item.is c.device_of-device.ensures c.loop-due.invariant c.draw.ensures.value
-    (λ k. c.draw.ensures.drawn k ∙ ap (λ (b : Bool). drawn_in c.loop-due.totals k + cond b 0 (drawn_from k c.device_of-device.result.now)) c.is_admin.ensures)
+    (c.requires.dues c.loop-due.due-index c.due-item.result (here c.args.dues.now c.loop-due.due-index c.due-item.result c.loop-due-test.true c.due-item.is)) c.requires.free c.loop-due-test.true c.due-item.is c.device_of-device.ensures c.loop-due.invariant c.in_ok-draw.ensures.value
+    (λ k. c.in_ok-draw.ensures.drawn k ∙ ap (λ (b : Bool). drawn_in c.loop-due.totals k + cond b 0 (drawn_from k c.device_of-device.result.now)) c.is_admin.ensures)
 
 pub returns : goal.returns
 returns c =

@@ -16,11 +16,11 @@ hold-requires-clause-fits c = λ k.
     (none_from c.holder.result (holder_in c.args.holders.now c.args.device.now) c.holder.ensures (search rules)) c.in_ok-insert.ensures.ok
     (found_as c.args.pools.now c.args.device.now c.counted.result.now c.found_in.result (Some c.in-Some.found) c.counted.ensures c.found_in.ensures c.in-Some.is)
 
-pub returns-in-Some-clause-counted : goal.returns-in-Some-clause-counted
-returns-in-Some-clause-counted c =
+pub returns-in_ok-hold-clause-counted : goal.returns-in_ok-hold-clause-counted
+returns-in_ok-hold-clause-counted c =
     given_found c.args.pools.now c.args.holders.now c.insert.new.self c.args.totals.now c.hold.new.self c.args.device.now c.args.claim c.in-Some.found (c.usable_slices_differ.ensures.ids c.args.pools.now) c.requires
     (none_from c.holder.result (holder_in c.args.holders.now c.args.device.now) c.holder.ensures (search rules)) c.in_ok-insert.ensures.ok
-    (found_as c.args.pools.now c.args.device.now c.counted.result.now c.found_in.result (Some c.in-Some.found) c.counted.ensures c.found_in.ensures c.in-Some.is) c.hold.ensures.value c.hold.ensures.drawn
+    (found_as c.args.pools.now c.args.device.now c.counted.result.now c.found_in.result (Some c.in-Some.found) c.counted.ensures c.found_in.ensures c.in-Some.is) c.in_ok-hold.ensures.value c.in_ok-hold.ensures.drawn
 
 pub returns-in_default-clause-counted : goal.returns-in_default-clause-counted
 returns-in_default-clause-counted c =

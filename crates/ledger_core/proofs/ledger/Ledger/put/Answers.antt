@@ -1,5 +1,5 @@
 use Rattle.std.proofs.Common.{◌≡◌, ◌∙◌, ◌+◌, length, subst, sym, ap, []}
-use Rattle.counter_sets.specs.Holding.{AreHeld, Holders}
+use Rattle.counter_sets.specs.Holding.{AreHeld}
 use Rattle.cluster.specs.declared.entry.Entry.{Entry}
 use Rattle.cluster.specs.declared.entry.Event.TheVariants.{Applied}
 use Rattle.cluster.specs.declared.object.Object.{Object}
@@ -7,7 +7,6 @@ use Rattle.cluster.specs.declared.state.State.{State}
 use Rattle.cluster.specs.Applied.{with_object}
 use Rattle.cluster.specs.Events.{after}
 use Rattle.cluster.specs.Held.{held}
-use Rattle.pool_totals.specs.Counting.{AreCounted}
 use Rattle.ledger_core.specs.Ledger.{History}
 use Rattle.histories.specs.Legal.{Step}
 use Rattle.ledger_core.proofs.Freeing.{applied_held}
@@ -28,7 +27,7 @@ invariant_of-self-2 c =
     placed.ok ∙ ap (λ (x : Object). with_object (length c.self.inside.entries.items + 1) x c.self.inside.state) parts.kept.same in
     let holders = subst (λ (s : State). AreHeld c.self.inside.holders (held s)) (sym made) (applied_held c.self.inside.state (length c.self.inside.entries.items + 1) c.args.ready c.self.inside.holders kept.holders_are) in
     rw (c.append.ensures.entries, c.put_object.ensures.entries, parts.object) (
-      kept_more _ e _ _ _ _ _ _ _ _ _ _ kept step placed.within made holders (subst (λ (h : Holders). AreCounted c.put_object.new.state.inventory h c.put_object.new.totals) c.deref.ensures c.put_object.ensures.counted) c.put_object.ensures.job_states (rw c.put_object.ensures.entries at c.append.ensures.job_states),
+      kept_more _ e _ _ _ _ _ _ _ _ _ _ kept step placed.within made holders c.put_object.ensures.counted c.put_object.ensures.job_states (rw c.put_object.ensures.entries at c.append.ensures.job_states),
       remembers_more c.memory_goes_on.ensures _ e _ _ _ _ _ _ _ _ kept c.self.invariant.1 step (subst (λ (x : Object). AreSet (is_searched x) [] (length c.self.inside.entries.items + 1) c.self.inside.dates c.put_object.new.dates) parts.kept.same placed.dated),
     )
 
