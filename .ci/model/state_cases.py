@@ -1,5 +1,5 @@
-"""The cases of states: plans, writes of a claim's status, usable pools and refusals, with what the definitions say of
-each. The file crates/job_cases/stdin has them behind its line `states`, and says there what a case may be.
+"""The cases of states: plans, writes of a claim's status, usable pools, refusals and what is remembered of nodes, with what
+the definitions say of each. The file crates/job_cases/stdin has them behind its line `states`, and says there what a case may be.
 """
 
 import json
@@ -10,7 +10,7 @@ from documents import commands_of, read_json
 from fields import Place
 from jobs import Delete, History, Job, refusal_of_delete, refusal_of_release, refusal_of_schedule
 from objects import Result
-from pools import is_usable, pools
+from pools import NodeView, is_usable, pools
 from selector_texts import UnknownText
 from state import key_for
 from values import key_of_text
@@ -18,11 +18,44 @@ from values import key_of_text
 KINDS = {"node": "Node", "slice": "ResourceSlice", "class": "DeviceClass", "claim": "ResourceClaim", "pod": "Pod"}
 
 
+def asked(state, pod):
+    """What the claims of a pod ask for that have no grant."""
+    claims = [state.claims[key].object for key in state.wanted(pod)]
+    return [(claim.requests, claim.constraints) for claim in claims]
+
+
+class Remembered:
+    """The nodes of which a Schedule showed that they have no allocation for what its pod's claims ask for, as long as no node,
+    slice or class has changed, and no device of a pool that the node sees was freed."""
+
+    def __init__(self):
+        self.nodes = []
+
+    def go_on(self, before, state, lines):
+        """Commands have led from one state to another, and their lines are these."""
+        changed = any(before.tables[kind] != state.tables[kind] for kind in ("Node", "ResourceSlice", "DeviceClass"))
+        freed = {device.rpartition("/")[0] for device, _ in set(before.held()) - set(state.held())}
+        sees_freed = lambda node: any(device.rpartition("/")[0] in freed for device in NodeView(state, node).ids)
+        self.nodes = [(ways, node) for ways, node in self.nodes if not changed and not sees_freed(node)]
+        for kind, pod, *rest in (line.split()[2:] for line in lines):
+            if kind in ("verdict", "reserved"):
+                causes = [text.partition("=")[2] for text in rest if text.startswith(("nodes=", "passed="))]
+                passed = [cause.partition(":") for text in causes for cause in text.split(",")]
+                self.nodes += [(asked(before, key_of_text(pod)), node) for node, _, why in passed if why == "unsat"]
+
+    def take(self, state, pod):
+        """The nodes that are known for what the claims of a pod ask for. All is forgotten."""
+        known = [node for ways, node in self.nodes if ways == asked(state, pod)]
+        self.nodes = []
+        return " ".join(node for node in state.node_names() if node in known) or "-"
+
+
 class Setup:
     """The present state, with the number of its jobs so far, and a selector of its documents that is unknown here."""
 
     def __init__(self):
         self.history = History()
+        self.remembered = Remembered()
         self.jobs = 0
         self.unknown = None
 
@@ -35,9 +68,10 @@ class Setup:
             self.unknown = unknown
             return ""
         for command in commands:
-            before = len(self.history.lines)
+            before, state = len(self.history.lines), self.history.state.copy()
             self.jobs += 1
             Job(self.jobs, command).run(self.history)
+            self.remembered.go_on(state, self.history.state, self.history.lines[before:])
             lines += [line for line in self.history.lines[before:] if line.split(" ")[2] in ("denied", "verdict")]
         return "".join(lines)
 
@@ -102,6 +136,8 @@ def result_of(setup, line):
         failure = usable_slices(state)
     elif word == "refusal":
         failure = refusal_of(state, *rest.split(" "))
+    elif word == "known":
+        failure = setup.remembered.take(state, key_of_text(rest))
     else:
         claim, document = rest.split(" ", 1)
         status = fields.read_status(Place(json.loads(document), ""))

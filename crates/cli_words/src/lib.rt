@@ -5,8 +5,6 @@ mod asked;
 mod command;
 mod given;
 mod numbers;
-#[cfg(test)]
-mod tests;
 
 pub use asked::words;
 pub use command::{Command, ExerciseWords, ReplayWords, RunOptions, ServeWords};

@@ -13,8 +13,6 @@ mod mem_door;
 mod mem_doors;
 mod replies;
 mod script;
-#[cfg(test)]
-mod tests;
 
 pub use accepted::Accepted;
 pub use door::Door;

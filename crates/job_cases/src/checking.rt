@@ -10,7 +10,6 @@ use cluster::{Command, Entry, Event, Failure, Refusal};
 use dra_values::Shared;
 use journal_text::line;
 use object_fields::{FieldErrorKind, Key};
-use pool_totals::kept_totals;
 use serde_json::Value;
 use std::alloc::{AllocError, Global};
 use std::str;
@@ -55,9 +54,9 @@ fn failure_of_plan(
 ) -> Result<Option<Failure>, AllocError> {
     let state = setup.ledger.state();
     let holders = setup.ledger.holders();
-    let totals = kept_totals(alloc, &state.inventory, holders)?;
+    let totals = setup.ledger.totals();
     let plan = planned.plan.value();
-    check(alloc, state, holders, &totals, &planned.pod, plan)
+    check(alloc, state, holders, totals, &planned.pod, plan)
 }
 
 /// Appends the first failure of a plan.
@@ -115,8 +114,8 @@ fn failure_of_status(
         return Err(CaseError::BadCase);
     }
     let holders = setup.ledger.holders();
-    let totals = kept_totals(alloc, &state.inventory, holders)?;
-    done(check_status(alloc, state, holders, &totals, claim, status))
+    let totals = setup.ledger.totals();
+    done(check_status(alloc, state, holders, totals, claim, status))
 }
 
 /// Appends the first failure of a status write to a claim.

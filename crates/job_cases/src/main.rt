@@ -14,6 +14,7 @@ mod options;
 mod orders;
 mod out;
 mod planning;
+mod remembering;
 mod report;
 mod setup;
 mod spelling;

@@ -5,6 +5,7 @@ use crate::lists::copy_of;
 use crate::looking::{push_refusal, push_usable};
 use crate::orders::push_commands;
 use crate::out::Out;
+use crate::remembering::push_known;
 use crate::setup::Setup;
 use cluster::{Event, Mode};
 use commands::Command;
@@ -12,7 +13,7 @@ use journal_text::line;
 use std::alloc::{AllocError, Global};
 
 /// The most items of a node's walk that a search looks at.
-const BUDGET: u64 = 100_000;
+pub const BUDGET: u64 = 100_000;
 
 /// Whether a job that ends with this event has done what it was to do.
 fn is_done(event: &Event) -> bool {
@@ -74,7 +75,7 @@ fn do_copies(alloc: Global, setup: &mut Setup, text: &str, out: &mut Out) -> Res
 /// Prints what is found by a case.
 fn push_found(
     alloc: Global,
-    setup: &Setup,
+    setup: &mut Setup,
     verb: &str,
     text: &str,
     out: &mut Out,
@@ -84,6 +85,7 @@ fn push_found(
         "status" => push_status(alloc, setup, text, out),
         "usable" => done(push_usable(alloc, setup, out)),
         "refusal" => push_refusal(alloc, setup, text, out),
+        "known" => push_known(alloc, setup, text, out),
         _ => Err(CaseError::BadCase),
     }
 }
@@ -91,7 +93,7 @@ fn push_found(
 /// Prints the line of a case: its name, and what is found.
 fn do_case(
     alloc: Global,
-    setup: &Setup,
+    setup: &mut Setup,
     verb: &str,
     text: &str,
     out: &mut Out,

@@ -13,8 +13,6 @@
 mod lock;
 mod recorded;
 mod steps;
-#[cfg(test)]
-mod tests;
 mod turn;
 mod view;
 

@@ -1,8 +1,11 @@
-use Rattle.std.proofs.Common.{ap, sym, ◌∙◌, arith}
+use Rattle.std.proofs.Common.{◌≡◌, ℕ, ◌+◌, List, [], ◌∷◌, ◌++◌, ap, sym, ◌∙◌, arith}
 use Rattle.std.proofs.lemmas.List.{length-replicate}
-use Rattle.turn_lock.proofs.Views.{times_append}
 use Rattle.turn_lock.specs.Places.{times}
-use Rattle.turn_lock.proofs.tests.close_both.Goals as goal
+use Rattle.crew.proofs.tests.close_both.Goals as goal
+
+times_append : (p : ℕ) (xs ys : List ℕ) → times p (xs ++ ys) ≡ times p xs + times p ys
+times_append p [] ys = omega arith
+times_append p (x ∷ xs) ys = let h = times_append p xs ys in omega arith
 
 pub returns : goal.returns
 returns c = λ p a b.

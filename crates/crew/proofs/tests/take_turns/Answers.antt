@@ -1,6 +1,6 @@
 use Rattle.std.proofs.Common.{◌+◌, ap, sym, ◌∙◌, ⊎_elim, inl, inr, replicate}
 use Rattle.std.proofs.lemmas.List.{replicate-append-replicate}
-use Rattle.turn_lock.proofs.tests.take_turns.Goals as goal
+use Rattle.crew.proofs.tests.take_turns.Goals as goal
 
 pub leave-requires-clause-turn : goal.leave-requires-clause-turn
 leave-requires-clause-turn g c = (
