@@ -288,28 +288,6 @@ pub fn check(
     }
 }
 
-/// Checks a plan again, where so many entries are in the history. A plan that was true at its index has no failure there,
-/// so it is looked at only if entries came since. `AllocError` only if memory runs out.
-pub fn check_again(
-    alloc: Global,
-    state: &State,
-    holders: &Held,
-    totals: &SharedTotals,
-    pod: &Key,
-    plan: &Plan,
-    at: u64,
-) -> Result<Option<Failure>, AllocError>
-    requires holders { AreHeld holders.now (held state.now) }
-    requires totals { AreCounted state.now.inventory holders.now totals.now }
-    requires passed { plan.now.at ≡ at → spec.failing state.now pod.now plan.now ≡ None }
-    ensures { IfOk result (λ found. found ≡ spec.failing state.now pod.now plan.now) }
-{
-    if plan.at == at {
-        return Ok(None);
-    }
-    check(alloc, state, holders, totals, pod, plan)
-}
-
 /// What a status write would grant to the claim.
 fn granted_by(alloc: Global, claim: &Key, status: &ClaimStatus) -> Result<Grant, AllocError>
     ensures { IfOk result (λ grant. grant ≡ spec.granted_by claim.now status.now) }

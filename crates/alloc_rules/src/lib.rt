@@ -12,4 +12,4 @@ mod naming;
 mod results;
 mod shape;
 
-pub use checking::{check, check_again, check_status};
+pub use checking::{check, check_status};

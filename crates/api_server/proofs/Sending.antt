@@ -11,8 +11,8 @@ pub use Rattle.api_server.proofs.Sends.{ledger_send}
 
 -- ---- a worker
 
-pub worker_send : (κ : NamedLft) (D C : RattleType) → IsSend D → IsSend (Worker.the_row κ D C)
-worker_send κ D C door = declared_send (Worker.the_type κ D C) (
+pub worker_send : (κ : NamedLft) (E D C : RattleType) → IsSend D → IsSend (Worker.the_row κ E D C)
+worker_send κ E D C door = declared_send (Worker.the_type κ E D C) (
   search (ledger_send, lock.the_sync, heap.the_send, heap.the_sync, crosses, sendable) depth 60 fits 20000,
   (
     search (heap.the_send, sendable) depth 60 fits 20000,
@@ -22,7 +22,7 @@ worker_send κ D C door = declared_send (Worker.the_type κ D C) (
         search sendable depth 60 fits 20000,
         (
           search sendable depth 60 fits 20000,
-          (search sendable depth 60 fits 20000, (search sendable depth 60 fits 20000, (search sendable depth 60 fits 20000, tt))),
+          (search sendable depth 60 fits 20000, (search sendable depth 60 fits 20000, (search sendable depth 60 fits 20000, (search (crosses, sendable) depth 60 fits 20000, tt)))),
         ),
       ),
     ),

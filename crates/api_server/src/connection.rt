@@ -13,6 +13,7 @@ use crate::{Unreplied, serve_request};
 use api_replies::refused;
 use api_routes::Unserved;
 use dra_ports::{Conn, Gate};
+use engine_ports::Engine;
 use http_wire::{Reply, Request, RequestReader, WireError, requests_lie_in_order, write_reply};
 use sched_job::Ledger;
 use std::alloc::Global;
@@ -34,7 +35,7 @@ const JOBS: u64 = 65_536;
 /// history has its limit of entries and a request needs one more, and `Memory` if memory runs out. A fault is the end
 /// only if the connection's error count rose in this call, or is at its last value; with every other end the count
 /// does not change.
-pub fn serve_connection<R: Wait, C: Conn, G: Gate>(
+pub fn serve_connection<E: Engine, R: Wait, C: Conn, G: Gate>(
     rt: &R,
     alloc: Global,
     lock: &TurnLock<Ledger>,
@@ -61,7 +62,7 @@ pub fn serve_connection<R: Wait, C: Conn, G: Gate>(
     };
     let mut reader = RequestReader::new(alloc);
     for index in 1..JOBS {
-        let end = go_on(
+        let end = go_on::<E, _, _, _>(
             rt,
             alloc,
             lock,
@@ -80,7 +81,7 @@ pub fn serve_connection<R: Wait, C: Conn, G: Gate>(
 }
 
 /// Reads the next request and serves it. Returns how the connection ended, if it did.
-fn go_on<R: Wait, C: Conn, G: Gate>(
+fn go_on<E: Engine, R: Wait, C: Conn, G: Gate>(
     rt: &R,
     alloc: Global,
     lock: &TurnLock<Ledger>,
@@ -107,7 +108,9 @@ fn go_on<R: Wait, C: Conn, G: Gate>(
     requests_lie_in_order();
     match hear(alloc, reader, conn) {
         Ok(found) => match found {
-            Some(request) => serve(rt, alloc, lock, pass, conn, gate, service, &request, index),
+            Some(request) => serve::<E, _, _, _>(
+                rt, alloc, lock, pass, conn, gate, service, &request, index,
+            ),
             None => Some(ConnEnd::Closed),
         },
         Err(error) => Some(stop(alloc, conn, error)),
@@ -129,7 +132,7 @@ fn hear<C: Conn>(
 }
 
 /// Serves a request and writes the reply.
-fn serve<R: Wait, C: Conn, G: Gate>(
+fn serve<E: Engine, R: Wait, C: Conn, G: Gate>(
     rt: &R,
     alloc: Global,
     lock: &TurnLock<Ledger>,
@@ -152,7 +155,7 @@ fn serve<R: Wait, C: Conn, G: Gate>(
     ensures cause { HasStepCause (C.Sink.faults conn.old) (C.Sink.faults conn.new) result }
 {
     let job = service.number * JOBS + index;
-    let replied = serve_request(
+    let replied = serve_request::<E, _, _>(
         rt,
         alloc,
         lock,

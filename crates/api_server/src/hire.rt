@@ -6,20 +6,25 @@ ghost use Rattle.api_server.specs.Workers.{hired_as, hired_lists};
 use crate::options::ServeOptions;
 use crate::worker::{Visited, Worker};
 use door_ports::Door;
+use engine_ports::Engine;
 use sched_job::Ledger;
 use std::alloc::{AllocError, Global};
+use std::marker::PhantomData;
 use turn_lock::TurnLock;
 
 /// The memory for the lists of workers and for the doors that are given back.
 #[derive(Drop)]
-pub struct Room<'a, D: Door> {
-    pub each: Vec<Vec<Worker<'a, D>>>,
-    pub lists: Vec<Vec<Worker<'a, D>>>,
+pub struct Room<'a, E: Engine, D: Door> {
+    pub each: Vec<Vec<Worker<'a, E, D>>>,
+    pub lists: Vec<Vec<Worker<'a, E, D>>>,
     pub doors: Vec<D>,
 }
 
 /// The memory for so many workers.
-pub fn make_room<'a, D: Door>(alloc: Global, count: usize) -> Result<Room<'a, D>, AllocError>
+pub fn make_room<'a, E: Engine, D: Door>(
+    alloc: Global,
+    count: usize,
+) -> Result<Room<'a, E, D>, AllocError>
     ensures each { IfOk result (λ r. All (λ e. e.items ≡ []) r.each.items × All (λ e. 1 ≤ vec_capacity e) r.each.items × (length r.each.items ≡ count)) }
     ensures lists { IfOk result (λ r. (r.lists.items ≡ []) × (vec_capacity r.lists ≡ count)) }
     ensures doors { IfOk result (λ r. (r.doors.items ≡ []) × (vec_capacity r.doors ≡ count)) }
@@ -32,10 +37,10 @@ pub fn make_room<'a, D: Door>(alloc: Global, count: usize) -> Result<Room<'a, D>
 }
 
 /// So many empty lists, each with room for one worker.
-fn room_for_each<'a, D: Door>(
+fn room_for_each<'a, E: Engine, D: Door>(
     alloc: Global,
     count: usize,
-) -> Result<Vec<Vec<Worker<'a, D>>>, AllocError>
+) -> Result<Vec<Vec<Worker<'a, E, D>>>, AllocError>
     ensures empty { IfOk result (λ v. All (λ e. e.items ≡ []) v.items) }
     ensures room { IfOk result (λ v. All (λ e. 1 ≤ vec_capacity e) v.items) }
     ensures count { IfOk result (λ v. length v.items ≡ count) }
@@ -48,14 +53,14 @@ fn room_for_each<'a, D: Door>(
 }
 
 /// A list of one worker for each door.
-pub fn hire<'a, D: Door>(
-    each: Vec<Vec<Worker<'a, D>>>,
-    lists: Vec<Vec<Worker<'a, D>>>,
+pub fn hire<'a, E: Engine, D: Door>(
+    each: Vec<Vec<Worker<'a, E, D>>>,
+    lists: Vec<Vec<Worker<'a, E, D>>>,
     doors: Vec<D>,
     alloc: Global,
     lock: &'a TurnLock<Ledger>,
     options: ServeOptions,
-) -> Vec<Vec<Worker<'a, D>>>
+) -> Vec<Vec<Worker<'a, E, D>>>
     requires lists { (lists.items ≡ []) × (length doors.items ≤ vec_capacity lists) }
     requires each { All (λ e. e.items ≡ []) each.items × All (λ e. 1 ≤ vec_capacity e) each.items × (length each.items ≡ length doors.items) }
     ensures { map (map (λ w. hired_as w.lock.now w.budget w.attempts w.worker w.workers w.connections (seen D.share D.in_service D.served D.ended D.faults w.door))) (map (λ v. v.items) result.items)
@@ -77,6 +82,7 @@ pub fn hire<'a, D: Door>(
             connections: options.connections,
             budget: options.budget,
             attempts: options.attempts,
+            engine: PhantomData,
         };
         lists.push_reserved(list_of(list, worker));
         next += 1;
@@ -85,7 +91,10 @@ pub fn hire<'a, D: Door>(
 }
 
 /// An empty list with a worker added.
-fn list_of<'a, D: Door>(list: Vec<Worker<'a, D>>, worker: Worker<'a, D>) -> Vec<Worker<'a, D>>
+fn list_of<'a, E: Engine, D: Door>(
+    list: Vec<Worker<'a, E, D>>,
+    worker: Worker<'a, E, D>,
+) -> Vec<Worker<'a, E, D>>
     requires { (list.items ≡ []) × (1 ≤ vec_capacity list) }
     ensures { result.items ≡ worker.entry ∷ [] }
 {
@@ -107,7 +116,10 @@ pub fn doors_of<D: Door>(doors: Vec<D>, ends: Vec<Visited<D>>) -> Vec<D>
 }
 
 /// The doors of workers that weren't begun, one in each list.
-pub fn doors_left<'a, D: Door>(doors: Vec<D>, lists: Vec<Vec<Worker<'a, D>>>) -> Vec<D>
+pub fn doors_left<'a, E: Engine, D: Door>(
+    doors: Vec<D>,
+    lists: Vec<Vec<Worker<'a, E, D>>>,
+) -> Vec<D>
     requires room { (doors.items ≡ []) × (length lists.items ≤ vec_capacity doors) }
     requires one { All (λ l. length l.items ≡ 1) lists.items }
     ensures { map (λ d. d ∷ []) result.items ≡ map (λ l. map (λ w. w.door) l.items) lists.entry.items }
@@ -120,7 +132,7 @@ pub fn doors_left<'a, D: Door>(doors: Vec<D>, lists: Vec<Vec<Worker<'a, D>>>) ->
 }
 
 /// The door of the only worker of a list.
-fn door_of<'a, D: Door>(list: Vec<Worker<'a, D>>) -> D
+fn door_of<'a, E: Engine, D: Door>(list: Vec<Worker<'a, E, D>>) -> D
     requires { length list.items ≡ 1 }
     ensures { map (λ w. w.door) list.entry.items ≡ result ∷ [] }
 {

@@ -15,6 +15,7 @@ use api_replies::ended;
 use cluster::{Entry, Event};
 use commands::Command;
 use dra_ports::Gate;
+use engine_ports::Engine;
 use histories::histories_grow;
 use http_wire::Reply;
 use object_fields::Key;
@@ -55,7 +56,7 @@ fn reply_by(alloc: Global, acted: &Acted) -> Result<Reply, Unreplied>
 }
 
 /// Carries out a command whose job has one entry.
-pub fn run_once<R: Wait>(
+pub fn run_once<E: Engine, R: Wait>(
     rt: &R,
     alloc: Global,
     lock: &TurnLock<Ledger>,
@@ -72,7 +73,7 @@ pub fn run_once<R: Wait>(
 {
     runs_go_past();
     histories_grow();
-    let acted = take_turn(rt, alloc, lock, pass, job, command);
+    let acted = take_turn::<E, _>(rt, alloc, lock, pass, job, command);
     let replied = reply_by(alloc, &acted);
     drop(acted);
     replied
@@ -99,7 +100,7 @@ fn needs_state(event: &Event) -> bool
 }
 
 /// Carries out the command that schedules a pod.
-pub fn run_schedule<R: Wait, G: Gate>(
+pub fn run_schedule<E: Engine, R: Wait, G: Gate>(
     rt: &R,
     alloc: Global,
     lock: &TurnLock<Ledger>,
@@ -119,7 +120,7 @@ pub fn run_schedule<R: Wait, G: Gate>(
 {
     histories_grow();
     let work = Work::new(job, Command::Schedule(pod, attempts));
-    match run_job(rt, alloc, lock, pass, gate, work, budget) {
+    match run_job::<E, _, _>(rt, alloc, lock, pass, gate, work, budget) {
         JobEnd::Ended(place) => reply_at(rt, alloc, lock, pass, place),
         JobEnd::Full(count) => Err(Unreplied::Full(count)),
         JobEnd::Memory => Err(Unreplied::Memory),

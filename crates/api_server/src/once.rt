@@ -11,6 +11,7 @@ use api_print::Part;
 use api_replies::part_after;
 use cluster::{Entry, JobState};
 use commands::Command;
+use engine_ports::Engine;
 use entry_copies::copy_entry;
 use sched_job::{Done, Ledger, LedgerError};
 use std::alloc::{AllocError, Global};
@@ -26,7 +27,7 @@ pub struct Ended {
 }
 
 /// Carries out a command whose job has one entry.
-fn carry_out(
+fn carry_out<E: Engine>(
     alloc: Global,
     ledger: &mut Ledger,
     job: u64,
@@ -45,7 +46,7 @@ fn carry_out(
         Command::Delete(target) => ledger.delete(alloc, job, &target),
         Command::Schedule(_, _) => unreachable!(),
         Command::Release(pod) => ledger.release(alloc, job, &pod),
-        Command::Adopt(claim, status) => ledger.adopt(alloc, job, &claim, status),
+        Command::Adopt(claim, status) => ledger.adopt::<E>(alloc, job, &claim, status),
     }
 }
 
@@ -83,7 +84,7 @@ fn capture(alloc: Global, ledger: &Ledger) -> Result<Option<Ended>, AllocError>
 }
 
 /// Carries out a command whose job has one entry, unless the job has an entry.
-fn act(alloc: Global, ledger: &mut Ledger, job: u64, command: Command) -> Acted
+fn act<E: Engine>(alloc: Global, ledger: &mut Ledger, job: u64, command: Command) -> Acted
     requires once { is_schedule command ≡ false }
     ensures { Acts ledger.old ledger.new job command result }
 {
@@ -92,7 +93,7 @@ fn act(alloc: Global, ledger: &mut Ledger, job: u64, command: Command) -> Acted
         JobState::Fresh => {}
         _ => return Acted::Failed(LedgerError::Memory),
     }
-    match carry_out(alloc, ledger, job, command) {
+    match carry_out::<E>(alloc, ledger, job, command) {
         Ok(_) => match capture(alloc, ledger) {
             Ok(Some(ended)) => Acted::Ended(ended),
             _ => Acted::Made,
@@ -102,7 +103,7 @@ fn act(alloc: Global, ledger: &mut Ledger, job: u64, command: Command) -> Acted
 }
 
 /// The same in a turn under the lock.
-pub fn take_turn<R: Wait>(
+pub fn take_turn<E: Engine, R: Wait>(
     rt: &R,
     alloc: Global,
     lock: &TurnLock<Ledger>,
@@ -118,7 +119,7 @@ pub fn take_turn<R: Wait>(
     ensures took { TookOnce lock.now.number pass.old pass.new job command result }
 {
     let mut turn = lock.enter(rt, pass);
-    let acted = act(alloc, turn.state(), job, command);
+    let acted = act::<E>(alloc, turn.state(), job, command);
     lock.leave(turn, pass);
     acted
 }

@@ -8,6 +8,7 @@ use api_replies::refused;
 use api_requests::task_of;
 use api_routes::Unserved;
 use dra_ports::Gate;
+use engine_ports::Engine;
 use http_wire::{Reply, Request};
 use sched_job::Ledger;
 use std::alloc::Global;
@@ -17,7 +18,7 @@ use turn_lock::{Pass, TurnLock};
 /// Does what a request is for, and replies to it, where a Schedule makes at most so many attempts. A request that
 /// is refused before it is a command takes no turn of the lock.
 #[tactic(auto, using(crate::proofs::Attempts::task_has))]
-pub fn serve_request<R: Wait, G: Gate>(
+pub fn serve_request<E: Engine, R: Wait, G: Gate>(
     rt: &R,
     alloc: Global,
     lock: &TurnLock<Ledger>,
@@ -41,7 +42,7 @@ pub fn serve_request<R: Wait, G: Gate>(
         return Err(Unreplied::Memory);
     };
     match asked {
-        Ok(task) => serve_task(rt, alloc, lock, pass, gate, job, budget, task),
+        Ok(task) => serve_task::<E, _, _>(rt, alloc, lock, pass, gate, job, budget, task),
         Err(why) => refuse(alloc, why),
     }
 }

@@ -13,6 +13,7 @@ use crate::serve_end::{ServeEnd, worst};
 use crew::{Unrun, run_all};
 use door_ports::{Door, Doors};
 use dra_ports::{Gate, PortError};
+use engine_ports::Engine;
 use sched_job::{Ledger, join_all, split_all};
 use std::alloc::Global;
 use std::sync::Wait;
@@ -21,7 +22,7 @@ use turn_lock::{Pass, Refused, TurnLock};
 
 /// Serves the connections to an address over a ledger, and returns the ledger again. The doors are closed again,
 /// whatever happens.
-pub fn serve_all<R: Threads + Wait + Sync, O: Doors, G: Gate + Sync>(
+pub fn serve_all<E: Engine + Send, R: Threads + Wait + Sync, O: Doors, G: Gate + Sync>(
     rt: &R,
     alloc: Global,
     doors: &mut O,
@@ -39,7 +40,9 @@ pub fn serve_all<R: Threads + Wait + Sync, O: Doors, G: Gate + Sync>(
     let _len = ledger.len();
     match doors.open(address, options.workers as usize, options.connections) {
         Ok(opened) => {
-            let (ledger, opened, end) = serve_doors(rt, alloc, ledger, opened, options, gate);
+            let (ledger, opened, end) = serve_doors::<E, _, _, _>(
+                rt, alloc, ledger, opened, options, gate,
+            );
             doors.close(opened);
             (ledger, end)
         }
@@ -58,7 +61,7 @@ fn unopened(error: PortError) -> ServeEnd
 }
 
 /// Serves the connections of doors, one worker a door, and returns the ledger and the doors again.
-fn serve_doors<R: Threads + Wait + Sync, D: Door + Send, G: Gate + Sync>(
+fn serve_doors<E: Engine + Send, R: Threads + Wait + Sync, D: Door + Send, G: Gate + Sync>(
     rt: &R,
     alloc: Global,
     ledger: Ledger,
@@ -83,14 +86,16 @@ where
             return (state, doors, ServeEnd::Memory);
         }
     };
-    let (whole, doors, end) = serve_under(rt, alloc, &lock, first, doors, options, gate);
+    let (whole, doors, end) = serve_under::<E, _, _, _>(
+        rt, alloc, &lock, first, doors, options, gate,
+    );
     let ledger = lock.close(whole);
     let _len = ledger.len();
     (ledger, doors, end)
 }
 
 /// Splits the pass, runs a worker for each door, and joins the passes.
-fn serve_under<R: Threads + Wait + Sync, D: Door + Send, G: Gate + Sync>(
+fn serve_under<E: Engine + Send, R: Threads + Wait + Sync, D: Door + Send, G: Gate + Sync>(
     rt: &R,
     alloc: Global,
     lock: &TurnLock<Ledger>,
@@ -115,7 +120,7 @@ where
     ensures did { DidAll (terms_of options) lock.now result.0 (map (seen D.share D.in_service D.served D.ended D.faults) doors.items) (map (seen D.share D.in_service D.served D.ended D.faults) result.1.items) result.2 }
 {
     connections_make_entries();
-    let Ok(room) = make_room(alloc, doors.len()) else {
+    let Ok(room) = make_room::<E, _>(alloc, doors.len()) else {
         return (first, doors, ServeEnd::Memory);
     };
     match split_all(alloc, lock, first, options.workers) {

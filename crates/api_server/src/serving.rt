@@ -8,6 +8,7 @@ use crate::printing::print;
 use crate::server::serve_all;
 use door_ports::Doors;
 use dra_ports::{Gate, Sink};
+use engine_ports::Engine;
 use http_wire::requests_lie_in_order;
 use sched_job::Ledger;
 use std::sync::Wait;
@@ -30,7 +31,13 @@ use std::thread::Threads;
 /// `Write` and `Door` are returned only if the count of errors of the output, or that of the doors, rose in this call or is
 /// at its maximum, and `Memory` only if memory runs out. With every status but `Write` the output's count is unchanged, and
 /// with every one but `Door` and `Memory` the doors'.
-pub fn serve<R: AllocGlobal + Threads + Wait + Sync, K: Sink, O: Doors, G: Gate + Sync>(
+pub fn serve<
+    E: Engine + Send,
+    R: AllocGlobal + Threads + Wait + Sync,
+    K: Sink,
+    O: Doors,
+    G: Gate + Sync,
+>(
     rt: &R,
     address: &str,
     options: ServeOptions,
@@ -56,6 +63,6 @@ pub fn serve<R: AllocGlobal + Threads + Wait + Sync, K: Sink, O: Doors, G: Gate 
     let Ok(ledger) = Ledger::new(alloc, options.entries) else {
         return ServeStatus::Memory;
     };
-    let (ledger, end) = serve_all(rt, alloc, doors, address, ledger, options, gate);
+    let (ledger, end) = serve_all::<E, _, _, _>(rt, alloc, doors, address, ledger, options, gate);
     print(alloc, &ledger, end, output)
 }

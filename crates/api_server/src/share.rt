@@ -7,6 +7,7 @@ use crate::share_end::ShareEnd;
 use crate::{ConnEnd, serve_connection};
 use door_ports::Door;
 use dra_ports::{Gate, PortError};
+use engine_ports::Engine;
 use sched_job::Ledger;
 use std::alloc::Global;
 use std::sync::Wait;
@@ -17,7 +18,7 @@ use turn_lock::{Pass, TurnLock};
 ///
 /// A connection that can't be read or written any more is over, and the next one is served. The service ends early if
 /// the door fails, if the history has its limit of entries and a request needs one more, or if memory runs out.
-pub fn serve_share<R: Wait, D: Door, G: Gate>(
+pub fn serve_share<E: Engine, R: Wait, D: Door, G: Gate>(
     rt: &R,
     alloc: Global,
     lock: &TurnLock<Ledger>,
@@ -42,7 +43,7 @@ pub fn serve_share<R: Wait, D: Door, G: Gate>(
 {
     let mut number = worker + 1;
     'connections: while number <= connections {
-        let end = serve_next(rt, alloc, lock, pass, door, gate, budget, attempts);
+        let end = serve_next::<E, _, _, _>(rt, alloc, lock, pass, door, gate, budget, attempts);
         if let Some(end) = end {
             return end;
         }
@@ -52,7 +53,7 @@ pub fn serve_share<R: Wait, D: Door, G: Gate>(
 }
 
 /// Accepts the next connection, serves it and gives it back. Returns how the service of all ended, if it did.
-fn serve_next<R: Wait, D: Door, G: Gate>(
+fn serve_next<E: Engine, R: Wait, D: Door, G: Gate>(
     rt: &R,
     alloc: Global,
     lock: &TurnLock<Ledger>,
@@ -76,7 +77,9 @@ fn serve_next<R: Wait, D: Door, G: Gate>(
             let mut accepted = accepted;
             let number = accepted.number();
             let conn = accepted.conn();
-            let end = serve_connection(rt, alloc, lock, pass, conn, number, gate, budget, attempts);
+            let end = serve_connection::<E, _, _, _>(
+                rt, alloc, lock, pass, conn, number, gate, budget, attempts,
+            );
             door.end(accepted);
             stop_after(end)
         }

@@ -13,6 +13,7 @@ use cluster::Target;
 use commands::Command;
 use dra_ports::Gate;
 use dra_values::Text;
+use engine_ports::Engine;
 use http_wire::Reply;
 use sched_job::Ledger;
 use std::alloc::Global;
@@ -33,7 +34,7 @@ pub enum Unreplied {
 /// A command is carried out as this job, which has no entry yet, and the reply is by the job's last entry and the
 /// state after that. What is to be shown is the state in one turn of the lock. The lock is held neither while a
 /// search runs nor while the reply is made.
-pub fn serve_task<R: Wait, G: Gate>(
+pub fn serve_task<E: Engine, R: Wait, G: Gate>(
     rt: &R,
     alloc: Global,
     lock: &TurnLock<Ledger>,
@@ -51,14 +52,14 @@ pub fn serve_task<R: Wait, G: Gate>(
     ensures serves { Serves job budget task pass.old pass.new result }
 {
     match task {
-        Task::Run(command) => run(rt, alloc, lock, pass, gate, job, budget, command),
+        Task::Run(command) => run::<E, _, _>(rt, alloc, lock, pass, gate, job, budget, command),
         Task::Show(target) => show(rt, alloc, lock, pass, &target),
         Task::List(kind, namespace) => list(rt, alloc, lock, pass, kind, &namespace),
         Task::History => history(rt, alloc, lock, pass),
     }
 }
 
-fn run<R: Wait, G: Gate>(
+fn run<E: Engine, R: Wait, G: Gate>(
     rt: &R,
     alloc: Global,
     lock: &TurnLock<Ledger>,
@@ -77,9 +78,9 @@ fn run<R: Wait, G: Gate>(
 {
     match command {
         Command::Schedule(pod, attempts) => {
-            run_schedule(rt, alloc, lock, pass, gate, job, pod, attempts, budget)
+            run_schedule::<E, _, _>(rt, alloc, lock, pass, gate, job, pod, attempts, budget)
         }
-        other => run_once(rt, alloc, lock, pass, job, other),
+        other => run_once::<E, _>(rt, alloc, lock, pass, job, other),
     }
 }
 

@@ -3,14 +3,16 @@ use crate::share_end::ShareEnd;
 use crew::Job;
 use door_ports::Door;
 use dra_ports::Gate;
+use engine_ports::Engine;
 use sched_job::Ledger;
 use std::alloc::Global;
+use std::marker::PhantomData;
 use std::sync::Wait;
 use turn_lock::{Pass, TurnLock};
 
 /// A worker of several that share a ledger, with the door whose connections it serves.
 #[derive(Drop)]
-pub struct Worker<'a, D: Door> {
+pub struct Worker<'a, E: Engine, D: Door> {
     pub lock: &'a TurnLock<Ledger>,
     pub alloc: Global,
     pub door: D,
@@ -19,6 +21,8 @@ pub struct Worker<'a, D: Door> {
     pub connections: u64,
     pub budget: u64,
     pub attempts: u64,
+    /// What decides and checks.
+    pub engine: PhantomData<E>,
 }
 
 /// A door whose connections were served, and how their service ended.
@@ -28,7 +32,7 @@ pub struct Visited<D: Door> {
     pub end: ShareEnd,
 }
 
-impl<'a, D: Door + Send> Job<Ledger> for Worker<'a, D>
+impl<'a, E: Engine + Send, D: Door + Send> Job<Ledger> for Worker<'a, E, D>
 where
     D::Conn: Send,
 {
@@ -51,9 +55,10 @@ where
             connections,
             budget,
             attempts,
+            engine: _,
         } = self;
         let mut door = door;
-        let end = serve_share(
+        let end = serve_share::<E, _, _, _>(
             rt,
             alloc,
             lock,

@@ -7,6 +7,7 @@ use crate::last_line::last_line;
 use crate::laws::scripts_are_clean;
 use crate::memory::{Kept, Script};
 use crate::nowhere::{NoDisk, NoDriver};
+use default_engine::DefaultEngine;
 use dra_ports::{OpenGate, PortError, Sink, write_all};
 use dra_values::Text;
 use histories::legal_steps;
@@ -58,7 +59,7 @@ fn replayed<R: AllocGlobal + Threads + Wait + Sync>(
     };
     let mut input = Script::new(text);
     let mut output = Kept::new(alloc);
-    let (_, status) = replay(
+    let (_, status) = replay::<DefaultEngine, _, _, _, _, _, _>(
         rt,
         &options,
         &mut input,

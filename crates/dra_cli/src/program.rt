@@ -19,6 +19,7 @@ use crate::exercise::exercise;
 use crate::headline::runs_are_true;
 use crate::serving::serve_words;
 use crate::task::{Task, asked};
+use default_engine::DefaultEngine;
 use door_ports::Doors;
 use dra_ports::{Disk, Gate, Sink, Source};
 use prepare_core::Driver;
@@ -145,7 +146,9 @@ pub fn run<
     match asked(rt.alloc(), words) {
         Ok(asked) => match asked {
             Some(task) => match task {
-                Task::Replay(options) => replay(rt, &options, input, output, disk, driver, gate),
+                Task::Replay(options) => replay::<DefaultEngine, _, _, _, _, _, _>(
+                    rt, &options, input, output, disk, driver, gate,
+                ),
                 Task::Serve(words) => {
                     let status = serve_words(rt, &words, output, doors, gate);
                     (disk, status)

@@ -6,6 +6,7 @@ ghost use Rattle.dra_cli.specs.Task.{AreServed};
 use crate::headline::served_are_true;
 use api_server::{ServeOptions, ServeStatus, serve};
 use cli_words::ServeWords;
+use default_engine::DefaultEngine;
 use door_ports::Doors;
 use dra_ports::{Gate, Sink};
 use replay_core::Status;
@@ -56,5 +57,12 @@ pub fn serve_words<R: AllocGlobal + Threads + Wait + Sync, K: Sink, O: Doors, G:
 {
     served_are_true();
     let options = options_of(words);
-    status_of(serve(rt, words.address.as_str(), options, output, doors, gate))
+    status_of(serve::<DefaultEngine, _, _, _, _>(
+        rt,
+        words.address.as_str(),
+        options,
+        output,
+        doors,
+        gate,
+    ))
 }

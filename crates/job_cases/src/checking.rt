@@ -1,3 +1,4 @@
+use crate::counted::totals_are_counted;
 use crate::input::{CaseError, cut_word, done};
 use crate::orders::json;
 use crate::out::Out;
@@ -55,6 +56,7 @@ fn failure_of_plan(
     let state = setup.ledger.state();
     let holders = setup.ledger.holders();
     let totals = setup.ledger.totals();
+    totals_are_counted(alloc, state, holders, totals)?;
     let plan = planned.plan.value();
     check(alloc, state, holders, totals, &planned.pod, plan)
 }
@@ -115,6 +117,7 @@ fn failure_of_status(
     }
     let holders = setup.ledger.holders();
     let totals = setup.ledger.totals();
+    totals_are_counted(alloc, state, holders, totals)?;
     done(check_status(alloc, state, holders, totals, claim, status))
 }
 

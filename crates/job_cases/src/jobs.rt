@@ -5,6 +5,7 @@ use crate::orders::read_orders;
 use crate::out::Out;
 use crate::report::print_case;
 use commands::Command;
+use default_engine::DefaultEngine;
 use sched_job::{Ledger, LedgerError, Work, run_alone, run_steps};
 use std::alloc::{AllocError, Global};
 
@@ -20,7 +21,7 @@ pub fn run_next(
     budget: u64,
 ) -> Result<(), LedgerError> {
     if is_new(ledger, job, &order) {
-        run_alone(alloc, ledger, job, order, budget)?;
+        run_alone::<DefaultEngine>(alloc, ledger, job, order, budget)?;
     }
     Ok(())
 }
@@ -60,7 +61,7 @@ fn make_steps(
     budget: u64,
 ) -> Result<u64, LedgerError> {
     if may_step(ledger, works, steps) {
-        run_steps(alloc, ledger, works, steps, budget)
+        run_steps::<DefaultEngine>(alloc, ledger, works, steps, budget)
     } else {
         Ok(0)
     }

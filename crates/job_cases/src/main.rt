@@ -5,6 +5,7 @@
 
 mod checking;
 mod container;
+mod counted;
 mod fresh;
 mod input;
 mod jobs;

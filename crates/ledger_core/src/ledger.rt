@@ -45,7 +45,6 @@ use crate::memos::{put_last, take_last};
 use crate::plans::true_plans_pass;
 use crate::room::{JobStates, append, failures, job_state_in, make_room};
 use crate::snapshot::Snapshot;
-use alloc_rules::{check_again, check_status};
 use api_claim::ClaimStatus;
 use cluster::{
     Command, Entry, Event, Failure, JobState, Kept, Mode, Outcome, Phase, Plan, Ready, ReadyParts,
@@ -53,6 +52,7 @@ use cluster::{
 };
 use counter_sets::{Held, SharedTotals};
 use dra_values::{Shared, Table, Text};
+use engine_ports::Engine;
 use full_nodes::learn_full_slices;
 use histories::{one_holder, uids_keep_claims, users_are_busy};
 use node_inputs::wanted_in;
@@ -341,11 +341,11 @@ impl Ledger {
 
     /// Makes the grants of a plan that was true at its index, if the plan doesn't fail now, and takes the pod
     /// for the job. If the pod can't be scheduled any more, the entry is a denial, and if the plan fails
-    /// against the present state (`alloc_rules::check`), it is a refusal that carries the first failure; then
-    /// the state stays as it was. A plan of the present index can't fail, and isn't looked at. `Full` is
+    /// against the present state (`Engine::check_again`), it is a refusal that carries the first failure; then
+    /// the state stays as it was. A plan of the present index can't fail. `Full` is
     /// returned if the history has its limit of entries, and `Memory` only if memory runs out; then nothing
     /// changed.
-    pub fn reserve(
+    pub fn reserve<E: Engine>(
         &mut self,
         alloc: Global,
         job: u64,
@@ -362,7 +362,7 @@ impl Ledger {
         ensures err { OnErr result (self.new ≡ self.old) }
     {
         match self.state.schedule_refusal(alloc, pod)? {
-            None => self.reserve_idle(alloc, job, pod, plan),
+            None => self.reserve_idle::<E>(alloc, job, pod, plan),
             Some(refusal) => {
                 let pod = pod.copy(alloc)?;
                 self.refuse(job, Command::Schedule(pod), refusal)
@@ -530,10 +530,10 @@ impl Ledger {
 
     /// Grants a claim what a status write says, published and without users. If a refusal of the command
     /// holds (`State::status_refusal`), or else the grant isn't an allocation of the claim
-    /// (`alloc_rules::check_status`), the entry is a denial that carries the claim, the status and the first
+    /// (`Engine::check_status`), the entry is a denial that carries the claim, the status and the first
     /// such, and the state stays as it was. `Full` is returned if the history has its limit of entries, and
     /// `Memory` only if memory runs out; then nothing changed.
-    pub fn adopt(
+    pub fn adopt<E: Engine>(
         &mut self,
         alloc: Global,
         job: u64,
@@ -549,7 +549,7 @@ impl Ledger {
         ensures err { OnErr result (self.new ≡ self.old) }
     {
         match self.state.status_refusal(claim, &status) {
-            None => self.adopt_free(alloc, job, claim, status),
+            None => self.adopt_free::<E>(alloc, job, claim, status),
             Some(refusal) => {
                 let (claim, status) = kept(alloc, claim, status)?;
                 self.refuse(job, Command::Adopt { claim, status }, refusal)
@@ -651,7 +651,7 @@ impl Ledger {
     }
 
     /// Reserves by a plan for a pod that is there and Idle, or records why the plan fails.
-    fn reserve_idle(
+    fn reserve_idle<E: Engine>(
         &mut self,
         alloc: Global,
         job: u64,
@@ -671,21 +671,26 @@ impl Ledger {
         checked_is_known();
         checked_is_allocation();
         uids_keep_claims();
-        match self.failure(alloc, pod, plan)? {
+        match self.failure::<E>(alloc, pod, plan)? {
             None => self.take(alloc, job, pod, plan),
             Some(why) => self.refuse_plan(alloc, job, pod, plan, why),
         }
     }
 
     /// The first failure of a plan, which was true at its index, against the present state.
-    fn failure(&self, alloc: Global, pod: &Key, plan: &Plan) -> Result<Option<Failure>, AllocError>
+    fn failure<E: Engine>(
+        &self,
+        alloc: Global,
+        pod: &Key,
+        plan: &Plan,
+    ) -> Result<Option<Failure>, AllocError>
         requires { IsPlanned self.now.entries pod.now plan.now }
         ensures first { IfOk result (λ found. found ≡ failing (state_of self.now.entries) pod.now plan.now) }
         ensures legal { Legal self.now.entries }
     {
         true_plans_pass();
         let at = self.len();
-        check_again(
+        E::check_again(
             alloc,
             &self.state,
             &self.holders,
@@ -860,7 +865,7 @@ impl Ledger {
     }
 
     /// Grants a claim, which is there without a grant, what a status write says, or refuses that.
-    fn adopt_free(
+    fn adopt_free<E: Engine>(
         &mut self,
         alloc: Global,
         job: u64,
@@ -876,7 +881,7 @@ impl Ledger {
         ensures full { (n : ℕ) → IsErrOf result (LedgerError.Full n) → (length self.old.entries ≡ n) × (self.old.limit ≤ n) }
         ensures err { OnErr result (self.new ≡ self.old) }
     {
-        match check_status(
+        match E::check_status(
             alloc,
             &self.state,
             &self.holders,

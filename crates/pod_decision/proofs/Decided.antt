@@ -27,10 +27,11 @@ use Rattle.allocations.specs.Claims.{full_claim, keys_of_pod, missing_claim}
 use Rattle.allocations.specs.Input.{outcome_on, walk_on}
 use Rattle.allocations.specs.Outcomes.{IsUnsat}
 use Rattle.pod_decision.specs.declared.nodes.Taken.{Taken}
-use Rattle.pod_decision.specs.Decisions.{IsDecision, IsJudge, IsReserve}
+use Rattle.engine_ports.specs.Decisions.{IsDecision, IsJudge, IsReserve}
 use Rattle.pod_decision.specs.Parts.{decision_by, first_full, first_missing, plan_by, unready, unready_by}
 use Rattle.plan_rules.specs.Plans.{CauseBy, CauseTrue, IsIdle, MaySearch, names_before, nodes_of}
-use Rattle.pod_decision.specs.Tries.{AllPassed, AreTried, IsFirstTaken}
+use Rattle.pod_decision.specs.Tries.{AreTried, IsFirstTaken}
+use Rattle.engine_ports.specs.Passed.{AllPassed}
 
 -- ---- what ends a walk within a budget is what ends it
 

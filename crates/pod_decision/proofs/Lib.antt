@@ -11,4 +11,3 @@ pub mod FullWalks
 pub mod FullInputs
 pub mod Unfaulted
 pub mod FullNodes
-pub mod OneDecision

@@ -1,4 +1,3 @@
-pub mod Decisions
 pub mod Tries
 pub mod Parts
 pub mod Searches

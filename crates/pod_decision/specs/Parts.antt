@@ -11,8 +11,8 @@ use Rattle.cluster.specs.declared.state.State.{State}
 use Rattle.cluster.specs.Claims.{known_of}
 use Rattle.cluster.specs.State.{may_use}
 use Rattle.allocations.specs.Claims.{is_elsewhere, joined}
-use Rattle.pod_decision.specs.declared.decision.Decision.{Decision}
-use Rattle.pod_decision.specs.declared.decision.Decision.TheVariants.{Reserve, Judge}
+use Rattle.engine_ports.specs.declared.decision.Decision.{Decision}
+use Rattle.engine_ports.specs.declared.decision.Decision.TheVariants.{Reserve, Judge}
 use Rattle.pod_decision.specs.declared.nodes.Taken.{Taken}
 
 -- the first of the claims that isn't there

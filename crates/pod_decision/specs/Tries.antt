@@ -16,6 +16,7 @@ use Rattle.pod_decision.specs.declared.nodes.Taken.{Taken}
 use Rattle.pod_decision.specs.declared.nodes.Tried.{Tried}
 use Rattle.pod_decision.specs.declared.nodes.Tried.TheVariants as tried
 use Rattle.plan_rules.specs.Plans.{CauseBy, nodes_of}
+use Rattle.engine_ports.specs.Passed.{AllPassed}
 
 -- the claims with a grant have it on the node, and a search of it within the budget finds these grants
 pub record FindsGrants (s : State) (pod : Pod) (budget : ℕ) (node : List ℕ) (grants : List Grant) : Type 0 where
@@ -35,11 +36,6 @@ tried_of budget (outcome.Found grants) = tried.Found grants
 tried_of budget outcome.Unsat = tried.Passed cause.Unsat
 tried_of budget (outcome.Fault fault) = tried.Passed (cause.Fault fault)
 tried_of budget outcome.Budget = tried.Passed (cause.Budget budget)
-
--- these nodes, and no others, are passed over, each with what a search of it shows
-pub record AllPassed (s : State) (pod : Pod) (budget : ℕ) (names : List (List ℕ)) (passed : List Passed) : Type 0 where
-  pub names_are : nodes_of passed ≡ names
-  pub causes : AllByRecursion (λ p. CauseBy s pod budget p.node p.cause) passed
 
 -- the nodes before the one that is taken are passed over
 pub record IsFirstTaken (s : State) (pod : Pod) (budget : ℕ) (names : List (List ℕ)) (passed : List Passed) (taken : Taken) : Type 0 where

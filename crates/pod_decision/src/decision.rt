@@ -1,14 +1,13 @@
 ghost use Rattle.std.specs.Prelude.{ℕ, ◌≡◌, Some, true, IfOk, IfSome};
 ghost use Rattle.cluster.specs.Claims.{known_of};
 ghost use Rattle.cluster.specs.Held.{held};
-ghost use Rattle.cluster.specs.State.{is_idle};
 ghost use Rattle.counter_sets.specs.Holding.{AreHeld};
 ghost use Rattle.allocations.specs.Claims.{joined, keys_of_pod};
 ghost use Rattle.pool_totals.specs.Drawn.{AreDrawn};
 ghost use Rattle.cluster.specs.declared.state.State as stateful;
 ghost use Rattle.allocations.specs.Lacking as lacking;
 ghost use Rattle.node_memo.specs.Memo.{Tells, TellsOf};
-ghost use Rattle.pod_decision.specs.Decisions.{IsDecision};
+ghost use Rattle.engine_ports.specs.Decisions.{IsDecision};
 ghost use Rattle.pod_decision.specs.Memory.{Remembers};
 ghost use Rattle.plan_rules.specs.Idle.{is_idle_pod};
 ghost use Rattle.pod_decision.specs.Parts.{decision_by, plan_by, unready};
@@ -19,41 +18,14 @@ use crate::nodes::{Taken, node_names, try_nodes};
 use crate::tries::NodeTries;
 use allocations::{keys_of_pod, unsat_is_true};
 use api_cluster::Pod;
-use cluster::{Known, PassedBuilder, PassedNodes, Phase, Plan, PodState, Reason, State, Verdict};
+use cluster::{Known, PassedBuilder, PassedNodes, Plan, PodState, Reason, State, Verdict};
 use counter_sets::{Held, SharedTotals};
 use dra_values::Seq;
+use engine_ports::Decision;
 use node_inputs::wanted_claims;
 use node_memo::{Dates, LackingNodes, Memo};
 use object_fields::Key;
 use std::alloc::{AllocError, Global};
-
-/// What is to be done with a pod.
-#[derive(Drop)]
-pub enum Decision {
-    /// To take the pod, and to grant and join its claims by this plan.
-    Reserve(Plan),
-    /// No node is taken for it, for this reason.
-    Judge(Verdict),
-}
-
-/// Whether the pod is there and Idle.
-pub fn may_schedule(state: &State, pod: &Key) -> bool
-    ensures { result ≡ is_idle_pod state.now pod.now }
-{
-    match state.pods.get(pod) {
-        None => false,
-        Some(pod) => is_idle(&pod.phase),
-    }
-}
-
-fn is_idle(phase: &Phase) -> bool
-    ensures { result ≡ is_idle phase.now }
-{
-    match phase {
-        Phase::Idle => true,
-        Phase::Taken { .. } | Phase::Bound(_) => false,
-    }
-}
 
 /// Decides on a pod that is there and Idle.
 ///

@@ -8,9 +8,7 @@ mod full_laws;
 mod nodes;
 mod search;
 mod tries;
-mod unique;
 
-pub use decision::{Decision, decide, decide_with, may_schedule};
+pub use decision::{decide, decide_with};
 pub use full_laws::full_nodes_have_nothing;
 pub use search::PodSearch;
-pub use unique::decision_is_unique;

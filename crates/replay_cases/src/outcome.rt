@@ -2,6 +2,7 @@ ghost use Rattle.std.specs.Prelude.{◌<◌, ◌≤◌, ◌^◌, IfOk};
 
 use crate::options::Options;
 use crate::ports::{Input, Output};
+use default_engine::DefaultEngine;
 use dra_ports::{HoldGate, Point, PortError, read_all};
 use dra_values::Text;
 use mem_disk::MemDisk;
@@ -191,7 +192,9 @@ fn replay_over<R: AllocGlobal + Threads + Wait + Sync>(
     requires attempts { 0 < how.now.attempts }
 {
     let found = disk.bytes().len();
-    let (disk, status) = replay(rt, how, input, output, disk, driver, gate);
+    let (disk, status) = replay::<DefaultEngine, _, _, _, _, _, _>(
+        rt, how, input, output, disk, driver, gate,
+    );
     let node = node_text(rt.alloc(), status, &disk, driver, found);
     (disk, status, node)
 }

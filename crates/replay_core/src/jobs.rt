@@ -12,6 +12,7 @@ ghost use Rattle.replay_core.specs.Forms.{members, width};
 use crate::{ReplayOptions, Stop};
 use commands::{Command, Given};
 use dra_ports::Gate;
+use engine_ports::Engine;
 use sched_job::{Ledger, LedgerError, Work, run_alone, run_together};
 use std::alloc::{AllocError, Global};
 use std::mem;
@@ -35,7 +36,7 @@ use std::thread::Threads;
 ///
 /// `Stop::Full` is returned if the history has as many entries as it may have and one more is expected, and
 /// `Stop::Memory` only if memory runs out: the entries that were made before stay.
-pub fn do_command<R: Threads + Wait + Sync, G: Gate + Sync>(
+pub fn do_command<E: Engine + Send, R: Threads + Wait + Sync, G: Gate + Sync>(
     rt: &R,
     alloc: Global,
     gate: &G,
@@ -55,10 +56,10 @@ pub fn do_command<R: Threads + Wait + Sync, G: Gate + Sync>(
     match given {
         Given::One(command) => {
             let job = before + 1;
-            run_alone(alloc, ledger, job, command, options.budget)?;
+            run_alone::<E>(alloc, ledger, job, command, options.budget)?;
             Ok(job)
         }
-        Given::Together(commands) => do_together(
+        Given::Together(commands) => do_together::<E, _, _>(
             rt,
             alloc,
             gate,
@@ -75,7 +76,7 @@ pub fn do_command<R: Threads + Wait + Sync, G: Gate + Sync>(
 
 /// Does commands beside each other, each as a job numbered on from `before`, and returns the number of the
 /// last.
-fn do_together<R: Threads + Wait + Sync, G: Gate + Sync>(
+fn do_together<E: Engine + Send, R: Threads + Wait + Sync, G: Gate + Sync>(
     rt: &R,
     alloc: Global,
     gate: &G,
@@ -95,7 +96,7 @@ fn do_together<R: Threads + Wait + Sync, G: Gate + Sync>(
 {
     let last = before + commands.len() as u64;
     let works = works_of(alloc, before, commands)?;
-    run_works(rt, alloc, gate, ledger, works, options)?;
+    run_works::<E, _, _>(rt, alloc, gate, ledger, works, options)?;
     Ok(last)
 }
 
@@ -115,7 +116,7 @@ fn works_of(alloc: Global, before: u64, commands: Vec<Command>) -> Result<Vec<Wo
 }
 
 /// Runs the works beside each other over the ledger, in whose place is an empty one meanwhile.
-fn run_works<R: Threads + Wait + Sync, G: Gate + Sync>(
+fn run_works<E: Engine + Send, R: Threads + Wait + Sync, G: Gate + Sync>(
     rt: &R,
     alloc: Global,
     gate: &G,
@@ -135,7 +136,15 @@ fn run_works<R: Threads + Wait + Sync, G: Gate + Sync>(
     let workers = options.workers.min(works.len() as u64).max(1);
     let empty = Ledger::new(alloc, 0)?;
     let taken = mem::replace(ledger, empty);
-    let (back, ended) = run_together(rt, alloc, gate, taken, works, workers, options.budget);
+    let (back, ended) = run_together::<E, _, _>(
+        rt,
+        alloc,
+        gate,
+        taken,
+        works,
+        workers,
+        options.budget,
+    );
     *ledger = back;
     ended
 }

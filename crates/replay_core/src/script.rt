@@ -14,6 +14,7 @@ use crate::work::{Work, do_document, print_summary};
 use crate::{Rejection, ReplayOptions, Status};
 use doc_split::{DocError, Splitter};
 use dra_ports::{Disk, Gate, Sink, Source};
+use engine_ports::Engine;
 use histories::histories_grow;
 use pod_prepare::LazyKubelet;
 use prepare_core::Driver;
@@ -26,7 +27,15 @@ use std::thread::Threads;
 const MOST_INPUT: u64 = 1_073_741_824;
 
 /// Does the next document of the input, or ends.
-fn step<R: Threads + Wait + Sync, S: Source, K: Sink, D: Disk, V: Driver, G: Gate + Sync>(
+fn step<
+    E: Engine + Send,
+    R: Threads + Wait + Sync,
+    S: Source,
+    K: Sink,
+    D: Disk,
+    V: Driver,
+    G: Gate + Sync,
+>(
     rt: &R,
     alloc: Global,
     splitter: &mut Splitter,
@@ -62,7 +71,7 @@ fn step<R: Threads + Wait + Sync, S: Source, K: Sink, D: Disk, V: Driver, G: Gat
 {
     documents_ask_a_kubelet_once();
     match splitter.next_document(alloc, input) {
-        Ok(Some(doc)) => do_document(
+        Ok(Some(doc)) => do_document::<E, _, _, _, _, _>(
             rt, alloc, gate, work, kubelet, &doc, options, output, driver,
         ),
         Ok(None) => (kubelet, Err(print_summary(alloc, work, output))),
@@ -108,6 +117,7 @@ fn input_status(error: DocError) -> Status
 /// nodes within the budget of the options return, at its index. With each status the history has at most `entries`
 /// entries, and where one more was expected it has exactly so many.
 pub fn replay<
+    E: Engine + Send,
     R: AllocGlobal + Threads + Wait + Sync,
     S: Source,
     K: Sink,
@@ -149,7 +159,7 @@ pub fn replay<
     };
     let mut kubelet = LazyKubelet::Closed(disk);
     'documents: loop {
-        let (next, done) = step(
+        let (next, done) = step::<E, _, _, _, _, _, _>(
             rt,
             alloc,
             &mut splitter,

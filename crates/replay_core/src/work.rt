@@ -23,6 +23,7 @@ use crate::{Rejection, ReplayOptions, Status, Stop};
 use commands::{Given, GivenError, commands};
 use doc_split::Doc;
 use dra_ports::{Disk, Gate, PortError, Sink, write_all};
+use engine_ports::Engine;
 use histories::histories_grow;
 use journal_text::{lines, summary};
 use pod_prepare::LazyKubelet;
@@ -65,7 +66,7 @@ pub fn print_from<K: Sink>(
 }
 
 /// Does what is asked for as the next jobs, and prints their lines once all are done.
-fn do_jobs<R: Threads + Wait + Sync, K: Sink, G: Gate + Sync>(
+fn do_jobs<E: Engine + Send, R: Threads + Wait + Sync, K: Sink, G: Gate + Sync>(
     rt: &R,
     alloc: Global,
     gate: &G,
@@ -85,7 +86,7 @@ fn do_jobs<R: Threads + Wait + Sync, K: Sink, G: Gate + Sync>(
     ensures sound { IsSound work.new.ledger }
 {
     let from = work.ledger.len();
-    let done = do_command(
+    let done = do_command::<E, _, _>(
         rt,
         alloc,
         gate,
@@ -159,7 +160,14 @@ fn do_kubelet<K: Sink, D: Disk, V: Driver>(
 }
 
 /// Does what is asked for as the next commands, and prints their lines once all are done.
-pub fn do_next<R: Threads + Wait + Sync, K: Sink, D: Disk, V: Driver, G: Gate + Sync>(
+pub fn do_next<
+    E: Engine + Send,
+    R: Threads + Wait + Sync,
+    K: Sink,
+    D: Disk,
+    V: Driver,
+    G: Gate + Sync,
+>(
     rt: &R,
     alloc: Global,
     gate: &G,
@@ -192,13 +200,13 @@ pub fn do_next<R: Threads + Wait + Sync, K: Sink, D: Disk, V: Driver, G: Gate + 
         do_kubelet(alloc, work, kubelet, &command, options, output, driver)
     } else {
         keeps(&kubelet);
-        let done = do_jobs(rt, alloc, gate, work, command, options, output);
+        let done = do_jobs::<E, _, _, _>(rt, alloc, gate, work, command, options, output);
         (kubelet, done)
     }
 }
 
 /// Does what is asked for one after another, each as the next commands, and prints the lines of each.
-fn do_all<R: Threads + Wait + Sync, K: Sink, D: Disk, V: Driver, G: Gate + Sync>(
+fn do_all<E: Engine + Send, R: Threads + Wait + Sync, K: Sink, D: Disk, V: Driver, G: Gate + Sync>(
     rt: &R,
     alloc: Global,
     gate: &G,
@@ -229,7 +237,7 @@ fn do_all<R: Threads + Wait + Sync, K: Sink, D: Disk, V: Driver, G: Gate + Sync>
     let _entries = work.ledger.len();
     let mut kubelet = kubelet;
     for command in commands {
-        let (next, done) = do_next(
+        let (next, done) = do_next::<E, _, _, _, _, _>(
             rt, alloc, gate, work, kubelet, command, options, output, driver,
         );
         kubelet = next;
@@ -242,7 +250,14 @@ fn do_all<R: Threads + Wait + Sync, K: Sink, D: Disk, V: Driver, G: Gate + Sync>
 }
 
 /// Does what a document asks for, each as the next commands, and prints the lines of each.
-pub fn do_document<R: Threads + Wait + Sync, K: Sink, D: Disk, V: Driver, G: Gate + Sync>(
+pub fn do_document<
+    E: Engine + Send,
+    R: Threads + Wait + Sync,
+    K: Sink,
+    D: Disk,
+    V: Driver,
+    G: Gate + Sync,
+>(
     rt: &R,
     alloc: Global,
     gate: &G,
@@ -272,7 +287,7 @@ pub fn do_document<R: Threads + Wait + Sync, K: Sink, D: Disk, V: Driver, G: Gat
     documents_ask_a_kubelet_once();
     let _entries = work.ledger.len();
     match commands(alloc, doc, options.attempts) {
-        Ok(given) => do_all(
+        Ok(given) => do_all::<E, _, _, _, _, _>(
             rt, alloc, gate, work, kubelet, given, options, output, driver,
         ),
         Err(GivenError::NotJson) => { (kubelet, Err(Status::Document(doc.at, Rejection::NotJson))) }

@@ -25,9 +25,9 @@ use Rattle.cluster.specs.History.{state_at, state_of, job_state_of}
 use Rattle.cluster.specs.Reserved.{with_reserved}
 use Rattle.cluster.specs.State.{claims_of, has_written}
 use Rattle.cluster.specs.Wrote.{with_written}
-use Rattle.pod_decision.specs.declared.decision.Decision.{Decision}
-use Rattle.pod_decision.specs.declared.decision.Decision.TheVariants.{Reserve, Judge}
-use Rattle.pod_decision.specs.Decisions.{IsDecision, IsReserve}
+use Rattle.engine_ports.specs.declared.decision.Decision.{Decision}
+use Rattle.engine_ports.specs.declared.decision.Decision.TheVariants.{Reserve, Judge}
+use Rattle.engine_ports.specs.Decisions.{IsDecision, IsReserve}
 use Rattle.plan_rules.specs.Plans.{IsIdle, PlanBy, PlanTrue, VerdictBy, VerdictTrue}
 use Rattle.histories.specs.Bound.{MayBind}
 use Rattle.histories.specs.Denied.{MayDeny}

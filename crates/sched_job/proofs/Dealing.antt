@@ -44,26 +44,26 @@ dealt_of k n i w (v ∷ vs) there =
 dealt_other : (k n i : ℕ) (w : Work) (ws : List Work) → eqb (i % n) k ≡ false → dealt k n i (w ∷ ws) ≡ dealt k n (i + 1) ws
 dealt_other k n i w ws e = ap (λ (b : Bool). cond b (w ∷ dealt k n (i + 1) ws) (dealt k n (i + 1) ws)) e
 
-works_push : (ms : List Member) (m : Member) (ws : List Work) → works_in (ms ++ m ∷ []) ++ ws ≡ works_in ms ++ m.work ∷ ws
+works_push : {X : Type 0} (ms : List (Member X)) (m : Member X) (ws : List Work) → works_in (ms ++ m ∷ []) ++ ws ≡ works_in ms ++ m.work ∷ ws
 works_push [] m ws = refl
 works_push (x ∷ xs) m ws = ap (λ (vs : List Work). x.work ∷ vs) (works_push xs m ws)
 
-members_push : (lock : Opened Entry) (budget : ℕ) (ms : List Member) (m : Member) → AreMembers lock budget ms → IsMember lock budget m → AreMembers lock budget (ms ++ m ∷ [])
+members_push : {X : Type 0} (lock : Opened Entry) (budget : ℕ) (ms : List (Member X)) (m : Member X) → AreMembers lock budget ms → IsMember lock budget m → AreMembers lock budget (ms ++ m ∷ [])
 members_push lock budget [] m are is = (is, tt)
 members_push lock budget (x ∷ xs) m are is = (are.0, members_push lock budget xs m are.1 is)
 
-module _ {V : Type 0} (f : V → List Member) (at : ℕ) (vs : List V) (v v' : V) (m : Member) (lt : at < length vs) (is : v ≡ get_or vs at v) (now : f v' ≡ f v ++ m ∷ []) where
-  pushed_at : (d : List Member) → get_or (map f (set vs at v')) at d ≡ get_or (map f vs) at d ++ m ∷ []
+module _ {X V : Type 0} (f : V → List (Member X)) (at : ℕ) (vs : List V) (v v' : V) (m : Member X) (lt : at < length vs) (is : v ≡ get_or vs at v) (now : f v' ≡ f v ++ m ∷ []) where
+  pushed_at : (d : List (Member X)) → get_or (map f (set vs at v')) at d ≡ get_or (map f vs) at d ++ m ∷ []
   pushed_at d =
-      ap (λ (ls : List (List Member)). get_or ls at d) (map-set f vs at v') ∙ get_or-set_same (map f vs) at (f v') d ((let l = length-map vs f in omega arith)) ∙ now
-      ∙ ap (λ (ms : List Member). ms ++ m ∷ []) (ap f is ∙ sym (get_or-map f vs at v d lt))
+      ap (λ (ls : List (List (Member _))). get_or ls at d) (map-set f vs at v') ∙ get_or-set_same (map f vs) at (f v') d ((let l = length-map vs f in omega arith)) ∙ now
+      ∙ ap (λ (ms : List (Member _)). ms ++ m ∷ []) (ap f is ∙ sym (get_or-map f vs at v d lt))
 
-  other_at : (k : ℕ) (d : List Member) → eqb at k ≡ false → get_or (map f (set vs at v')) k d ≡ get_or (map f vs) k d
-  other_at k d e = ap (λ (ls : List (List Member)). get_or ls k d) (map-set f vs at v') ∙ get_or-set_other (map f vs) at k (f v') d (grind (arith, nat_tests))
+  other_at : (k : ℕ) (d : List (Member X)) → eqb at k ≡ false → get_or (map f (set vs at v')) k d ≡ get_or (map f vs) k d
+  other_at k d e = ap (λ (ls : List (List (Member _))). get_or ls k d) (map-set f vs at v') ∙ get_or-set_other (map f vs) at k (f v') d (grind (arith, nat_tests))
 
-pub dealt_step : {V : Type 0} (f : V → List Member) (n i : ℕ) (vs : List V) (v v' : V) (m : Member) (before ws all : List Work) → before ≡ m.work ∷ ws → 0 < n → length vs ≡ n → v ≡ get_or vs (i % n) v → f v' ≡ f v ++ m ∷ []
-    → ((k : ℕ) (d : List Member) → k < n → works_in (get_or (map f vs) k d) ++ dealt k n i before ≡ dealt k n 0 all)
-    → (k : ℕ) (d : List Member) → k < n → works_in (get_or (map f (set vs (i % n) v')) k d) ++ dealt k n (i + 1) ws ≡ dealt k n 0 all
+pub dealt_step : {X V : Type 0} (f : V → List (Member X)) (n i : ℕ) (vs : List V) (v v' : V) (m : Member X) (before ws all : List Work) → before ≡ m.work ∷ ws → 0 < n → length vs ≡ n → v ≡ get_or vs (i % n) v → f v' ≡ f v ++ m ∷ []
+    → ((k : ℕ) (d : List (Member X)) → k < n → works_in (get_or (map f vs) k d) ++ dealt k n i before ≡ dealt k n 0 all)
+    → (k : ℕ) (d : List (Member X)) → k < n → works_in (get_or (map f (set vs (i % n) v')) k d) ++ dealt k n (i + 1) ws ≡ dealt k n 0 all
 dealt_step f n i vs v v' m before ws all first some len is now so k d lt = pick (eqb (i % n) k) refl
   where
     was : works_in (get_or (map f vs) k d) ++ dealt k n i (m.work ∷ ws) ≡ dealt k n 0 all
@@ -76,13 +76,13 @@ dealt_step f n i vs v v' m before ws all first some len is now so k d lt = pick 
     pick true t =
         let e : i % n ≡ k = eqb-true (i % n) k t in
         let here : get_or (map f (set vs (i % n) v')) k d ≡ get_or (map f vs) k d ++ m ∷ [] = subst (λ (x : ℕ). get_or (map f (set vs (i % n) v')) x d ≡ get_or (map f vs) x d ++ m ∷ []) e (pushed_at f (i % n) vs v v' m within is now d) in
-        ap (λ (ms : List Member). works_in ms ++ dealt k n (i + 1) ws) here ∙ works_push (get_or (map f vs) k d) m (dealt k n (i + 1) ws) ∙ ap (λ (xs : List Work). works_in (get_or (map f vs) k d) ++ xs) (sym (dealt_same k n i m.work ws t)) ∙ was
+        ap (λ (ms : List (Member _)). works_in ms ++ dealt k n (i + 1) ws) here ∙ works_push (get_or (map f vs) k d) m (dealt k n (i + 1) ws) ∙ ap (λ (xs : List Work). works_in (get_or (map f vs) k d) ++ xs) (sym (dealt_same k n i m.work ws t)) ∙ was
     pick false t =
-        ap (λ (ms : List Member). works_in ms ++ dealt k n (i + 1) ws) (other_at f (i % n) vs v v' m within is now k d t) ∙ ap (λ (xs : List Work). works_in (get_or (map f vs) k d) ++ xs) (sym (dealt_other k n i m.work ws t)) ∙ was
+        ap (λ (ms : List (Member _)). works_in ms ++ dealt k n (i + 1) ws) (other_at f (i % n) vs v v' m within is now k d t) ∙ ap (λ (xs : List Work). works_in (get_or (map f vs) k d) ++ xs) (sym (dealt_other k n i m.work ws t)) ∙ was
 
-pub members_step : {V : Type 0} (f : V → List Member) (lock : Opened Entry) (budget n at : ℕ) (vs : List V) (v v' : V) (m : Member) → at < n → length vs ≡ n → v ≡ get_or vs at v → f v' ≡ f v ++ m ∷ [] → IsMember lock budget m
-    → ((k : ℕ) (d : List Member) → k < n → AreMembers lock budget (get_or (map f vs) k d))
-    → (k : ℕ) (d : List Member) → k < n → AreMembers lock budget (get_or (map f (set vs at v')) k d)
+pub members_step : {X V : Type 0} (f : V → List (Member X)) (lock : Opened Entry) (budget n at : ℕ) (vs : List V) (v v' : V) (m : Member X) → at < n → length vs ≡ n → v ≡ get_or vs at v → f v' ≡ f v ++ m ∷ [] → IsMember lock budget m
+    → ((k : ℕ) (d : List (Member X)) → k < n → AreMembers lock budget (get_or (map f vs) k d))
+    → (k : ℕ) (d : List (Member X)) → k < n → AreMembers lock budget (get_or (map f (set vs at v')) k d)
 members_step f lock budget n at vs v v' m some len is now member so k d lt = pick (eqb at k) refl
   where
     within : at < length vs
@@ -111,12 +111,12 @@ in_cases w [] ys i = inr i
 in_cases w (x ∷ xs) ys (inl e) = inl (inl e)
 in_cases w (x ∷ xs) ys (inr i) = ⊎_elim {C = In w (x ∷ xs) ⊎ In w ys} (λ a. inl (inr a)) (λ b. inr b) (in_cases w xs ys i)
 
-in_list : (w : Work) (ls : List (List Member)) (k : ℕ) (d : List Member) → k < length ls → In w (works_in (get_or ls k d)) → In w (all_works ls)
+in_list : {X : Type 0} (w : Work) (ls : List (List (Member X))) (k : ℕ) (d : List (Member X)) → k < length ls → In w (works_in (get_or ls k d)) → In w (all_works ls)
 in_list w [] k d lt i = absurd (omega arith)
 in_list w (l ∷ ls) zero d lt i = in_left w (works_in l) (all_works ls) i
 in_list w (l ∷ ls) (suc k) d lt i = in_right w (works_in l) (all_works ls) (in_list w ls k d (omega arith) i)
 
-list_of : (w : Work) (ls : List (List Member)) (d : List Member) → In w (all_works ls) → (k : ℕ) × (k < length ls) × In w (works_in (get_or ls k d))
+list_of : {X : Type 0} (w : Work) (ls : List (List (Member X))) (d : List (Member X)) → In w (all_works ls) → (k : ℕ) × (k < length ls) × In w (works_in (get_or ls k d))
 list_of w [] d i = absurd i
 list_of w (l ∷ ls) d i =
     ⊎_elim {C = (k : ℕ) × (k < length (l ∷ ls)) × In w (works_in (get_or (l ∷ ls) k d))}
@@ -189,7 +189,7 @@ sum_shift : (f : ℕ → ℕ) (c : ℕ) → sum_to f (suc c) ≡ f 0 + sum_to (�
 sum_shift f zero = omega arith
 sum_shift f (suc c) = let r = sum_shift f c in omega arith
 
-count_lists : (job : ℕ) (ls : List (List Member)) (d : List Member) → count job (all_works ls) ≡ sum_to (λ k. count job (works_in (get_or ls k d))) (length ls)
+count_lists : {X : Type 0} (job : ℕ) (ls : List (List (Member X))) (d : List (Member X)) → count job (all_works ls) ≡ sum_to (λ k. count job (works_in (get_or ls k d))) (length ls)
 count_lists job [] d = refl
 count_lists job (l ∷ ls) d =
     let r = count_lists job ls d in
@@ -198,7 +198,7 @@ count_lists job (l ∷ ls) d =
     a ∙ ap (λ (x : ℕ). count job (works_in l) + x) r ∙ sym s
 
 -- what is in the lists are the works
-pub dealt_is_same : (n : ℕ) (ls : List (List Member)) (ws : List Work) → 0 < n → length ls ≡ n → ((k : ℕ) (d : List Member) → k < n → works_in (get_or ls k d) ≡ dealt k n 0 ws) → SameWorks (all_works ls) ws
+pub dealt_is_same : {X : Type 0} (n : ℕ) (ls : List (List (Member X))) (ws : List Work) → 0 < n → length ls ≡ n → ((k : ℕ) (d : List (Member X)) → k < n → works_in (get_or ls k d) ≡ dealt k n 0 ws) → SameWorks (all_works ls) ws
 dealt_is_same n ls ws some len are = record {
   there = λ w i.
       let r = dealt_has n 0 w ws some i in

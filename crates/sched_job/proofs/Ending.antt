@@ -7,7 +7,7 @@ use Rattle.cluster.specs.declared.entry.Event.{Event}
 use Rattle.cluster.specs.declared.entry.JobState.{JobState}
 use Rattle.cluster.specs.declared.entry.JobState.TheVariants as job_state
 use Rattle.cluster.specs.History.{state_of, job_state_of}
-use Rattle.pod_decision.specs.declared.decision.Decision.{Decision}
+use Rattle.engine_ports.specs.declared.decision.Decision.{Decision}
 use Rattle.plan_rules.specs.Idle.{is_idle_pod}
 use Rattle.ledger_core.specs.Ledger.{History}
 use Rattle.histories.specs.Legal.{Legal}

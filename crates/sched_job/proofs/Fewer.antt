@@ -34,7 +34,7 @@ use Rattle.commands.specs.declared.command.Command.TheVariants.{Apply, Invalid, 
 use Rattle.sched_job.specs.declared.work.Stage.{Stage}
 use Rattle.sched_job.specs.declared.work.Stage.TheVariants.{Ready, Seen, Chosen}
 use Rattle.sched_job.specs.declared.work.Work.{Work}
-use Rattle.pod_decision.specs.declared.decision.Decision.TheVariants.{Reserve, Judge}
+use Rattle.engine_ports.specs.declared.decision.Decision.TheVariants.{Reserve, Judge}
 use Rattle.sched_job.specs.Moves.{looked, moved, move_of, stage_by, tries}
 use Rattle.sched_job.specs.Runs.{IsStaged, IsTrying, Running}
 use Rattle.histories.specs.JobRuns.{Run, JobStep, attempts_of, command_of, is_ended, is_schedule}

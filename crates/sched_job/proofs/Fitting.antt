@@ -32,11 +32,11 @@ use Rattle.allocations.specs.Allocation.{IsAllocation}
 use Rattle.allocations.specs.Claims.{full_claim, missing_claim, other_claim, wanted}
 use Rattle.allocations.specs.Input.{outcome_on}
 use Rattle.allocations.specs.Outcomes.{IsUnsat}
-use Rattle.pod_decision.specs.declared.decision.Decision.{Decision}
-use Rattle.pod_decision.specs.declared.decision.Decision.TheVariants.{Reserve, Judge}
-use Rattle.pod_decision.specs.Decisions.{IsDecision, IsJudge, IsReserve}
+use Rattle.engine_ports.specs.declared.decision.Decision.{Decision}
+use Rattle.engine_ports.specs.declared.decision.Decision.TheVariants.{Reserve, Judge}
+use Rattle.engine_ports.specs.Decisions.{IsDecision, IsJudge, IsReserve}
 use Rattle.plan_rules.specs.Plans.{CauseBy, IsFirstFull, IsIdle, MaySearch, ReasonBy, ReasonTrue, names_before, nodes_of}
-use Rattle.pod_decision.specs.Tries.{AllPassed}
+use Rattle.engine_ports.specs.Passed.{AllPassed}
 use Rattle.sched_job.specs.Complete.{AllSettle, BoundTo, CarriesOut, Decided, JudgedBy, PassedAll, finds, first_fit, fits, mark_settles, own, settles}
 use Rattle.histories.specs.JobRuns.{Run}
 

@@ -15,15 +15,15 @@ use Rattle.sched_job.specs.Parts.{AllDid, Part, added_of, ends_of, works_of}
 use Rattle.sched_job.specs.Passes.{AllBegin, AreFree, AreFresh, owns, shares}
 
 -- what the crate's members need and give
-abbrev pub needs : Member → Known Entry → Type 0
+abbrev pub needs : {X : Type 0} → Member X → Known Entry → Type 0
 needs j p = Needs j.lock.now j.work p
 
-abbrev pub gives : Member → Known Entry → JobEnd → Known Entry → Type 0
+abbrev pub gives : {X : Type 0} → Member X → Known Entry → JobEnd → Known Entry → Type 0
 gives j p x q = Gives j.lock.now j.work j.budget p x q
 
 -- ---- before
 
-ready_list : (lock : Opened Entry) (budget : ℕ) (ms : List Member) (p : Known Entry) → AreMembers lock budget ms → IsOf lock p → IsFree p → Ready needs gives ms p
+ready_list : {X : Type 0} (lock : Opened Entry) (budget : ℕ) (ms : List (Member X)) (p : Known Entry) → AreMembers lock budget ms → IsOf lock p → IsFree p → Ready needs gives ms p
 ready_list lock budget [] p are of free = tt
 ready_list lock budget (m ∷ ms) p are of free =
     let is = are.0 in (
@@ -31,7 +31,7 @@ ready_list lock budget (m ∷ ms) p are of free =
       λ x q g. ready_list lock budget ms q are.1 (subst (λ (l : Opened Entry). IsOf l q) is.lock_is g.of) g.free,
     )
 
-pub all_ready : (lock : Opened Entry) (budget : ℕ) (ls : List (List Member)) (ps : List (Known Entry)) → length ls ≡ length ps → ((k : ℕ) (d : List Member) → k < length ls → AreMembers lock budget (get_or ls k d)) → AreFresh lock ps → AllReady needs gives ls ps
+pub all_ready : {X : Type 0} (lock : Opened Entry) (budget : ℕ) (ls : List (List (Member X))) (ps : List (Known Entry)) → length ls ≡ length ps → ((k : ℕ) (d : List (Member X)) → k < length ls → AreMembers lock budget (get_or ls k d)) → AreFresh lock ps → AllReady needs gives ls ps
 all_ready lock budget [] [] n are fresh = tt
 all_ready lock budget [] (p ∷ ps) n are fresh = absurd (omega arith)
 all_ready lock budget (l ∷ ls) [] n are fresh = absurd (omega arith)
@@ -60,7 +60,7 @@ did_append budget number base h [] qs a b = b
 did_append budget number base h (p ∷ ps) qs a b = (a.0, did_append budget number base h ps qs a.1 b)
 
 -- what the jobs of one list did with their pass
-pub record LaneDid (lock : Opened Entry) (budget base : ℕ) (ms : List Member) (xs : List JobEnd) (p q : Known Entry) : Type 0 where
+pub record LaneDid {X : Type 0} (lock : Opened Entry) (budget base : ℕ) (ms : List (Member X)) (xs : List JobEnd) (p q : Known Entry) : Type 0 where
   pub parts : List Part
   pub did : AllDid budget lock.number base q.front parts
   pub works_are : works_of parts ≡ works_in ms
@@ -71,7 +71,7 @@ pub record LaneDid (lock : Opened Entry) (budget base : ℕ) (ms : List Member) 
   pub free : IsFree q
   pub begins : IsPrefix p.front q.front
 
-pub lane_did : (lock : Opened Entry) (budget base : ℕ) (ms : List Member) (xs : List JobEnd) (p q : Known Entry) → AreMembers lock budget ms → IsOf lock p → IsFree p → base ≤ length p.front → Ran needs gives ms xs p q → LaneDid lock budget base ms xs p q
+pub lane_did : {X : Type 0} (lock : Opened Entry) (budget base : ℕ) (ms : List (Member X)) (xs : List JobEnd) (p q : Known Entry) → AreMembers lock budget ms → IsOf lock p → IsFree p → base ≤ length p.front → Ran needs gives ms xs p q → LaneDid lock budget base ms xs p q
 lane_did lock budget base [] [] p q are of free le ran = record {
   parts = [];
   did = tt;
@@ -115,7 +115,7 @@ lane_did lock budget base (m ∷ ms) (x ∷ xs) p q are of free le ran =
 
 -- ---- all lanes
 
-abbrev pub all_works : List (List Member) → List Work
+abbrev pub all_works : {X : Type 0} → List (List (Member X)) → List Work
 all_works [] = []
 all_works (l ∷ ls) = works_in l ++ all_works ls
 
@@ -132,7 +132,7 @@ added_append [] qs = refl
 added_append (p ∷ ps) qs = ap (λ (ns : List ℕ). p.added ++ ns) (added_append ps qs) ∙ sym (append_assoc p.added (added_of ps) (added_of qs))
 
 -- what all lists did, in whatever history begins with what each pass saw last
-pub record LanesDid (lock : Opened Entry) (budget : ℕ) (ls : List (List Member)) (ends : List JobEnd) (ps qs : List (Known Entry)) : Type 0 where
+pub record LanesDid {X : Type 0} (lock : Opened Entry) (budget : ℕ) (ls : List (List (Member X))) (ends : List JobEnd) (ps qs : List (Known Entry)) : Type 0 where
   pub parts : List Part
   pub did : (h : List Entry) → AllBegin qs h → AllDid budget lock.number (length lock.opening) h parts
   pub works_are : works_of parts ≡ all_works ls
@@ -143,7 +143,7 @@ pub record LanesDid (lock : Opened Entry) (budget : ℕ) (ls : List (List Member
   pub as_many : length qs ≡ length ps
   pub begins : (h : List Entry) → 0 < length ps → AllBegin qs h → IsPrefix lock.opening h
 
-pub lanes_did : (lock : Opened Entry) (budget : ℕ) (ls : List (List Member)) (ends : List JobEnd) (ps qs : List (Known Entry)) → ((k : ℕ) (d : List Member) → k < length ls → AreMembers lock budget (get_or ls k d)) → AreFresh lock ps → AllRan needs gives ls ends ps qs → LanesDid lock budget ls ends ps qs
+pub lanes_did : {X : Type 0} (lock : Opened Entry) (budget : ℕ) (ls : List (List (Member X))) (ends : List JobEnd) (ps qs : List (Known Entry)) → ((k : ℕ) (d : List (Member X)) → k < length ls → AreMembers lock budget (get_or ls k d)) → AreFresh lock ps → AllRan needs gives ls ends ps qs → LanesDid lock budget ls ends ps qs
 lanes_did lock budget [] ends [] [] are fresh ran = record { parts = []; did = λ h b. tt; works_are = refl; ends_are = sym ran; own = refl; share = refl; free = tt; as_many = refl; begins = λ h lt b. absurd (omega arith) }
 lanes_did lock budget [] ends (p ∷ ps) qs are fresh ran = absurd ran
 lanes_did lock budget [] ends [] (q ∷ qs) are fresh ran = absurd ran

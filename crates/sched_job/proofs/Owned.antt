@@ -23,9 +23,9 @@ use Rattle.cluster.specs.Denied.{first_refusal}
 use Rattle.cluster.specs.History.{state_at, state_of, job_state_of}
 use Rattle.cluster.specs.JobState.{is_fresh}
 use Rattle.cluster.specs.State.{use_in, version_of}
-use Rattle.pod_decision.specs.declared.decision.Decision.{Decision}
-use Rattle.pod_decision.specs.declared.decision.Decision.TheVariants.{Reserve, Judge}
-use Rattle.pod_decision.specs.Decisions.{IsDecision}
+use Rattle.engine_ports.specs.declared.decision.Decision.{Decision}
+use Rattle.engine_ports.specs.declared.decision.Decision.TheVariants.{Reserve, Judge}
+use Rattle.engine_ports.specs.Decisions.{IsDecision}
 use Rattle.plan_rules.specs.Idle.{is_idle_pod}
 use Rattle.plan_rules.specs.Plans.{PlanBy, PlanTrue, VerdictBy, VerdictTrue}
 use Rattle.plan_rules.specs.Failing.{failing}

@@ -26,7 +26,7 @@ use Rattle.cluster.specs.Events.{allows, job_state_after}
 use Rattle.cluster.specs.History.{state_of, job_state_of}
 use Rattle.cluster.specs.JobState.{failures, is_fresh, may_try}
 use Rattle.cluster.specs.State.{use_in, version_of}
-use Rattle.pod_decision.specs.declared.decision.Decision.TheVariants.{Reserve, Judge}
+use Rattle.engine_ports.specs.declared.decision.Decision.TheVariants.{Reserve, Judge}
 use Rattle.plan_rules.specs.Plans.{PlanBy, PlanTrue, VerdictBy, VerdictTrue}
 use Rattle.plan_rules.specs.Failing.{failing}
 use Rattle.histories.specs.Applied.{application_by}

@@ -24,7 +24,7 @@ use Rattle.dra_values.proofs.text.Text.TheSendSync as text
 use Rattle.node_memo.proofs.dates.Dates.TheSendSync as dates
 use Rattle.node_memo.proofs.memo.Memo.TheSendSync as memo
 use Rattle.object_fields.proofs.key.Key.TheSendSync as key
-use Rattle.pod_decision.proofs.decision.Decision.TheSendSync as decision
+use Rattle.engine_ports.proofs.decision.Decision.TheSendSync as decision
 use Rattle.pool_view.proofs.inventory.Inventory.TheSendSync as inventory
 use Rattle.shared_map.proofs.sharing.SharedMap.TheSendSync as shared_map
 use Rattle.cluster.specs.contracts.kept.Kept as Kept

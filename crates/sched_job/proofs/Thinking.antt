@@ -4,9 +4,9 @@ use Rattle.object_fields.specs.declared.key.Key.{Key}
 use Rattle.cluster.specs.declared.entry.Entry.{Entry}
 use Rattle.cluster.specs.declared.state.State.{State}
 use Rattle.cluster.specs.History.{state_at}
-use Rattle.pod_decision.specs.declared.decision.Decision.{Decision}
-use Rattle.pod_decision.specs.declared.decision.Decision.TheVariants.{Reserve, Judge}
-use Rattle.pod_decision.specs.Decisions.{IsDecision}
+use Rattle.engine_ports.specs.declared.decision.Decision.{Decision}
+use Rattle.engine_ports.specs.declared.decision.Decision.TheVariants.{Reserve, Judge}
+use Rattle.engine_ports.specs.Decisions.{IsDecision}
 use Rattle.plan_rules.specs.Idle.{is_idle_pod}
 use Rattle.plan_rules.specs.Plans.{PlanBy, PlanTrue, VerdictBy, VerdictTrue}
 use Rattle.ledger_core.specs.Snapshot.{Seen as Snapshot}

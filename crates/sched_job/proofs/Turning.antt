@@ -18,8 +18,8 @@ use Rattle.cluster.specs.Denied.{phase_refusal, schedule_refusal}
 use Rattle.cluster.specs.History.{state_of, job_state_of}
 use Rattle.cluster.specs.JobState.{failures, is_fresh, may_try}
 use Rattle.cluster.specs.State.{is_idle}
-use Rattle.pod_decision.specs.declared.decision.Decision.{Decision}
-use Rattle.pod_decision.specs.declared.decision.Decision.TheVariants.{Reserve, Judge}
+use Rattle.engine_ports.specs.declared.decision.Decision.{Decision}
+use Rattle.engine_ports.specs.declared.decision.Decision.TheVariants.{Reserve, Judge}
 use Rattle.plan_rules.specs.Idle.{is_idle_by, is_idle_pod}
 use Rattle.histories.specs.Legal.{Legal}
 use Rattle.histories.specs.Owners.{has_pod, pod_in}

@@ -30,11 +30,11 @@ unrun lock ps qs fresh some same = record {
   begins = λ h b. fresh_begins lock ps h fresh some (subst (λ (ks : List (Known Entry)). AllBegin ks h) same b);
 }
 
-module _ {V : Type 0} (f : V → List Member) (lock : Opened Entry) (budget n : ℕ) (vs : List V) (ps : List (Known Entry)) (some : 0 < n) (len : length vs ≡ n) (count : length ps ≡ n) (are : (k : ℕ) (d : List Member) → k < n → AreMembers lock budget (get_or (map f vs) k d)) (fresh : AreFresh lock ps) where
+module _ {X V : Type 0} (f : V → List (Member X)) (lock : Opened Entry) (budget n : ℕ) (vs : List V) (ps : List (Known Entry)) (some : 0 < n) (len : length vs ≡ n) (count : length ps ≡ n) (are : (k : ℕ) (d : List (Member X)) → k < n → AreMembers lock budget (get_or (map f vs) k d)) (fresh : AreFresh lock ps) where
   lists : length (map f vs) ≡ n
   lists = length-map vs f ∙ len
 
-  within : (k : ℕ) (d : List Member) → k < length (map f vs) → AreMembers lock budget (get_or (map f vs) k d)
+  within : (k : ℕ) (d : List (Member X)) → k < length (map f vs) → AreMembers lock budget (get_or (map f vs) k d)
   within k d lt = are k d (subst (λ (m : ℕ). k < m) lists lt)
 
   pub ready_all : AllReady needs gives (map f vs) ps
@@ -46,7 +46,7 @@ module _ {V : Type 0} (f : V → List Member) (lock : Opened Entry) (budget n : 
       record { free = d.free; as_many = d.as_many; share = d.share; begins = λ h b. d.begins h (omega arith) b }
   left_by items U qs (Err u) ran not = unrun lock ps qs fresh (omega arith) not.1
 
-  pub did_all : (works : List Work) (ends : List JobEnd) (qs : List (Known Entry)) (whole : Known Entry) → ((k : ℕ) (d : List Member) → k < n → works_in (get_or (map f vs) k d) ≡ dealt k n 0 works) → AllRan needs gives (map f vs) ends ps qs → Joined lock qs whole → DidAll lock budget works ends whole
+  pub did_all : (works : List Work) (ends : List JobEnd) (qs : List (Known Entry)) (whole : Known Entry) → ((k : ℕ) (d : List (Member X)) → k < n → works_in (get_or (map f vs) k d) ≡ dealt k n 0 works) → AllRan needs gives (map f vs) ends ps qs → Joined lock qs whole → DidAll lock budget works ends whole
   did_all works ends qs whole so ran j =
       let d = lanes_did lock budget (map f vs) ends ps qs within fresh ran in
       record {

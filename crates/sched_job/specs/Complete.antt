@@ -20,11 +20,11 @@ use Rattle.cluster.specs.History.{state_at}
 use Rattle.cluster.specs.State.{claims_of}
 use Rattle.allocations.specs.Claims.{other_claim}
 use Rattle.allocations.specs.Input.{outcome_on}
-use Rattle.pod_decision.specs.declared.decision.Decision.{Decision}
-use Rattle.pod_decision.specs.declared.decision.Decision.TheVariants.{Reserve, Judge}
-use Rattle.pod_decision.specs.Decisions.{IsDecision, IsReserve}
+use Rattle.engine_ports.specs.declared.decision.Decision.{Decision}
+use Rattle.engine_ports.specs.declared.decision.Decision.TheVariants.{Reserve, Judge}
+use Rattle.engine_ports.specs.Decisions.{IsDecision, IsReserve}
 use Rattle.plan_rules.specs.Plans.{IsIdle}
-use Rattle.pod_decision.specs.Tries.{AllPassed}
+use Rattle.engine_ports.specs.Passed.{AllPassed}
 use Rattle.histories.specs.Legal.{Legal}
 use Rattle.commands.specs.declared.command.Command.TheVariants.{Schedule}
 use Rattle.histories.specs.Alone.{Alone}

@@ -12,18 +12,18 @@ abbrev pub dealt : ℕ → ℕ → ℕ → List Work → List Work
 dealt k n i [] = []
 dealt k n i (w ∷ ws) = if i % n == k then w ∷ dealt k n (i + 1) ws else dealt k n (i + 1) ws
 
-abbrev pub works_in : List Member → List Work
+abbrev pub works_in : {X : Type 0} → List (Member X) → List Work
 works_in [] = []
 works_in (m ∷ ms) = m.work ∷ works_in ms
 
 -- each member is of this lock, with this budget, and hasn't begun
-pub record IsMember (lock : Opened Entry) (budget : ℕ) (m : Member) : Type 0 where
+pub record IsMember {X : Type 0} (lock : Opened Entry) (budget : ℕ) (m : Member X) : Type 0 where
   pub lock_is : m.lock.now ≡ lock
   pub budget_is : m.budget ≡ budget
   pub ready : m.work.stage ≡ Ready
   pub some : 0 < attempts_of m.work.command
 
-abbrev pub AreMembers : Opened Entry → ℕ → List Member → Type 0
+abbrev pub AreMembers : {X : Type 0} → Opened Entry → ℕ → List (Member X) → Type 0
 AreMembers lock budget [] = Unit {0}
 AreMembers lock budget (m ∷ ms) = IsMember lock budget m × AreMembers lock budget ms
 

@@ -18,8 +18,8 @@ use Rattle.cluster.specs.Denied.{first_refusal}
 use Rattle.cluster.specs.History.{state_of, job_state_of}
 use Rattle.cluster.specs.JobState.{is_fresh}
 use Rattle.cluster.specs.State.{claims_of, has_written, taken_node}
-use Rattle.pod_decision.specs.declared.decision.Decision.{Decision}
-use Rattle.pod_decision.specs.declared.decision.Decision.TheVariants.{Reserve, Judge}
+use Rattle.engine_ports.specs.declared.decision.Decision.{Decision}
+use Rattle.engine_ports.specs.declared.decision.Decision.TheVariants.{Reserve, Judge}
 use Rattle.histories.specs.Adopted.{adoption}
 use Rattle.histories.specs.Applied.{application}
 use Rattle.histories.specs.Conflict.{status_event}

@@ -7,8 +7,8 @@ use Rattle.cluster.specs.declared.entry.JobState.TheVariants as job_state
 use Rattle.cluster.specs.declared.plan.Plan.{Plan}
 use Rattle.cluster.specs.declared.plan.Verdict.{Verdict}
 use Rattle.cluster.specs.History.{state_at, job_state_of}
-use Rattle.pod_decision.specs.declared.decision.Decision.{Decision}
-use Rattle.pod_decision.specs.declared.decision.Decision.TheVariants.{Reserve, Judge}
+use Rattle.engine_ports.specs.declared.decision.Decision.{Decision}
+use Rattle.engine_ports.specs.declared.decision.Decision.TheVariants.{Reserve, Judge}
 use Rattle.plan_rules.specs.Plans.{PlanTrue, VerdictTrue}
 use Rattle.ledger_core.specs.Snapshot.{Seen as Snapshot}
 use Rattle.commands.specs.declared.command.Command.{Command}

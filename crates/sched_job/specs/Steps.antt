@@ -5,8 +5,8 @@ use Rattle.object_fields.specs.declared.key.Key.{Key}
 use Rattle.cluster.specs.declared.entry.Entry.{Entry}
 use Rattle.cluster.specs.declared.entry.JobState.TheVariants as job_state
 use Rattle.cluster.specs.History.{job_state_of, state_of}
-use Rattle.pod_decision.specs.declared.decision.Decision.{Decision}
-use Rattle.pod_decision.specs.Decisions.{IsDecision}
+use Rattle.engine_ports.specs.declared.decision.Decision.{Decision}
+use Rattle.engine_ports.specs.Decisions.{IsDecision}
 use Rattle.plan_rules.specs.Idle.{is_idle_pod}
 use Rattle.ledger_core.specs.Ledger.{History}
 use Rattle.ledger_core.specs.Snapshot.{Seen as Snapshot}

@@ -11,6 +11,7 @@ use crate::steps::go;
 use crate::{Work, alone_is_undisturbed, turns_are_few};
 use cluster::JobState;
 use commands::Command;
+use engine_ports::Engine;
 use ledger_core::{Ledger, LedgerError};
 use std::alloc::Global;
 
@@ -19,7 +20,7 @@ use std::alloc::Global;
 /// this job alone, none of which is a refusal of its plan, a conflict or contended; there are at most 35 of
 /// them for each attempt and one more. `Full` is returned only if the history has its limit of entries, and
 /// `Memory` only if memory runs out: the entries that were made before stay, and the job was begun.
-pub fn run_alone(
+pub fn run_alone<E: Engine>(
     alloc: Global,
     ledger: &mut Ledger,
     job: u64,
@@ -39,11 +40,11 @@ pub fn run_alone(
     ensures few { OnOk result (length ledger.new.entries ≤ length ledger.old.entries + 35 * attempts_of command + 1) }
 {
     let mut work = Work::new(job, command);
-    run_work(alloc, ledger, &mut work, budget)
+    run_work::<E>(alloc, ledger, &mut work, budget)
 }
 
 /// Runs the work of a job that has no entry yet to the job's end.
-fn run_work(
+fn run_work<E: Engine>(
     alloc: Global,
     ledger: &mut Ledger,
     work: &mut Work,
@@ -69,6 +70,6 @@ fn run_work(
         if let JobState::Ended(index) = ledger.job_state(work.job) {
             return Ok(index);
         }
-        go(alloc, ledger, work, budget)?;
+        go::<E>(alloc, ledger, work, budget)?;
     }
 }

@@ -3,7 +3,7 @@ ghost use Rattle.object_fields.specs.declared.key.Key.{Key};
 ghost use Rattle.cluster.specs.declared.entry.Entry.{Entry};
 ghost use Rattle.cluster.specs.History.{state_of, job_state_of};
 ghost use Rattle.plan_rules.specs.Idle.{is_idle_pod};
-ghost use Rattle.pod_decision.specs.declared.decision.Decision.{Decision};
+ghost use Rattle.engine_ports.specs.declared.decision.Decision.{Decision};
 ghost use Rattle.histories.specs.Legal.{Legal};
 ghost use Rattle.sched_job.specs.declared.work.Work.{Work};
 ghost use Rattle.sched_job.specs.Moves.{answer, move_of, stage_after, looked, chosen_event};

@@ -16,6 +16,7 @@ use crate::notes::{Notes, give_back, notes_for};
 use crate::{Next, Work};
 use cluster::JobState;
 use dra_ports::{Gate, Point};
+use engine_ports::Engine;
 use histories::histories_grow;
 use ledger_core::{Ledger, LedgerError};
 use std::alloc::Global;
@@ -49,7 +50,7 @@ fn is_reserved(job_state: JobState) -> bool {
 }
 
 /// One turn of the work, and whether it reserved the devices of the job's plan.
-fn act(alloc: Global, ledger: &mut Ledger, work: &mut Work) -> Turned
+fn act<E: Engine>(alloc: Global, ledger: &mut Ledger, work: &mut Work) -> Turned
     requires { Fits ledger.old.entries work.old }
     ensures ok { OnOk result.next (ledger.new ≡ moved ledger.old work.old.job (move_of ledger.old.entries work.old)) }
     ensures job { work.new.job ≡ work.old.job }
@@ -63,7 +64,7 @@ fn act(alloc: Global, ledger: &mut Ledger, work: &mut Work) -> Turned
     ensures present { OnOk result.next (IsPresent ledger.new.entries work.new.stage) }
 {
     let had_reserved = is_reserved(ledger.job_state(work.job));
-    let next = work.turn(alloc, ledger);
+    let next = work.turn::<E>(alloc, ledger);
     let has_reserved = is_reserved(ledger.job_state(work.job));
     Turned {
         next,
@@ -73,7 +74,7 @@ fn act(alloc: Global, ledger: &mut Ledger, work: &mut Work) -> Turned
 
 /// One turn of the work, before which the ledger gets back what was remembered of nodes, and after which it is taken out
 /// again if a search is next.
-fn act_with(
+fn act_with<E: Engine>(
     alloc: Global,
     ledger: &mut Ledger,
     work: &mut Work,
@@ -94,13 +95,13 @@ fn act_with(
     ensures notes { AreNotesOf ledger.new.entries notes.new }
 {
     give_back(ledger, notes);
-    let turned = act(alloc, ledger, work);
+    let turned = act::<E>(alloc, ledger, work);
     *notes = notes_for(alloc, ledger, &turned.next);
     turned
 }
 
 /// One turn of the work under the lock.
-fn take_turn<R: Wait>(
+fn take_turn<E: Engine, R: Wait>(
     rt: &R,
     alloc: Global,
     lock: &TurnLock<Ledger>,
@@ -118,14 +119,14 @@ fn take_turn<R: Wait>(
     ensures notes { AreNotesOf pass.new.front notes.new }
 {
     let mut turn = lock.enter(rt, pass);
-    let turned = act_with(alloc, turn.state(), work, notes);
+    let turned = act_with::<E>(alloc, turn.state(), work, notes);
     lock.leave(turn, pass);
     turned
 }
 
 /// One turn of the work, the calls of the gate and the search after it. Returns how the job ended, if
 /// it did.
-fn go_on<R: Wait, G: Gate>(
+fn go_on<E: Engine, R: Wait, G: Gate>(
     rt: &R,
     alloc: Global,
     lock: &TurnLock<Ledger>,
@@ -145,7 +146,7 @@ fn go_on<R: Wait, G: Gate>(
     ensures over { IfSome result (λ end. (c : Run) (began : Known Entry) → c.budget ≡ budget → Going c began pass.old work.old → Worked c began pass.new end) }
 {
     histories_grow();
-    let turned = take_turn(rt, alloc, lock, pass, work, notes);
+    let turned = take_turn::<E, _>(rt, alloc, lock, pass, work, notes);
     if turned.reserved {
         gate.reached(work.job, Point::Reserved);
     }
@@ -156,7 +157,7 @@ fn go_on<R: Wait, G: Gate>(
                 Some(JobEnd::Ended(index))
             }
             Next::Again => None,
-            Next::Think => match work.think_with(alloc, gate, budget, notes) {
+            Next::Think => match work.think_with::<E, _>(alloc, gate, budget, notes) {
                 Ok(()) => None,
                 Err(_) => Some(JobEnd::Memory),
             },
@@ -186,7 +187,7 @@ fn end_for(error: LedgerError) -> JobEnd
 /// its run (`JobRun`), or its beginning (`JobBegun`) if the job hasn't ended. `Ended` has the index of the
 /// job's last entry, `Full` the limit of the history, which it has reached, and `Memory` is returned only if
 /// memory runs out.
-pub fn run_job<R: Wait, G: Gate>(
+pub fn run_job<E: Engine, R: Wait, G: Gate>(
     rt: &R,
     alloc: Global,
     lock: &TurnLock<Ledger>,
@@ -205,11 +206,11 @@ pub fn run_job<R: Wait, G: Gate>(
 {
     let mut work = work;
     let mut notes = None;
-    run_on(rt, alloc, lock, pass, gate, &mut work, &mut notes, budget)
+    run_on::<E, _, _>(rt, alloc, lock, pass, gate, &mut work, &mut notes, budget)
 }
 
 /// Runs the work of a job to the job's end, with what is remembered of nodes between two turns.
-fn run_on<R: Wait, G: Gate>(
+fn run_on<E: Engine, R: Wait, G: Gate>(
     rt: &R,
     alloc: Global,
     lock: &TurnLock<Ledger>,
@@ -229,7 +230,7 @@ fn run_on<R: Wait, G: Gate>(
     ensures worked { Worked (run_of (length pass.old.front) budget work.old) pass.old pass.new result }
 {
     for _ in rt.forever() {
-        if let Some(end) = go_on(rt, alloc, lock, pass, gate, work, notes, budget) {
+        if let Some(end) = go_on::<E, _, _>(rt, alloc, lock, pass, gate, work, notes, budget) {
             return end;
         }
     }

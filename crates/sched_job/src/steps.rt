@@ -9,6 +9,7 @@ ghost use Rattle.sched_job.specs.Steps.{jobs_of, Differ, Extends, AllNew, AllFit
 
 use crate::{Next, Work, runs_go_on};
 use cluster::JobState;
+use engine_ports::Engine;
 use ledger_core::{Ledger, LedgerError};
 use std::alloc::Global;
 
@@ -24,7 +25,7 @@ fn is_ended(job_state: JobState) -> bool
 
 /// One turn of the work, and the search if one is next, unless its job has ended. Returns how many turns
 /// that were.
-pub fn go(
+pub fn go<E: Engine>(
     alloc: Global,
     ledger: &mut Ledger,
     work: &mut Work,
@@ -48,14 +49,14 @@ pub fn go(
     if is_ended(ledger.job_state(work.job)) {
         return Ok(0);
     }
-    match work.turn(alloc, ledger)? {
-        Next::Think => work.think_over(alloc, ledger, budget)?,
+    match work.turn::<E>(alloc, ledger)? {
+        Next::Think => work.think_over::<E>(alloc, ledger, budget)?,
         Next::Again | Next::Ended(_) => (),
     }
     Ok(1)
 }
 
-fn go_at(
+fn go_at<E: Engine>(
     alloc: Global,
     ledger: &mut Ledger,
     works: &mut [Work],
@@ -73,7 +74,7 @@ fn go_at(
     ensures legal { Legal ledger.new.entries }
 {
     runs_go_on();
-    go(alloc, ledger, &mut works[at], budget)
+    go::<E>(alloc, ledger, &mut works[at], budget)
 }
 
 /// Makes one turn for each step, of the work at that index, with the search after it if one is next; a
@@ -81,7 +82,7 @@ fn go_at(
 /// history extends the old one by entries of these jobs, each job that has ended was run to its end, and
 /// each other one was begun. `Full` is returned only if the history has its limit of entries and one of
 /// the works is to append one more, and `Memory` only if memory runs out.
-pub fn run_steps(
+pub fn run_steps<E: Engine>(
     alloc: Global,
     ledger: &mut Ledger,
     works: &mut [Work],
@@ -103,7 +104,7 @@ pub fn run_steps(
     let mut turns = 0;
     let _len = ledger.len();
     for step in steps {
-        turns += go_at(alloc, ledger, works, *step, budget)?;
+        turns += go_at::<E>(alloc, ledger, works, *step, budget)?;
     }
     Ok(turns)
 }

@@ -12,6 +12,7 @@ use crate::run::JobEnd;
 use crate::work::Work;
 use crew::{Unrun, run_all};
 use dra_ports::Gate;
+use engine_ports::Engine;
 use ledger_core::{Ledger, LedgerError};
 use std::alloc::Global;
 use std::sync::Wait;
@@ -44,7 +45,7 @@ fn used_workers(workers: u64, jobs: usize) -> u64
 
 /// Deals the works to workers, runs them under the lock, and joins the passes. `None` means that memory ran
 /// out before a job began.
-fn run_under<R: Threads + Wait + Sync, G: Gate + Sync>(
+fn run_under<E: Engine + Send, R: Threads + Wait + Sync, G: Gate + Sync>(
     rt: &R,
     alloc: Global,
     gate: &G,
@@ -65,7 +66,7 @@ fn run_under<R: Threads + Wait + Sync, G: Gate + Sync>(
     ensures none { IfNone result.1 (result.0.own ≡ []) }
     ensures did { IfSome result.1 (λ ends. DidAll lock.now budget works.items ends.items result.0) }
 {
-    let Ok(lists) = deal(alloc, lock, works, workers, budget) else {
+    let Ok(lists) = deal::<E>(alloc, lock, works, workers, budget) else {
         return (first, None);
     };
     match split_all(alloc, lock, first, workers) {
@@ -89,7 +90,7 @@ fn run_under<R: Threads + Wait + Sync, G: Gate + Sync>(
 /// end, whatever the others did meanwhile, and each other one was begun. `Ok` says that all have ended. `Full`
 /// is returned only if the history has its limit of entries and some job hasn't ended, and `Memory` only if
 /// memory runs out.
-pub fn run_together<R: Threads + Wait + Sync, G: Gate + Sync>(
+pub fn run_together<E: Engine + Send, R: Threads + Wait + Sync, G: Gate + Sync>(
     rt: &R,
     alloc: Global,
     gate: &G,
@@ -114,7 +115,7 @@ pub fn run_together<R: Threads + Wait + Sync, G: Gate + Sync>(
             return (state, Err(LedgerError::Memory));
         }
     };
-    let (whole, ends) = run_under(rt, alloc, gate, &lock, first, works, workers, budget);
+    let (whole, ends) = run_under::<E, _, _>(rt, alloc, gate, &lock, first, works, workers, budget);
     let ledger = lock.close(whole);
     let _len = ledger.len();
     match ends {

@@ -16,14 +16,14 @@ use crate::due::{Due, due_of, is_taken};
 use api_claim::ClaimStatus;
 use cluster::{JobState, Mode, Ready, Target};
 use commands::Command;
+use engine_ports::{Decision, Engine};
 use histories::pods_use_claims;
 use ledger_core::{Done, Ledger, LedgerError, Start};
 use object_fields::{FieldError, Key};
-use pod_decision::Decision;
 use std::alloc::Global;
 
 /// One step of the job, and what its work keeps after it.
-pub fn step(
+pub fn step<E: Engine>(
     alloc: Global,
     ledger: &mut Ledger,
     job: u64,
@@ -50,13 +50,15 @@ pub fn step(
             delete(alloc, ledger, job, target)?;
             Ok(Stage::Ready)
         }
-        Command::Schedule(pod, attempts) => schedule(alloc, ledger, job, pod, *attempts, stage),
+        Command::Schedule(pod, attempts) => schedule::<E>(
+            alloc, ledger, job, pod, *attempts, stage,
+        ),
         Command::Release(pod) => {
             release(alloc, ledger, job, pod)?;
             Ok(Stage::Ready)
         }
         Command::Adopt(claim, status) => {
-            adopt(alloc, ledger, job, claim, status)?;
+            adopt::<E>(alloc, ledger, job, claim, status)?;
             Ok(Stage::Ready)
         }
     }
@@ -136,7 +138,7 @@ fn release(alloc: Global, ledger: &mut Ledger, job: u64, pod: &Key) -> Result<()
     Ok(())
 }
 
-fn adopt(
+fn adopt<E: Engine>(
     alloc: Global,
     ledger: &mut Ledger,
     job: u64,
@@ -150,12 +152,12 @@ fn adopt(
 {
     if is_fresh(ledger.job_state(job)) {
         let status = status.copy(alloc)?;
-        ledger.adopt(alloc, job, claim, status)?;
+        ledger.adopt::<E>(alloc, job, claim, status)?;
     }
     Ok(())
 }
 
-fn schedule(
+fn schedule<E: Engine>(
     alloc: Global,
     ledger: &mut Ledger,
     job: u64,
@@ -180,13 +182,13 @@ fn schedule(
             give_up(alloc, ledger, job, pod)?;
             Ok(Stage::Ready)
         }
-        JobState::Fresh => attempt(alloc, ledger, job, pod, stage),
+        JobState::Fresh => attempt::<E>(alloc, ledger, job, pod, stage),
         JobState::Failed(failed) => {
             if attempts <= failed {
                 ledger.record_contended(alloc, job, pod)?;
                 Ok(Stage::Ready)
             } else {
-                attempt(alloc, ledger, job, pod, stage)
+                attempt::<E>(alloc, ledger, job, pod, stage)
             }
         }
     }
@@ -230,7 +232,7 @@ fn give_up(alloc: Global, ledger: &mut Ledger, job: u64, pod: &Key) -> Result<()
 }
 
 /// A step of an attempt: it carries out what a search found, or else begins.
-fn attempt(
+fn attempt<E: Engine>(
     alloc: Global,
     ledger: &mut Ledger,
     job: u64,
@@ -247,14 +249,14 @@ fn attempt(
 {
     match stage {
         Stage::Chosen(choice) => {
-            carry_out(alloc, ledger, job, pod, choice)?;
+            carry_out::<E>(alloc, ledger, job, pod, choice)?;
             Ok(Stage::Ready)
         }
         Stage::Ready | Stage::Seen(_) => begin(alloc, ledger, job, pod),
     }
 }
 
-fn carry_out(
+fn carry_out<E: Engine>(
     alloc: Global,
     ledger: &mut Ledger,
     job: u64,
@@ -268,7 +270,7 @@ fn carry_out(
     ensures err { OnErr result (ledger.new ≡ ledger.old) }
 {
     match choice {
-        Decision::Reserve(plan) => ledger.reserve(alloc, job, pod, plan),
+        Decision::Reserve(plan) => ledger.reserve::<E>(alloc, job, pod, plan),
         Decision::Judge(verdict) => {
             let verdict = verdict.copy(alloc)?;
             ledger.record_verdict(alloc, job, pod, verdict)

@@ -5,7 +5,7 @@ ghost use Rattle.histories.specs.Legal.{Legal};
 ghost use Rattle.sched_job.specs.Moves.{answer, moved, move_of, stage_after, Fits};
 ghost use Rattle.sched_job.specs.Runs.{Running, IsStaged};
 ghost use Rattle.histories.specs.JobRuns.{Run};
-ghost use Rattle.pod_decision.specs.Decisions.{IsDecision};
+ghost use Rattle.engine_ports.specs.Decisions.{IsDecision};
 ghost use Rattle.plan_rules.specs.Idle.{is_idle_pod};
 ghost use Rattle.sched_job.specs.Noted.{AreNotesOf, AreOf, AreOfSeen, MaySearch, MayThink};
 ghost use Rattle.sched_job.specs.Steps.{IsNow, IsPresent, IsSearched, Thought, ThoughtOf};
@@ -15,10 +15,10 @@ use crate::turns::step;
 use cluster::JobState;
 use commands::Command;
 use dra_ports::{Gate, Point};
+use engine_ports::{Decision, Engine, may_schedule};
 use histories::{histories_grow, legal_steps};
 use ledger_core::{Ledger, LedgerError, Snapshot};
 use object_fields::Key;
-use pod_decision::{Decision, decide, decide_with, may_schedule};
 use std::alloc::{AllocError, Global};
 
 /// What a work keeps between two turns.
@@ -68,7 +68,11 @@ impl Work {
     /// ended, `Think` if a snapshot of the present state was taken, and else `Again`. `Full` is returned only if
     /// the history has its limit of entries and the step is to append one more, and `Memory` only if memory runs
     /// out; then nothing changed.
-    pub fn turn(&mut self, alloc: Global, ledger: &mut Ledger) -> Result<Next, LedgerError>
+    pub fn turn<E: Engine>(
+        &mut self,
+        alloc: Global,
+        ledger: &mut Ledger,
+    ) -> Result<Next, LedgerError>
         requires { Fits ledger.old.entries self.old }
         ensures ok { OnOk result (ledger.new ≡ moved ledger.old self.old.job (move_of ledger.old.entries self.old)) }
         ensures job { self.new.job ≡ self.old.job }
@@ -86,7 +90,7 @@ impl Work {
         histories_grow();
         legal_steps();
         let _before = ledger.len();
-        self.stage = step(alloc, ledger, self.job, &self.command, &self.stage)?;
+        self.stage = step::<E>(alloc, ledger, self.job, &self.command, &self.stage)?;
         let _len = ledger.len();
         Ok(answer(ledger.job_state(self.job), &self.stage))
     }
@@ -94,18 +98,23 @@ impl Work {
     /// Makes the search that is next over a snapshot, in which each search of a node looks at no more items
     /// of its walk than the budget says, and drops the snapshot. It reads no ledger. `AllocError` only
     /// if memory runs out; else its last act is to call the gate with its job at `Point::Searched`.
-    pub fn think<G: Gate>(&mut self, alloc: Global, gate: &G, budget: u64) -> Result<(), AllocError>
+    pub fn think<E: Engine, G: Gate>(
+        &mut self,
+        alloc: Global,
+        gate: &G,
+        budget: u64,
+    ) -> Result<(), AllocError>
         ensures job { self.new.job ≡ self.old.job }
         ensures command { self.new.command ≡ self.old.command }
         ensures thought { OnOk result (Thought budget self.old.command self.old.stage self.new.stage) }
         ensures running { (c : Run) (h : List Entry) → c.budget ≡ budget → Running c h self.old → Running c h self.new }
     {
         let mut notes = None;
-        self.think_with(alloc, gate, budget, &mut notes)
+        self.think_with::<E, _>(alloc, gate, budget, &mut notes)
     }
 
     /// Makes the search that is next as `think` does, with what is remembered of nodes without an allocation.
-    pub(crate) fn think_with<G: Gate>(
+    pub(crate) fn think_with<E: Engine, G: Gate>(
         &mut self,
         alloc: Global,
         gate: &G,
@@ -119,14 +128,14 @@ impl Work {
         ensures running { (c : Run) (h : List Entry) → c.budget ≡ budget → Running c h self.old → Running c h self.new }
         ensures notes { (h : List Entry) → IsPresent h self.old.stage → AreNotesOf h notes.old → AreNotesOf h notes.new }
     {
-        search(alloc, &self.command, &mut self.stage, notes, budget)?;
+        search::<E>(alloc, &self.command, &mut self.stage, notes, budget)?;
         gate.reached(self.job, Point::Searched);
         Ok(())
     }
 
     /// Makes the search that is next over a snapshot of the present state, as `think` does, with what the ledger
     /// remembers of nodes without an allocation. It calls no gate. `AllocError` only if memory runs out.
-    pub fn think_over(
+    pub fn think_over<E: Engine>(
         &mut self,
         alloc: Global,
         ledger: &mut Ledger,
@@ -140,7 +149,7 @@ impl Work {
         ensures running { (c : Run) (h : List Entry) → c.budget ≡ budget → Running c h self.old → Running c h self.new }
     {
         let mut notes = take_notes(alloc, ledger);
-        let made = search(alloc, &self.command, &mut self.stage, &mut notes, budget);
+        let made = search::<E>(alloc, &self.command, &mut self.stage, &mut notes, budget);
         give_back(ledger, &mut notes);
         made
     }
@@ -160,7 +169,7 @@ fn answer(job_state: JobState, stage: &Stage) -> Next
 }
 
 /// Makes the search that is next for a command, if one is.
-fn search(
+fn search<E: Engine>(
     alloc: Global,
     command: &Command,
     stage: &mut Stage,
@@ -173,7 +182,7 @@ fn search(
     ensures notes { (h : List Entry) → IsPresent h stage.old → AreNotesOf h notes.old → AreNotesOf h notes.new }
 {
     match command {
-        Command::Schedule(pod, _) => search_for(alloc, pod, stage, notes, budget),
+        Command::Schedule(pod, _) => search_for::<E>(alloc, pod, stage, notes, budget),
         Command::Apply(..)
         | Command::Invalid(_)
         | Command::Delete(_)
@@ -182,7 +191,7 @@ fn search(
     }
 }
 
-fn search_for(
+fn search_for<E: Engine>(
     alloc: Global,
     pod: &Key,
     stage: &mut Stage,
@@ -196,7 +205,7 @@ fn search_for(
 {
     match stage {
         Stage::Seen(snapshot) => {
-            let made = choose(alloc, pod, snapshot, notes, budget)?;
+            let made = choose::<E>(alloc, pod, snapshot, notes, budget)?;
             *stage = made;
             Ok(())
         }
@@ -205,7 +214,7 @@ fn search_for(
 }
 
 /// Decides on a pod over a snapshot, if the pod is there and Idle.
-fn choose(
+fn choose<E: Engine>(
     alloc: Global,
     pod: &Key,
     snapshot: &Snapshot,
@@ -217,7 +226,7 @@ fn choose(
     ensures notes { (h : List Entry) → IsNow h snapshot.now → AreNotesOf h notes.old → AreNotesOf h notes.new }
 {
     if may_schedule(snapshot.state(), pod) {
-        let decision = decide_for(alloc, pod, snapshot, notes, budget)?;
+        let decision = decide_for::<E>(alloc, pod, snapshot, notes, budget)?;
         Ok(Stage::Chosen(decision))
     } else {
         Ok(Stage::Ready)
@@ -225,7 +234,7 @@ fn choose(
 }
 
 /// Decides on a pod that is there and Idle, with what is remembered, if anything is.
-fn decide_for(
+fn decide_for<E: Engine>(
     alloc: Global,
     pod: &Key,
     snapshot: &Snapshot,
@@ -238,8 +247,8 @@ fn decide_for(
     ensures notes { (h : List Entry) → IsNow h snapshot.now → AreNotesOf h notes.old → AreNotesOf h notes.new }
 {
     match notes {
-        Some(notes) => decide_by(alloc, pod, snapshot, notes, budget),
-        None => decide(
+        Some(notes) => decide_by::<E>(alloc, pod, snapshot, notes, budget),
+        None => E::decide(
             alloc,
             snapshot.state(),
             snapshot.holders(),
@@ -252,7 +261,7 @@ fn decide_for(
 }
 
 /// Decides on a pod that is there and Idle, with what is remembered, which then is more.
-fn decide_by(
+fn decide_by<E: Engine>(
     alloc: Global,
     pod: &Key,
     snapshot: &Snapshot,
@@ -264,7 +273,7 @@ fn decide_by(
     ensures decision { IfOk result (IsDecision snapshot.now.state pod.now budget snapshot.now.at) }
     ensures notes { (h : List Entry) → IsNow h snapshot.now → AreOf h notes.old → AreOf h notes.new }
 {
-    decide_with(
+    E::decide_with(
         alloc,
         snapshot.state(),
         snapshot.holders(),

@@ -2,6 +2,7 @@ ghost use Rattle.std.specs.Prelude.{◌<◌};
 
 use crate::options::Options;
 use api_server::{ServeStatus, serve};
+use default_engine::DefaultEngine;
 use door_ports::{MemDoors, MemInput};
 use dra_ports::{MemSink, PortError};
 use std::alloc::{AllocError, Global};
@@ -62,7 +63,14 @@ pub fn run_once<R: AllocGlobal + Threads + Wait + Sync>(
     let mut output = output_of(alloc, options)?;
     let how = options.server(sent.len());
     let gates = options.gates();
-    let status = serve(rt, "memory", how, &mut output, &mut doors, &gates);
+    let status = serve::<DefaultEngine, _, _, _, _>(
+        rt,
+        "memory",
+        how,
+        &mut output,
+        &mut doors,
+        &gates,
+    );
     Ok(Outcome {
         status,
         gave_up: gates.gave_up(),

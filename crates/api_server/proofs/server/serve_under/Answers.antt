@@ -23,8 +23,8 @@ run_all-passes-requires-send-T g c κs within = search (ledger_send, sendable) d
 pub run_all-passes-requires-send-J : goal.run_all-passes-requires-send-J
 run_all-passes-requires-send-J g c κs within =
     let bound = c.type_bounds.send-D in
-    let door : IsSend (param 1 g.row.D) = search (bound, sendable) depth 20 in
-    let worker : (κ : NamedLft) → IsSend (Worker.the_row κ (param 1 g.row.D) (param 3 g.row.D-Conn)) = λ κ. worker_send κ (param 1 g.row.D) (param 3 g.row.D-Conn) door in
+    let door : IsSend (param 2 g.row.D) = search (bound, sendable) depth 20 in
+    let worker : (κ : NamedLft) → IsSend (Worker.the_row κ (param 0 g.row.E) (param 2 g.row.D) (param 4 g.row.D-Conn)) = λ κ. worker_send κ (param 0 g.row.E) (param 2 g.row.D) (param 4 g.row.D-Conn) door in
     search (worker, sendable) depth 20
 
 pub run_all-passes-requires-clause-ready : goal.run_all-passes-requires-clause-ready

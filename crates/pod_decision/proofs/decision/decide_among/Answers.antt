@@ -2,7 +2,7 @@ use Rattle.std.proofs.Common.{◌∙◌, List, ℕ, ap, subst}
 use Rattle.cluster.specs.declared.plan.Passed.{Passed}
 use Rattle.cluster.specs.declared.state.State.{State}
 use Rattle.api_cluster.specs.declared.types.Pod.{Pod}
-use Rattle.pod_decision.specs.Decisions.{IsDecision}
+use Rattle.engine_ports.specs.Decisions.{IsDecision}
 use Rattle.pod_decision.specs.Parts.{decision_by}
 use Rattle.pod_decision.specs.Tries.{AreTried}
 use Rattle.pod_decision.proofs.Decided.{decided}

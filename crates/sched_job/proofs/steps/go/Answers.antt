@@ -6,7 +6,7 @@ use Rattle.sched_job.proofs.Stepping.{extends_by, moved_limit, thought_again, th
 use Rattle.sched_job.proofs.steps.go.Goals as goal
 
 pub returns-in-Again-clause-went : goal.returns-in-Again-clause-went
-returns-in-Again-clause-went c =
+returns-in-Again-clause-went g c =
     went_turned c.args.budget c.args.ledger.now c.turn.new.ledger c.args.work.now c.turn.new.self (ap is_ended (sym c.job_state.ensures) ∙ sym c.is_ended.ensures ∙ c.if-is_ended.false)
     (record {
       moves = c.in_ok-turn.ensures.ok;
@@ -20,7 +20,7 @@ returns-in-Again-clause-went c =
     })
 
 pub returns-in-Again-clause-extends : goal.returns-in-Again-clause-extends
-returns-in-Again-clause-extends c = extends_by c.args.ledger.now c.turn.new.ledger c.args.work.now.job (move_of c.args.ledger.now.entries c.args.work.now) c.in_ok-turn.ensures.ok
+returns-in-Again-clause-extends g c = extends_by c.args.ledger.now c.turn.new.ledger c.args.work.now.job (move_of c.args.ledger.now.entries c.args.work.now) c.in_ok-turn.ensures.ok
 
 pub returns-in-Again-clause-limit : goal.returns-in-Again-clause-limit
-returns-in-Again-clause-limit c = moved_limit c.args.ledger.now c.turn.new.ledger c.args.work.now.job (move_of c.args.ledger.now.entries c.args.work.now) c.in_ok-turn.ensures.ok
+returns-in-Again-clause-limit g c = moved_limit c.args.ledger.now c.turn.new.ledger c.args.work.now.job (move_of c.args.ledger.now.entries c.args.work.now) c.in_ok-turn.ensures.ok

@@ -1,5 +1,8 @@
 use Rattle.std.proofs.Common.{◌≡◌, ◌∙◌, ◌<◌, sym, subst}
-use denote.Param.Send.{sendable}
+use denote.Param.{param}
+use denote.Ref.{NamedLft}
+use denote.Param.Send.{IsSend, sendable}
+use Rattle.sched_job.specs.contracts.member.Member as Member
 use Rattle.std.proofs.lemmas.Result.{IfOk-at_ok, IfErr-at_err}
 use Rattle.sched_job.proofs.Sending.{ledger_send, member_send}
 use Rattle.sched_job.proofs.Under.{did_all, left_by, none_added, ready_all}
@@ -9,7 +12,9 @@ pub run_all-passes-requires-send-T : goal.run_all-passes-requires-send-T
 run_all-passes-requires-send-T g c κs within = search (ledger_send, sendable) depth 20
 
 pub run_all-passes-requires-send-J : goal.run_all-passes-requires-send-J
-run_all-passes-requires-send-J g c κs within = search (member_send, sendable) depth 20
+run_all-passes-requires-send-J g c κs within =
+    let member : (κ : NamedLft) → IsSend (Member.the_row κ (param 0 g.row.E)) = λ κ. member_send κ (param 0 g.row.E) in
+    search (member, sendable) depth 20
 
 pub run_all-passes-requires-clause-ready : goal.run_all-passes-requires-clause-ready
 run_all-passes-requires-clause-ready g c κs within =

@@ -6,7 +6,7 @@ use Rattle.sched_job.proofs.Knowing.{kept_true, told_now}
 use Rattle.sched_job.proofs.work.decide_by.Goals as goal
 
 pub decide_with-requires-clause-memo : goal.decide_with-requires-clause-memo
-decide_with-requires-clause-memo c =
+decide_with-requires-clause-memo g c =
     let seen = c.args.snapshot.now in
     let notes = c.args.notes.now in
     let of = c.requires.notes in
@@ -16,7 +16,7 @@ decide_with-requires-clause-memo c =
     (subst (λ (d : Dates). Tells seen.state d notes.memo seen.at) (sym c.deref.ensures) told))
 
 pub returns-clause-notes : goal.returns-clause-notes
-returns-clause-notes c = λ h now are.
+returns-clause-notes g c = λ h now are.
     let seen = c.args.snapshot.now in
     let memo = c.decide_with.new.memo in
     let told = subst (λ (s : State). Tells s c.deref.result.now memo c.at.result) c.state.ensures c.decide_with.ensures.memo in

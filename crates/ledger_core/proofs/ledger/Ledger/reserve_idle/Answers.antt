@@ -5,7 +5,7 @@ use Rattle.ledger_core.proofs.Reserving.{may_reserve}
 use Rattle.ledger_core.proofs.ledger.Ledger.reserve_idle.Goals as goal
 
 pub take-requires-clause-reserved : goal.take-requires-clause-reserved
-take-requires-clause-reserved c =
+take-requires-clause-reserved g c =
     let pod = c.args.pod.now in
     let plan = c.args.plan.now in
     let before = c.args.self.now.entries in

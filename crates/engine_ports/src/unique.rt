@@ -1,8 +1,8 @@
 ghost use Rattle.std.specs.Prelude.{◌≡◌, ℕ};
 ghost use Rattle.object_fields.specs.declared.key.Key.{Key};
 ghost use Rattle.cluster.specs.declared.state.State.{State};
-ghost use Rattle.pod_decision.specs.declared.decision.Decision.{Decision};
-ghost use Rattle.pod_decision.specs.Decisions.{IsDecision};
+ghost use Rattle.engine_ports.specs.declared.decision.Decision.{Decision};
+ghost use Rattle.engine_ports.specs.Decisions.{IsDecision};
 
 use plan_rules::decisions_are_unique;
 

@@ -1,5 +1,5 @@
-use Rattle.pod_decision.proofs.OneDecision.{one_decision}
-use Rattle.pod_decision.proofs.unique.decision_is_unique.Goals as goal
+use Rattle.engine_ports.proofs.OneDecision.{one_decision}
+use Rattle.engine_ports.proofs.unique.decision_is_unique.Goals as goal
 
 pub returns : goal.returns
 returns c = one_decision (record {

@@ -5,9 +5,9 @@ use Rattle.cluster.specs.declared.plan.Plan.{Plan}
 use Rattle.cluster.specs.declared.plan.Verdict.{Verdict}
 use Rattle.cluster.specs.declared.state.State.{State}
 use Rattle.plan_rules.specs.Decided.{IsPlanWithin, IsVerdictWithin}
-use Rattle.pod_decision.specs.declared.decision.Decision.{Decision}
-use Rattle.pod_decision.specs.declared.decision.Decision.TheVariants.{Reserve, Judge}
-use Rattle.pod_decision.specs.Decisions.{IsDecision, IsJudge, IsReserve}
+use Rattle.engine_ports.specs.declared.decision.Decision.{Decision}
+use Rattle.engine_ports.specs.declared.decision.Decision.TheVariants.{Reserve, Judge}
+use Rattle.engine_ports.specs.Decisions.{IsDecision, IsJudge, IsReserve}
 
 -- the law of plans and verdicts
 pub record Law : Type 0 where
