@@ -20,9 +20,11 @@ pub fn run_next(
     order: Command,
     budget: u64,
 ) -> Result<(), LedgerError> {
-    if is_new(ledger, job, &order) {
-        run_alone::<DefaultEngine>(alloc, ledger, job, order, budget)?;
+    if !is_new(ledger, job, &order) {
+        drop(order);
+        return Ok(());
     }
+    run_alone::<DefaultEngine>(alloc, ledger, job, order, budget)?;
     Ok(())
 }
 
@@ -84,6 +86,25 @@ fn step_orders(
     print_case(alloc, ledger, from, turns, works.as_slice(), jobs, out)
 }
 
+/// Runs the commands of documents over a ledger, and then makes steps of the works of other commands.
+fn run_over(
+    alloc: Global,
+    ledger: &mut Ledger,
+    documents: Vec<Command>,
+    orders: Vec<Command>,
+    steps: &[usize],
+    budget: u64,
+    out: &mut Out,
+) -> Result<(), AllocError> {
+    match run_each(alloc, ledger, documents, budget) {
+        Ok(last) => step_orders(alloc, ledger, last, orders, steps, budget, out),
+        Err(error) => {
+            drop(orders);
+            print_case(alloc, ledger, 0, Err(error), &[], 0, out)
+        }
+    }
+}
+
 /// Runs the commands of documents, and then makes steps of the works of other commands.
 fn run_orders(
     alloc: Global,
@@ -94,10 +115,10 @@ fn run_orders(
     out: &mut Out,
 ) -> Result<(), AllocError> {
     let mut ledger = Ledger::new(alloc, options.entries.min(ENTRIES_BOUND - 1))?;
-    match run_each(alloc, &mut ledger, documents, options.budget) {
-        Ok(last) => step_orders(alloc, &mut ledger, last, orders, steps, options.budget, out),
-        Err(error) => print_case(alloc, &ledger, 0, Err(error), &[], 0, out),
-    }
+    let budget = options.budget;
+    let done = run_over(alloc, &mut ledger, documents, orders, steps, budget, out);
+    drop(ledger);
+    done
 }
 
 /// Runs the commands of documents, and then makes steps of the works of other lines.

@@ -25,6 +25,15 @@ fn push_names(slices: &[&ResourceSlice], out: &mut Out) {
     }
 }
 
+/// Appends a refusal that was looked for.
+fn push_found(found: Result<Option<Refusal>, AllocError>, out: &mut Out) -> Result<(), CaseError> {
+    match found? {
+        None => out.say(" ok"),
+        Some(refusal) => push_word(&refusal, out),
+    }
+    Ok(())
+}
+
 /// Appends the first refusal of a command such as `delete-node n1` or `schedule default/p`.
 pub fn push_refusal(
     alloc: Global,
@@ -34,11 +43,9 @@ pub fn push_refusal(
 ) -> Result<(), CaseError> {
     let (verb, name) = cut_word(text);
     let command = command_of(alloc, verb, name)?;
-    match setup.ledger.state().first_refusal(alloc, &command)? {
-        None => out.say(" ok"),
-        Some(refusal) => push_word(&refusal, out),
-    }
-    Ok(())
+    let found = setup.ledger.state().first_refusal(alloc, &command);
+    drop(command);
+    push_found(found, out)
 }
 
 fn command_of(alloc: Global, verb: &str, name: &str) -> Result<Command, CaseError> {

@@ -129,13 +129,20 @@ fn do_line(alloc: Global, setup: &mut Setup, line: &str, out: &mut Out) -> Resul
     }
 }
 
+/// Does what each line asks for.
+fn do_lines(alloc: Global, setup: &mut Setup, text: &str, out: &mut Out) -> Result<(), AllocError> {
+    for line in text.lines() {
+        let answer = do_line(alloc, setup, line, out);
+        unless_done(out, line, answer)?;
+    }
+    Ok(())
+}
+
 /// Runs the cases of states.
 pub fn run_states(alloc: Global, text: &str, out: &mut Out) -> Result<(), AllocError> {
     out.line("== ", "states");
     let mut setup = Setup::new(alloc)?;
-    for line in text.lines() {
-        let answer = do_line(alloc, &mut setup, line, out);
-        unless_done(out, line, answer)?;
-    }
-    Ok(())
+    let done = do_lines(alloc, &mut setup, text, out);
+    drop(setup);
+    done
 }
