@@ -30,7 +30,7 @@ fn nodes(alloc: Global, state: &State) -> Result<Seq<Target>, AllocError>
     ensures { IfOk result (λ ts. ts ≡ map Target.Node (keys_of state.now.inventory.nodes)) }
 {
     let mut targets = Seq::empty(alloc);
-    for (name, _) in state.inventory.nodes().as_map() {
+    for (name, _) in state.inventory.nodes().iter() {
         targets.push(Target::Node(name.copy(alloc)?))?;
     }
     Ok(targets)
@@ -40,7 +40,7 @@ fn slices(alloc: Global, state: &State) -> Result<Seq<Target>, AllocError>
     ensures { IfOk result (λ ts. ts ≡ map Target.Slice (keys_of state.now.inventory.slices)) }
 {
     let mut targets = Seq::empty(alloc);
-    for (name, _) in state.inventory.slices().as_map() {
+    for (name, _) in state.inventory.slices().iter() {
         targets.push(Target::Slice(name.copy(alloc)?))?;
     }
     Ok(targets)
@@ -50,7 +50,7 @@ fn classes(alloc: Global, state: &State) -> Result<Seq<Target>, AllocError>
     ensures { IfOk result (λ ts. ts ≡ map Target.Class (keys_of state.now.classes)) }
 {
     let mut targets = Seq::empty(alloc);
-    for (name, _) in state.classes.as_map() {
+    for (name, _) in state.classes.iter() {
         targets.push(Target::Class(name.copy(alloc)?))?;
     }
     Ok(targets)

@@ -9,7 +9,7 @@ use crate::reserved::{place, prepare};
 use crate::{DeviceResult, Kept, Plan, Target, Users};
 use api_claim::{ClaimStatus, StatusResult};
 use api_cluster::Pod;
-use dra_values::{Duplicate, Seq, Shared, Table, Text};
+use dra_values::{Duplicate, Seq, Shared, Text};
 use object_fields::Key;
 use pool_view::{Inventory, Stored, put_named};
 use ready_objects::{ReadyClaim, ReadyClass};
@@ -118,7 +118,7 @@ impl Duplicate for PodState {
 pub struct State {
     /// The nodes and the slices.
     pub inventory: Shared<Inventory>,
-    pub classes: Shared<Table<Text, Stored<Shared<ReadyClass>>>>,
+    pub classes: SharedMap<Text, Stored<Shared<ReadyClass>>>,
     pub claims: SharedMap<Key, ClaimState>,
     pub pods: SharedMap<Key, PodState>,
 }
@@ -134,8 +134,8 @@ impl State {
     pub fn new(alloc: Global) -> Result<State, AllocError>
         ensures { IfOk result (λ state. state ≡ empty_state) }
     {
-        let inventory = Shared::new(alloc, Inventory::new(alloc))?;
-        let classes = Shared::new(alloc, Table::new(alloc))?;
+        let inventory = Shared::new(alloc, Inventory::new(alloc)?)?;
+        let classes = SharedMap::new(alloc)?;
         let claims = SharedMap::new(alloc)?;
         let pods = SharedMap::new(alloc)?;
         Ok(State {
@@ -160,7 +160,7 @@ impl State {
             Kept::Slice(slice) => self.inventory.change(alloc)?.put_slice(alloc, index, slice),
             Kept::Class(class) => {
                 let name = class.class().name.copy(alloc)?;
-                put_named(self.classes.change(alloc)?, index, name, class)
+                put_named(alloc, &mut self.classes, index, name, class)
             }
             Kept::Claim(claim) => {
                 let key = claim.claim().key.copy(alloc)?;
@@ -180,10 +180,10 @@ impl State {
         ensures err { OnErr result (self.new ≡ self.old) }
     {
         match target {
-            Target::Node(name) => self.inventory.change(alloc)?.remove_node(name),
-            Target::Slice(name) => self.inventory.change(alloc)?.remove_slice(name),
+            Target::Node(name) => self.inventory.change(alloc)?.remove_node(alloc, name)?,
+            Target::Slice(name) => self.inventory.change(alloc)?.remove_slice(alloc, name)?,
             Target::Class(name) => {
-                self.classes.change(alloc)?.remove(name);
+                self.classes.remove(alloc, name)?;
             }
             Target::Claim(key) => {
                 self.claims.remove(alloc, key)?;

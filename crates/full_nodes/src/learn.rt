@@ -72,7 +72,7 @@ fn unknown_full(
 {
     let known = known_each(alloc, inventory, selections)?;
     let mut names = Seq::empty(alloc);
-    for (name, stored) in inventory.slices().as_map() {
+    for (name, stored) in inventory.slices().iter() {
         if names.as_slice().len() == MAX_LEARNED_SLICES {
             return Ok(names);
         }

@@ -39,7 +39,7 @@ fn push_names(setup: &Setup, nodes: &mut LackingNodes, out: &mut Out) {
     let at = setup.ledger.len();
     let mut position: usize = 0;
     let mut is_known = false;
-    for (name, _) in setup.ledger.state().inventory.nodes().as_map() {
+    for (name, _) in setup.ledger.state().inventory.nodes().iter() {
         if nodes.has(position, name, dates, at) {
             out.show_after(" ", name);
             is_known = true;

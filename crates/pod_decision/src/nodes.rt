@@ -8,15 +8,11 @@ ghost use Rattle.pod_decision.specs.Tries.{AreTried, IsTried, tried_of};
 use crate::claims::first_elsewhere;
 use crate::tries::NodeTries;
 use allocator::Outcome;
-use api_cluster::Node;
 use cluster::{Cause, Grant, PassedBuilder, State};
-use dra_values::{Seq, Shared, Table, Text};
+use dra_values::{Seq, Shared, Text};
 use object_fields::Key;
-use pool_view::Stored;
+use pool_view::NamedNodes;
 use std::alloc::{AllocError, Global};
-
-/// Nodes by their names.
-type Nodes = Table<Text, Stored<Shared<Node>>>;
 
 /// What a node has for a pod.
 #[derive(Drop)]
@@ -104,11 +100,11 @@ pub fn node_names(alloc: Global, state: &State) -> Result<Shared<Seq<Text>>, All
     }
 }
 
-fn listed_names(alloc: Global, nodes: &Nodes) -> Result<Seq<Text>, AllocError>
+fn listed_names(alloc: Global, nodes: &NamedNodes) -> Result<Seq<Text>, AllocError>
     ensures { IfOk result (λ names. names ≡ keys_of nodes.now) }
 {
     let mut names = Seq::empty(alloc);
-    for (name, _) in nodes.as_map() {
+    for (name, _) in nodes.iter() {
         names.push(name.copy(alloc)?)?;
     }
     Ok(names)

@@ -51,7 +51,7 @@ fn pool_without(
     ensures { IfOk result (λ i. i ≡ without_slice name.now (only_pool of.now.driver of.now.pool.name inventory.now)) }
 {
     let mut pool = inventory.pool(alloc, of.driver.as_text(), &of.pool.name)?;
-    pool.remove_slice(name);
+    pool.remove_slice(alloc, name)?;
     Ok(pool)
 }
 

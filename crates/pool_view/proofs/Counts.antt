@@ -81,6 +81,10 @@ kept_without name slices devices n kept is =
     let w = kept.within in
     record { sum = omega (arith, c, s, is); within = omega (arith, w); named = named_without name slices kept.named }
 
+-- and of no slices
+pub kept_none : (slices : Named ResourceSlice) → slices ≡ [] → IsKept slices 0
+kept_none slices none = subst (λ (es : Named ResourceSlice). IsKept es 0) (sym none) (record { sum = refl; within = omega arith; named = tt })
+
 -- and with one that there is room for
 pub kept_with : (place : ℕ) (name : List ℕ) (x : ResourceSlice) (slices table : Named ResourceSlice) (devices n m : ℕ) → IsKept slices devices → name ≡ x.name → n ≡ devices_by (at_name slices name)
     → m ≡ length x.devices → has_room_for slices x ≡ true → table ≡ with_named place name x slices → IsKept table (devices - n + m)

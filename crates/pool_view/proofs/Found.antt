@@ -1,7 +1,9 @@
 -- The value at a key in entries that are inserted and removed.
-use Rattle.std.proofs.Common.{◌≡◌, ◌∙◌, List, [], ◌∷◌, Bool, true, false, cond, Option, Some, refl, sym, ap}
+use Rattle.std.proofs.Common.{◌≡◌, ◌∙◌, List, [], ◌∷◌, Bool, true, false, cond, Option, None, Some, refl, sym, ap, subst}
 use Rattle.std.specs.BTreeMap.{insert_entry, is_at}
-use Rattle.std.specs.Map.{lookup, remove_entry}
+use Rattle.std.specs.List.{AllByRecursion}
+use Rattle.std.specs.List.Sorted.{IsStrictlySortedBy}
+use Rattle.std.specs.Map.{keys_of, lookup, remove_entry}
 use Rattle.std.specs.Ordering.{is_eq, match_ordering}
 use Rattle.std.specs.declared.cmp.Ordering.{Ordering}
 use Rattle.std.specs.declared.cmp.Ordering.TheVariants.{Less, Equal, Greater}
@@ -62,3 +64,18 @@ module _ {K V : Type 0} (cmp : K → K → Ordering) (exact : IsExact cmp) where
   pub at_remove : (es : List (K × V)) (k q : K) → is_eq (cmp q k) ≡ false → at q (remove_entry (is_at (cmp k)) es) ≡ at q es
   at_remove [] k q f = refl
   at_remove (e ∷ es) k q f = remove_by (is_eq (cmp k e.0)) e es k q refl f (at_remove es k q f)
+
+  -- where the keys are in order, nothing is left at the one whose entry is removed
+  none_after : (k : K) (es : List (K × V)) → AllByRecursion (λ y. cmp k y ≡ Less) (keys_of es) → at k es ≡ None
+  none_after k [] h = refl
+  none_after k (e ∷ es) h = ap (λ (o : Ordering). cond (is_eq o) (Some e.1) (at k es)) h.0 ∙ none_after k es h.1
+
+  gone_by : (b : Bool) (e : K × V) (es : List (K × V)) (k : K) → is_eq (cmp k e.0) ≡ b → AllByRecursion (λ y. cmp e.0 y ≡ Less) (keys_of es) → at k (remove_entry (is_at (cmp k)) es) ≡ None
+      → at k (cond b es (e ∷ remove_entry (is_at (cmp k)) es)) ≡ None
+  gone_by true e es k is above later = none_after k es (subst (λ (j : K). AllByRecursion (λ y. cmp j y ≡ Less) (keys_of es)) (sym (exact.same k e.0 (is_equal (cmp k e.0) is))) above)
+  gone_by false e es k is above later = ap (λ (c : Bool). cond c (Some e.1) (at k (remove_entry (is_at (cmp k)) es))) is ∙ later
+
+  pub at_gone : (es : List (K × V)) (k : K) → IsStrictlySortedBy cmp (keys_of es) → at k (remove_entry (is_at (cmp k)) es) ≡ None
+  unfolding IsStrictlySortedBy
+  at_gone [] k h = refl
+  at_gone (e ∷ es) k h = gone_by (is_eq (cmp k e.0)) e es k refl h.0 (at_gone es k h.1)

@@ -19,4 +19,5 @@ mod NodeSees
 mod Learned
 mod Listing
 pub mod OnePool
+mod Indexing
 pub mod Deciding

@@ -39,22 +39,22 @@ same_stored d p (e ∷ es) = kept_by d p (is_in d p e.1.object) e (stored_in d p
 
 -- ---- the names are in order
 
-abbrev Above : List ℕ → Named ResourceSlice → Type 0
+abbrev pub Above : List ℕ → Named ResourceSlice → Type 0
 Above n es = AllByRecursion (λ y. text_cmp n y ≡ Less) (keys_of es)
 
-abbrev Rising : Named ResourceSlice → Type 0
+abbrev pub Rising : Named ResourceSlice → Type 0
 Rising es = IsStrictlySortedBy text_cmp (keys_of es)
 
 above_by : (n : List ℕ) (b : Bool) (e : List ℕ × Stored ResourceSlice) (fs : Named ResourceSlice) → text_cmp n e.0 ≡ Less → Above n fs → Above n (cond b (e ∷ fs) fs)
 above_by n true e fs less h = (less, h)
 above_by n false e fs less h = h
 
-above_in : (d p n : List ℕ) (es : Named ResourceSlice) → Above n es → Above n (stored_in d p es)
+pub above_in : (d p n : List ℕ) (es : Named ResourceSlice) → Above n es → Above n (stored_in d p es)
 unfolding stored_in
 above_in d p n [] h = tt
 above_in d p n (e ∷ es) h = above_by n (is_in d p e.1.object) e (stored_in d p es) h.0 (above_in d p n es h.1)
 
-above_lower : (n m : List ℕ) (es : Named ResourceSlice) → text_cmp n m ≡ Less → Above m es → Above n es
+pub above_lower : (n m : List ℕ) (es : Named ResourceSlice) → text_cmp n m ≡ Less → Above m es → Above n es
 above_lower n m es less h = all_imply (λ y. text_cmp m y ≡ Less) (λ y. text_cmp n y ≡ Less) (keys_of es) (λ y l. nat_list_cmp_total.trans n m y less l) h
 
 rising_by : (b : Bool) (e : List ℕ × Stored ResourceSlice) (fs : Named ResourceSlice) → Above e.0 fs → Rising fs → Rising (cond b (e ∷ fs) fs)
@@ -62,20 +62,20 @@ unfolding IsStrictlySortedBy
 rising_by true e fs above h = (above, h)
 rising_by false e fs above h = h
 
-rising_in : (d p : List ℕ) (es : Named ResourceSlice) → Rising es → Rising (stored_in d p es)
+pub rising_in : (d p : List ℕ) (es : Named ResourceSlice) → Rising es → Rising (stored_in d p es)
 unfolding IsStrictlySortedBy stored_in
 rising_in d p [] h = tt
 rising_in d p (e ∷ es) h = rising_by (is_in d p e.1.object) e (stored_in d p es) (above_in d p e.0 es h.0) (rising_in d p es h.1)
 
-front : (n : List ℕ) (v : Stored ResourceSlice) (es : Named ResourceSlice) → Above n es → insert_entry text_cmp es n v ≡ (n, v) ∷ es
+pub front : (n : List ℕ) (v : Stored ResourceSlice) (es : Named ResourceSlice) → Above n es → insert_entry text_cmp es n v ≡ (n, v) ∷ es
 front n v [] h = refl
 front n v (e ∷ es) h = ap (λ (o : Ordering). match_ordering o ((n, v) ∷ e ∷ es) ((e.0, v) ∷ es) (e ∷ insert_entry text_cmp es n v)) h.0
 
-none_above : (n : List ℕ) (es : Named ResourceSlice) → Above n es → at_name es n ≡ None
+pub none_above : (n : List ℕ) (es : Named ResourceSlice) → Above n es → at_name es n ≡ None
 none_above n [] h = refl
 none_above n (e ∷ es) h = ap (λ (o : Ordering). cond (is_eq o) (Some e.1) (at_name es n)) h.0 ∙ none_above n es h.1
 
-none_gone : (n : List ℕ) (es : Named ResourceSlice) → Above n es → remove_entry (is_at (text_cmp n)) es ≡ es
+pub none_gone : (n : List ℕ) (es : Named ResourceSlice) → Above n es → remove_entry (is_at (text_cmp n)) es ≡ es
 none_gone n [] h = refl
 none_gone n (e ∷ es) h = ap (λ (o : Ordering). cond (is_eq o) es (e ∷ remove_entry (is_at (text_cmp n)) es)) h.0 ∙ ap (λ (fs : Named ResourceSlice). e ∷ fs) (none_gone n es h.1)
 
@@ -160,7 +160,7 @@ gone_later true d p n e es fs b is h =
 gone_later false d p n e es fs b is h =
     ap (λ (c : Bool). cond c (e.1.object ∷ slices_of d p (remove_entry (is_at (text_cmp n)) es)) (slices_of d p (remove_entry (is_at (text_cmp n)) es))) b ∙ h
 
-equal_at : (o : Ordering) → is_eq o ≡ true → o ≡ Equal
+pub equal_at : (o : Ordering) → is_eq o ≡ true → o ≡ Equal
 equal_at Less e = absurd (cc)
 equal_at Equal e = refl
 equal_at Greater e = absurd (cc)
@@ -180,7 +180,7 @@ gone_in d p n (e ∷ es) h = gone_by (is_at (text_cmp n) e.0) d p n e es refl h.
 
 -- ---- a slice that isn't of the pool
 
-abbrev Elsewhere : (d p : List ℕ) → Option (Stored ResourceSlice) → Type 0
+abbrev pub Elsewhere : (d p : List ℕ) → Option (Stored ResourceSlice) → Type 0
 Elsewhere d p o = IfSome o (λ s. is_in d p s.object ≡ false)
 
 out : (d p : List ℕ) (x : ResourceSlice) (xs : List ResourceSlice) → is_in d p x ≡ false → head d p x xs ≡ xs

@@ -12,6 +12,7 @@ pub mod Sorted
 pub mod Known
 pub mod Sets
 pub mod OnePool
+pub mod PoolIndexes
 pub mod Matches
 pub mod Match
 pub mod Devices

@@ -34,7 +34,7 @@ pub fn by_pool<'a>(
     ensures { IfOk result (λ groups. groups ≡ grouped pool_cmp pool_named [] (objects slices.now)) }
 {
     let mut groups = Table::new(alloc);
-    for (_, stored) in slices.as_map() {
+    for (_, stored) in slices.iter() {
         let name = PoolName::of(alloc, &stored.object)?;
         add(&mut groups, alloc, name, SliceRef::of(&stored.object))?;
     }
@@ -46,7 +46,7 @@ pub fn pool_names(alloc: Global, slices: &Slices) -> Result<BTreeSet<PoolName>, 
     ensures { IfOk result (λ names. names.keys ≡ pools slices.now) }
 {
     let mut names = BTreeSet::new(alloc);
-    for (_, stored) in slices.as_map() {
+    for (_, stored) in slices.iter() {
         names.insert(PoolName::of(alloc, &stored.object)?)?;
     }
     Ok(names)

@@ -11,13 +11,15 @@ use crate::Stored;
 use crate::kept::SortedSlices;
 use crate::known::{KnownList, KnownSlices};
 use crate::learning::{position, share_lists, with_found};
-use crate::one_pool::{device_count, stored_in};
+use crate::one_pool::device_count;
+use crate::pool_index::{PoolIndex, index_with, index_without, slices_in};
 use crate::sorting::sorted_slices;
 use crate::stored::put_named;
 use api_cluster::Node;
 use api_slice::ResourceSlice;
 use device_selector::DeviceSelector;
-use dra_values::{Duplicate, Seq, Shared, Table, Text};
+use dra_values::{Duplicate, Seq, Shared, Text};
+use shared_map::SharedMap;
 use std::alloc::{AllocError, Global};
 use std::marker::Model;
 use std::mem;
@@ -25,15 +27,20 @@ use std::mem;
 /// The most devices that all slices may have.
 pub const MAX_DEVICES_TOTAL: usize = 65_536;
 
+/// Nodes by their names.
+pub type NamedNodes = SharedMap<Text, Stored<Shared<Node>>>;
+
 /// Slices by their names.
-pub type Slices = Table<Text, Stored<Shared<ResourceSlice>>>;
+pub type Slices = SharedMap<Text, Stored<Shared<ResourceSlice>>>;
 
 /// The nodes and the slices of a cluster, by their names. All slices together have at most 65,536
 /// devices.
 #[derive(Drop)]
 pub struct Inventory {
-    nodes: Table<Text, Stored<Shared<Node>>>,
+    nodes: NamedNodes,
     slices: Slices,
+    /// The slices of each pool; None if memory ran out while they changed.
+    pools: Option<PoolIndex>,
     /// How many devices all slices have.
     devices: usize,
     /// None if the slices aren't sorted, or have changed since they were.
@@ -53,27 +60,32 @@ impl Model for Inventory {
 
     ghost use Rattle.pool_view.specs.Sorted.{IsSorted};
     ghost use Rattle.pool_view.specs.Known.{AreKnown, AreNames};
+    ghost use Rattle.pool_view.specs.PoolIndexes.{AreIndexed};
 
-    ghost invariant = { λ i. IsKept i.slices i.devices × IsSorted i.slices i.sorted × AreKnown i.slices i.known.items × AreNames i.nodes i.names };
+    ghost invariant = { λ i. IsKept i.slices i.devices × IsSorted i.slices i.sorted × AreKnown i.slices i.known.items × AreNames i.nodes i.names × AreIndexed i.slices i.pools };
 }
 
 impl Inventory {
-    /// The inventory of nothing.
-    pub fn new(alloc: Global) -> Inventory
-        ensures { result ≡ empty_inventory }
+    /// The inventory of nothing. `AllocError` is returned only if memory runs out.
+    pub fn new(alloc: Global) -> Result<Inventory, AllocError>
+        ensures { IfOk result (λ inventory. inventory ≡ empty_inventory) }
     {
-        Inventory {
-            nodes: Table::new(alloc),
-            slices: Table::new(alloc),
+        let nodes = SharedMap::new(alloc)?;
+        let slices = SharedMap::new(alloc)?;
+        let pools = Some(SharedMap::new(alloc)?);
+        Ok(Inventory {
+            nodes,
+            slices,
+            pools,
             devices: 0,
             sorted: None,
             known: Vec::new(alloc),
             names: None,
-        }
+        })
     }
 
     /// The nodes.
-    pub fn nodes(&self) -> &Table<Text, Stored<Shared<Node>>>
+    pub fn nodes(&self) -> &NamedNodes
         ensures { result.now ≡ self.now.nodes }
     {
         &self.nodes
@@ -132,9 +144,9 @@ impl Inventory {
     {
         let name = node.name.copy(alloc)?;
         if self.nodes.contains_key(&name) {
-            put_named(&mut self.nodes, place, name, node)
+            put_named(alloc, &mut self.nodes, place, name, node)
         } else {
-            put_named(&mut self.nodes, place, name, node)?;
+            put_named(alloc, &mut self.nodes, place, name, node)?;
             self.names = None;
             Ok(())
         }
@@ -157,23 +169,28 @@ impl Inventory {
         let name = slice.name.copy(alloc)?;
         let devices = self.devices - devices_of(&self.slices, &name)
             + slice.devices.as_slice().len();
-        put_named(&mut self.slices, place, name, slice)?;
+        let pools = mem::replace(&mut self.pools, None);
+        let pools = index_with(alloc, pools, &self.slices, place, &slice)?;
+        put_named(alloc, &mut self.slices, place, name, slice)?;
+        self.pools = pools;
         self.devices = devices;
         self.sorted = None;
         self.known.clear();
         Ok(())
     }
 
-    /// An inventory of the slices of one pool, without nodes, which shares the slices with this one. `AllocError`
-    /// is returned only if memory runs out.
+    /// An inventory of the slices of one pool, without nodes, which shares the slices with this one. Its cost is that
+    /// pool's size. `AllocError` is returned only if memory runs out.
     pub fn pool(&self, alloc: Global, driver: &Text, pool: &Text) -> Result<Inventory, AllocError>
         ensures { IfOk result (λ other. other ≡ only_pool driver.now pool.now self.now) }
     {
-        let slices = stored_in(alloc, &self.slices, driver, pool)?;
+        let slices = slices_in(alloc, &self.pools, &self.slices, driver, pool)?;
+        let nodes = SharedMap::new(alloc)?;
         let devices = device_count(&slices);
         Ok(Inventory {
-            nodes: Table::new(alloc),
+            nodes,
             slices,
+            pools: None,
             devices,
             sorted: None,
             known: Vec::new(alloc),
@@ -181,23 +198,33 @@ impl Inventory {
         })
     }
 
-    /// Removes the node of a name, if there is one. Allocates nothing.
-    pub fn remove_node(&mut self, name: &Text)
-        ensures { self.new ≡ without_node name.now self.old }
+    /// Removes the node of a name, if there is one. `AllocError` is returned only if memory runs out, and then
+    /// nothing changed.
+    pub fn remove_node(&mut self, alloc: Global, name: &Text) -> Result<(), AllocError>
+        ensures ok { OnOk result (self.new ≡ without_node name.now self.old) }
+        ensures err { OnErr result (self.new ≡ self.old) }
     {
-        self.nodes.remove(name);
+        self.nodes.remove(alloc, name)?;
         self.names = None;
+        Ok(())
     }
 
-    /// Removes the slice of a name, if there is one. Allocates nothing.
+    /// Removes the slice of a name, if there is one. `AllocError` is returned only if memory runs out, and then
+    /// nothing changed.
     #[tactic(auto, using(crate::proofs::Named::named_without))]
-    pub fn remove_slice(&mut self, name: &Text)
-        ensures { self.new ≡ without_slice name.now self.old }
+    pub fn remove_slice(&mut self, alloc: Global, name: &Text) -> Result<(), AllocError>
+        ensures ok { OnOk result (self.new ≡ without_slice name.now self.old) }
+        ensures err { OnErr result (self.new ≡ self.old) }
     {
-        self.devices -= devices_of(&self.slices, name);
-        self.slices.remove(name);
+        let devices = self.devices - devices_of(&self.slices, name);
+        let pools = mem::replace(&mut self.pools, None);
+        let pools = index_without(alloc, pools, &self.slices, name)?;
+        self.slices.remove(alloc, name)?;
+        self.pools = pools;
+        self.devices = devices;
         self.sorted = None;
         self.known.clear();
+        Ok(())
     }
 
     /// Whether the slices were sorted since they changed, and the names of the nodes listed since these did.
@@ -269,15 +296,19 @@ impl Inventory {
     }
 }
 
-/// A duplicate shares what is kept besides the nodes and slices.
+/// A duplicate shares all entries.
 impl Duplicate for Inventory {
     fn duplicate(&self, alloc: Global) -> Result<Inventory, AllocError> {
-        let sorted = shared(&self.sorted)?;
-        let names = shared(&self.names)?;
+        let nodes = self.nodes.share()?;
+        let slices = self.slices.share()?;
+        let pools = self.pools.duplicate(alloc)?;
+        let sorted = self.sorted.duplicate(alloc)?;
+        let names = self.names.duplicate(alloc)?;
         let known = share_lists(alloc, &self.known)?;
         Ok(Inventory {
-            nodes: self.nodes.copy(alloc)?,
-            slices: self.slices.copy(alloc)?,
+            nodes,
+            slices,
+            pools,
             devices: self.devices,
             sorted,
             known,
@@ -286,24 +317,12 @@ impl Duplicate for Inventory {
     }
 }
 
-fn shared<T>(kept: &Option<Shared<T>>) -> Result<Option<Shared<T>>, AllocError>
-    ensures { IfOk result (λ other. other ≡ kept.now) }
-{
-    match kept {
-        Some(value) => Ok(Some(value.share()?)),
-        None => Ok(None),
-    }
-}
-
 /// The names in order.
-fn names_of(
-    alloc: Global,
-    nodes: &Table<Text, Stored<Shared<Node>>>,
-) -> Result<Seq<Text>, AllocError>
+fn names_of(alloc: Global, nodes: &NamedNodes) -> Result<Seq<Text>, AllocError>
     ensures { IfOk result (λ names. names ≡ keys_of nodes.now) }
 {
     let mut names = Seq::new(Vec::with_capacity(alloc, nodes.len())?);
-    for (name, _) in nodes.as_map() {
+    for (name, _) in nodes.iter() {
         names.push(name.copy(alloc)?)?;
     }
     Ok(names)

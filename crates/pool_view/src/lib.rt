@@ -16,6 +16,7 @@ mod node_index;
 mod nodes;
 mod one_pool;
 mod order;
+mod pool_index;
 mod seen;
 mod set_ref;
 mod slice_ref;
@@ -26,7 +27,7 @@ mod view;
 mod visible;
 
 pub use device::DeviceRef;
-pub use inventory::{Inventory, MAX_DEVICES_TOTAL, Slices};
+pub use inventory::{Inventory, MAX_DEVICES_TOTAL, NamedNodes, Slices};
 pub use known::{KnownList, KnownSlices, MAX_KNOWN_LISTS};
 pub use laws::{
     devices_of_a_view_differ, pools_change_alone, usable_counters_are_there,

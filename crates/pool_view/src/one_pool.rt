@@ -6,7 +6,8 @@ ghost use Rattle.pool_view.specs.OnePool.{is_in, stored_in};
 
 use crate::inventory::Slices;
 use api_slice::ResourceSlice;
-use dra_values::{Duplicate, Table, Text};
+use dra_values::{Duplicate, Text};
+use shared_map::SharedMap;
 use std::alloc::{AllocError, Global};
 
 /// Whether the slice is one of the pool. The pools' names are compared first, as drivers are few.
@@ -27,11 +28,11 @@ pub fn stored_in(
     ensures { IfOk result (λ some. some ≡ stored_in driver.now pool.now slices.now) }
 {
     slices.in_order();
-    let mut some = Table::new(alloc);
-    for (name, stored) in slices.as_map() {
+    let mut some = SharedMap::new(alloc)?;
+    for (name, stored) in slices.iter() {
         if is_in(&stored.object, driver, pool) {
             let name = name.copy(alloc)?;
-            some.insert(name, stored.duplicate(alloc)?)?;
+            some.insert(alloc, name, stored.duplicate(alloc)?)?;
         }
     }
     Ok(some)
@@ -43,7 +44,7 @@ pub fn device_count(slices: &Slices) -> usize
     ensures { result ≡ device_count slices.now }
 {
     let mut count = 0;
-    for (_, stored) in slices.as_map() {
+    for (_, stored) in slices.iter() {
         count += stored.object.devices.as_slice().len();
     }
     count

@@ -5,7 +5,8 @@ ghost use Rattle.std.specs.Option.{option_map_or};
 ghost use Rattle.pool_view.specs.Inventory.{created, updated, with_named};
 ghost use Rattle.pool_view.specs.Names.{at_name, text_cmp};
 
-use dra_values::{Duplicate, Table, Text};
+use dra_values::{Duplicate, Text};
+use shared_map::{NoValue, SharedMap};
 use std::alloc::{AllocError, Global};
 
 /// An object that was applied.
@@ -51,28 +52,40 @@ impl<T: Duplicate> Duplicate for Stored<T> {
 
 /// Puts an object at its name, by the entry at this index: it is updated and keeps its uid if it exists,
 /// and is created otherwise. `AllocError` is returned only if memory runs out, and then nothing changed.
-pub fn put_named<T: Drop>(
-    table: &mut Table<Text, Stored<T>>,
+pub fn put_named<T: Duplicate + Drop>(
+    alloc: Global,
+    objects: &mut SharedMap<Text, Stored<T>>,
     place: u64,
     name: Text,
     object: T,
 ) -> Result<(), AllocError>
-    ensures ok { OnOk result (table.new ≡ with_named place name object table.old) }
-    ensures err { OnErr result (table.new ≡ table.old) }
+    ensures ok { OnOk result (objects.new ≡ with_named place name object objects.old) }
+    ensures err { OnErr result (objects.new ≡ objects.old) }
 {
-    if table.contains_key(&name) {
-        update_named(table, place, &name, object);
-        Ok(())
+    if objects.contains_key(&name) {
+        update_named(alloc, objects, place, &name, object)
     } else {
-        table.insert(name, Stored::created(place, object))
+        objects.insert(alloc, name, Stored::created(place, object))
     }
 }
 
 /// Updates the object of a name, if it exists.
-fn update_named<T: Drop>(table: &mut Table<Text, Stored<T>>, place: u64, name: &Text, object: T)
-    ensures { table.new ≡ option_map_or (λ old. set_value (is_at (text_cmp name.now)) table.old (updated place object old)) (at_name table.old name.now) table.old }
+fn update_named<T: Duplicate + Drop>(
+    alloc: Global,
+    objects: &mut SharedMap<Text, Stored<T>>,
+    place: u64,
+    name: &Text,
+    object: T,
+) -> Result<(), AllocError>
+    ensures ok { OnOk result (objects.new ≡ option_map_or (λ old. set_value (is_at (text_cmp name.now)) objects.old (updated place object old)) (at_name objects.old name.now) objects.old) }
+    ensures err { OnErr result (objects.new ≡ objects.old) }
 {
-    if let Some(stored) = table.get_mut(name) {
-        stored.update(place, object);
+    match objects.get_mut(alloc, name) {
+        Ok(stored) => {
+            stored.update(place, object);
+            Ok(())
+        }
+        Err(NoValue::Missing) => Ok(()),
+        Err(NoValue::Memory) => Err(AllocError),
     }
 }

@@ -1,13 +1,14 @@
 ghost use Rattle.std.specs.Prelude.{◌≡◌};
 
-use dra_values::{Shared, Table, Text};
+use dra_values::{Shared, Text};
 use object_fields::Key;
 use pool_view::Stored;
 use ready_objects::{ReadyClaim, ReadyClass};
+use shared_map::SharedMap;
 use std::marker::Model;
 
 /// The classes of a cluster by their names.
-pub type Classes = Table<Text, Stored<Shared<ReadyClass>>>;
+pub type Classes = SharedMap<Text, Stored<Shared<ReadyClass>>>;
 
 /// A claim that has no grant yet, under its key. Contracts see the claim.
 #[derive(Drop)]

@@ -77,7 +77,7 @@ state_send : IsSend State.the_row
 state_send = declared_send State.the_type (
   search (inventory.the_send, inventory.the_sync, crosses, sendable) depth 60 fits 20000,
   (
-    search (class_send, class_sync, text.the_send, text.the_sync, maps.crosses, crosses, sendable) depth 60 fits 20000,
+    search (class_send, class_sync, text.the_send, text.the_sync, shared_map.the_send, crosses, sendable) depth 60 fits 20000,
     (
       search (claim_state_send, claim_state_sync, key.the_send, key.the_sync, shared_map.the_send, sendable) depth 60 fits 20000,
       (search (pod_state.the_send, pod_state.the_sync, key.the_send, key.the_sync, shared_map.the_send, sendable) depth 60 fits 20000, tt),

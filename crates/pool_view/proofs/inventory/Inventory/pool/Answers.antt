@@ -11,4 +11,5 @@ invariant_of-result c = (
   tt,
   forgotten c.in_ok-slices.slices c.new-2.result.items c.new-2.ensures.items,
   tt,
+  tt,
 )

@@ -7,6 +7,7 @@ invariant_of-self c = (
   c.self.invariant.0,
   c.self.invariant.1,
   c.self.invariant.2,
-  names_kept c.args.place c.in_ok-name.name c.args.node c.self.inside.nodes c.put_named.new.table c.self.inside.names c.put_named.result (sym c.contains_key.ensures ∙ c.if-contains_key.true) c.put_named.ensures.ok c.put_named.ensures.err
+  names_kept c.args.place c.in_ok-name.name c.args.node c.self.inside.nodes c.put_named.new.objects c.self.inside.names c.put_named.result (sym c.contains_key.ensures ∙ c.if-contains_key.true) c.put_named.ensures.ok c.put_named.ensures.err
       c.self.invariant.3,
+  c.self.invariant.4,
 )
