@@ -5,6 +5,7 @@ usage: python3 .ci/model/load_script.py WORK [SIZE]      WORK: one of those belo
 plain      SIZE nodes of 8 devices, and pods for 5 in 6 of these devices
 mixed      the same with selectors, requests of 1 to 4 devices, and every third pod released again
 slices     SIZE slices of 32 devices with attributes
+pools      SIZE slices of one device, each the only one of its pool
 deletes    SIZE Deletes of pods that aren't there
 verdicts   1,024 nodes of one device, each held, and SIZE pods for which no node has one
 updates    64 nodes of 8 devices, and SIZE pods, with an update of a slice before each
@@ -92,6 +93,11 @@ def slices(count):
         yield slice_of(i, [device(k) for k in range(32)])
 
 
+def pools(count):
+    for i in range(count):
+        yield slice_of(i, [device(0)])
+
+
 def deletes(count):
     for i in range(count):
         yield command("Delete", i) | {"target": "Pod"}
@@ -138,6 +144,7 @@ WORKS = {
     "plain": (plain, 256),
     "mixed": (mixed, 256),
     "slices": (slices, 1000),
+    "pools": (pools, 2000),
     "deletes": (deletes, 20000),
     "verdicts": (verdicts, 1000),
     "updates": (updates, 400),
