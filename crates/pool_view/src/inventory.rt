@@ -179,8 +179,8 @@ impl Inventory {
         Ok(())
     }
 
-    /// An inventory of the slices of one pool, without nodes, which shares the slices with this one. Its cost is that
-    /// pool's size. `AllocError` is returned only if memory runs out.
+    /// An inventory of the slices of one pool, without nodes, which shares the slices with this one. It costs that pool's
+    /// size, or all slices' once memory ran out while they changed. `AllocError` is returned only if memory runs out.
     pub fn pool(&self, alloc: Global, driver: &Text, pool: &Text) -> Result<Inventory, AllocError>
         ensures { IfOk result (λ other. other ≡ only_pool driver.now pool.now self.now) }
     {
