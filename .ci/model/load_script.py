@@ -6,6 +6,7 @@ plain      SIZE nodes of 8 devices, and pods for 5 in 6 of these devices
 mixed      the same with selectors, requests of 1 to 4 devices, and every third pod released again
 slices     SIZE slices of 32 devices with attributes
 pools      SIZE slices of one device, each the only one of its pool
+pool       a slice of counters, and SIZE slices of a device that draws from one, all of one pool; then all deleted again
 deletes    SIZE Deletes of pods that aren't there
 verdicts   1,024 nodes of one device, each held, and SIZE pods for which no node has one
 updates    64 nodes of 8 devices, and SIZE pods, with an update of a slice before each
@@ -98,6 +99,17 @@ def pools(count):
         yield slice_of(i, [device(0)])
 
 
+def pool(count):
+    of = {"driver": DRIVER, "allNodes": True, "pool": {"name": "all", "generation": 1, "resourceSliceCount": count + 1}}
+    counters = {"sharedCounters": [{"name": "memory", "counters": {"bytes": {"value": str(count)}}}]}
+    yield resource("ResourceSlice", "counters", of | counters)
+    drawn = {"consumesCounters": [{"counterSet": "memory", "counters": {"bytes": {"value": "1"}}}]}
+    for i in range(count):
+        yield resource("ResourceSlice", f"slice-{i:05}", of | {"devices": [{"name": f"gpu-{i}"} | drawn]})
+    for name in ["counters"] + [f"slice-{i:05}" for i in range(count)]:
+        yield {"apiVersion": "dra.replay/v1", "kind": "Delete", "target": "ResourceSlice", "name": name}
+
+
 def deletes(count):
     for i in range(count):
         yield command("Delete", i) | {"target": "Pod"}
@@ -145,6 +157,7 @@ WORKS = {
     "mixed": (mixed, 256),
     "slices": (slices, 1000),
     "pools": (pools, 2000),
+    "pool": (pool, 1000),
     "deletes": (deletes, 20000),
     "verdicts": (verdicts, 1000),
     "updates": (updates, 400),

@@ -64,7 +64,7 @@ value_by false x xs c e h =
     let parts = or_parts (has_sets x.counters) (list_any (λ d. draws_any d.consumes) x.devices) e in
     h ∙ sym (ap (λ (o : Option ℕ). or_value o (value_among xs c)) (no_value x c parts.0))
 
-values_counted : (xs : List ResourceSlice) (c : CounterId) → value_among (filter is_counted xs) c ≡ value_among xs c
+pub values_counted : (xs : List ResourceSlice) (c : CounterId) → value_among (filter is_counted xs) c ≡ value_among xs c
 values_counted [] c = refl
 values_counted (x ∷ xs) c = value_by (is_counted x) x xs c refl (values_counted xs c)
 

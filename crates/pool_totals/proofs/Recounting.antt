@@ -1,6 +1,6 @@
 -- Totals where a slice is put or removed.
-use Rattle.std.proofs.Common.{ℕ, ◌+◌, ◌≤◌, ◌≡◌, ◌∙◌, List, [], ◌∷◌, Bool, true, false, ◌&&◌, cond, Option, None, Some, refl, sym, ap, subst, arith}
-use Rattle.std.specs.Prelude.{IfSome}
+use Rattle.std.proofs.Common.{ℕ, ◌+◌, ◌≤◌, ◌≡◌, ◌∙◌, List, [], ◌∷◌, Bool, true, false, ◌&&◌, cond, Option, None, Some, Result, Ok, Err, refl, sym, ap, subst, arith}
+use Rattle.std.specs.Prelude.{IfOk, IfSome}
 use Rattle.std.specs.List.{filter, sum_by}
 use Rattle.std.specs.Cmp.Lexicographic.{same_text}
 use Rattle.std.proofs.lemmas.Bool.{and_from, and_parts}
@@ -12,7 +12,7 @@ use Rattle.pool_view.specs.declared.stored.Stored.{Stored}
 use Rattle.pool_view.specs.Differing.{offers}
 use Rattle.pool_view.specs.Inventory.{with_slice, without_slice}
 use Rattle.pool_view.specs.Names.{at_name, text_eq}
-use Rattle.pool_view.specs.OnePool.{AreInOrder, IsElsewhere, is_in, only_pool}
+use Rattle.pool_view.specs.OnePool.{AreInOrder, IsElsewhere, is_in}
 use Rattle.pool_view.specs.Pools.{Offered, offered_by}
 use Rattle.pool_view.specs.Usable.{counted_slices, is_counted, usable_slices}
 use Rattle.request_rules.specs.Draws.{CounterId, counter_eq, counter_for, counter_value, draws_from, draws_of, drawn_at, drawn_from, is_of_pool, natural, or_value, value_among, value_in}
@@ -20,8 +20,8 @@ use Rattle.counter_sets.specs.Holding.{Holders}
 use Rattle.counter_sets.specs.Totals.{KeptCounters, drawn_in, sum_most, value_of}
 use Rattle.pool_totals.specs.declared.recount.PoolTotals.{PoolTotals}
 use Rattle.pool_totals.specs.Counting.{AreCounted, draws_among, is_taken}
-use Rattle.pool_totals.specs.Recounting.{IsCounted, IsOld, drawn_taken, is_recounted, value_taken}
-use Rattle.pool_totals.proofs.Counted.{none_at}
+use Rattle.pool_totals.specs.Recounting.{AreCountedFor, IsCounted, IsOld, IsReplaced, drawn_taken, is_recounted, value_taken}
+use Rattle.pool_totals.proofs.Counted.{none_at, values_counted}
 use Rattle.pool_totals.proofs.Draws.{held_none, no_flat_sum, no_map_sum}
 
 -- ---- what the slices of a counter's pool have of it
@@ -121,20 +121,60 @@ at_pool x c us vs of same =
     subst (λ (d : List ℕ). filter (is_in d c.pool) us ≡ filter (is_in d c.pool) vs) (same_text x.driver c.driver (sym both.0))
     (subst (λ (p : List ℕ). filter (is_in x.driver p) us ≡ filter (is_in x.driver p) vs) (same_text x.pool.name c.pool (sym both.1)) same)
 
-anew : (c : CounterId) (i j : Inventory) (h : Holders) (x : ResourceSlice) (p : PoolTotals) → p.slice ≡ x → filter (is_in x.driver x.pool.name) (usable_slices i) ≡ filter (is_in x.driver x.pool.name) (usable_slices j) → AreCounted j h p.totals → is_of_pool p.slice c ≡ true
-    → IsCounted i h p.totals c
-anew c i j h x p is same counted of =
-    carried c j i h p.totals (sym (at_pool x c (usable_slices i) (usable_slices j) (ap (λ (y : ResourceSlice). is_of_pool y c) (sym is) ∙ of) same)) (of_all c j h p.totals counted)
+pub anew : (i j : Inventory) (h : Holders) (x : ResourceSlice) (kept : KeptCounters) → filter (is_in x.driver x.pool.name) (usable_slices i) ≡ filter (is_in x.driver x.pool.name) (usable_slices j) → AreCounted j h kept → AreCountedFor i h x kept
+anew i j h x kept same counted =
+    record { each = λ c of. carried c j i h kept (sym (at_pool x c (usable_slices i) (usable_slices j) of same)) (of_all c j h kept counted) }
+
+-- the same of what a count returns, for a pool whose names these are
+pub anew_if : {E : Type 0} (r : Result KeptCounters E) (i j : Inventory) (h : Holders) (x : ResourceSlice) (d p : List ℕ) → d ≡ x.driver → p ≡ x.pool.name
+    → filter (is_in d p) (usable_slices i) ≡ filter (is_in d p) (usable_slices j) → IfOk r (AreCounted j h) → IfOk r (AreCountedFor i h x)
+anew_if (Ok t) i j h x d p e f same counted =
+    anew i j h x t
+    (subst (λ (n : List ℕ). filter (is_in n x.pool.name) (usable_slices i) ≡ filter (is_in n x.pool.name) (usable_slices j)) e
+    (subst (λ (n : List ℕ). filter (is_in d n) (usable_slices i) ≡ filter (is_in d n) (usable_slices j)) f same)) counted
+anew_if (Err e) i j h x d p a b same counted = tt
+
+-- ---- a pool without counters
+
+none_of_pool : (x : ResourceSlice) (c : CounterId) (us : List ResourceSlice) → is_of_pool x c ≡ true → filter is_counted (filter (is_in x.driver x.pool.name) us) ≡ [] → filter is_counted (filter (is_in c.driver c.pool) us) ≡ []
+none_of_pool x c us of none =
+    let both = and_parts (text_eq x.driver c.driver) (text_eq x.pool.name c.pool) of in
+    subst (λ (d : List ℕ). filter is_counted (filter (is_in d c.pool) us) ≡ []) (same_text x.driver c.driver (sym both.0))
+    (subst (λ (p : List ℕ). filter is_counted (filter (is_in x.driver p) us) ≡ []) (same_text x.pool.name c.pool (sym both.1)) none)
+
+no_value : (c : CounterId) (us : List ResourceSlice) → filter is_counted (filter (is_in c.driver c.pool) us) ≡ [] → value_among us c ≡ None
+no_value c us none = sym (values_in c us) ∙ sym (values_counted (filter (is_in c.driver c.pool) us) c) ∙ ap (λ (xs : List ResourceSlice). value_among xs c) none
+
+no_draw : (chosen : Offered → Bool) (c : CounterId) (i : Inventory) → filter is_counted (filter (is_in c.driver c.pool) (usable_slices i)) ≡ [] → draws_among chosen (counted_slices i) c ≡ 0
+unfolding counted_slices
+no_draw chosen c i none = sym (draws_in chosen c (usable_slices i)) ∙ ap (λ (xs : List ResourceSlice). draws_among chosen xs c) none
+
+none_fit : (n m : ℕ) → n ≡ 0 → n ≤ m
+none_fit n m e = omega (arith, e)
+
+-- nothing is counted of it
+pub uncounted : (i : Inventory) (h : Holders) (x : ResourceSlice) (kept : KeptCounters) → filter is_counted (filter (is_in x.driver x.pool.name) (usable_slices i)) ≡ [] → ((c : CounterId) → value_of kept c ≡ None) → ((c : CounterId) → drawn_in kept c ≡ 0)
+    → AreCountedFor i h x kept
+uncounted i h x kept none value drawn = record {
+  each = λ c of.
+      let here = none_of_pool x c (usable_slices i) of none in record {
+        value_is = value c ∙ sym (no_value c (usable_slices i) here);
+        drawn_is = drawn c ∙ sym (no_draw (is_taken h) c i here);
+        fits = λ chosen. none_fit (draws_among chosen (counted_slices i) c) sum_most (no_draw chosen c i here);
+      };
+}
+
+-- the same for a pool whose names these are
+pub uncounted_of : (i : Inventory) (h : Holders) (x : ResourceSlice) (kept : KeptCounters) (d p : List ℕ) → d ≡ x.driver → p ≡ x.pool.name → filter is_counted (filter (is_in d p) (usable_slices i)) ≡ []
+    → ((c : CounterId) → value_of kept c ≡ None) → ((c : CounterId) → drawn_in kept c ≡ 0) → AreCountedFor i h x kept
+uncounted_of i h x kept d p e f none value drawn =
+    uncounted i h x kept
+    (subst (λ (n : List ℕ). filter is_counted (filter (is_in n x.pool.name) (usable_slices i)) ≡ []) e
+    (subst (λ (n : List ℕ). filter is_counted (filter (is_in d n) (usable_slices i)) ≡ []) f none)) value drawn
 
 -- what is known of the pools where slices change
-abbrev PutAlone : Type 0
-PutAlone = (i : Inventory) (k : ℕ) (x : ResourceSlice) (d p : List ℕ) → AreInOrder i → filter (is_in d p) (usable_slices (with_slice k x i)) ≡ filter (is_in d p) (usable_slices (with_slice k x (only_pool d p i)))
-
 abbrev PutElsewhere : Type 0
 PutElsewhere = (i : Inventory) (k : ℕ) (x : ResourceSlice) (d p : List ℕ) → AreInOrder i → is_in d p x ≡ false → IsElsewhere d p x.name i → filter (is_in d p) (usable_slices (with_slice k x i)) ≡ filter (is_in d p) (usable_slices i)
-
-abbrev RemovedAlone : Type 0
-RemovedAlone = (i : Inventory) (n d p : List ℕ) → AreInOrder i → filter (is_in d p) (usable_slices (without_slice n i)) ≡ filter (is_in d p) (usable_slices (without_slice n (only_pool d p i)))
 
 abbrev RemovedElsewhere : Type 0
 RemovedElsewhere = (i : Inventory) (n d p : List ℕ) → AreInOrder i → IsElsewhere d p n i → filter (is_in d p) (usable_slices (without_slice n i)) ≡ filter (is_in d p) (usable_slices i)
@@ -144,15 +184,26 @@ old_elsewhere None q c is away = tt
 old_elsewhere (Some s) None c is away = absurd is
 old_elsewhere (Some s) (Some q) c is away = ap (λ (y : ResourceSlice). is_of_pool y c) (sym is) ∙ away
 
-old_put : (i : Inventory) (h : Holders) (k : ℕ) (x : ResourceSlice) (q : Option PoolTotals) → PutAlone → AreInOrder i → IfSome q (λ q. AreCounted (with_slice k x (only_pool q.slice.driver q.slice.pool.name i)) h q.totals)
-    → (c : CounterId) → is_recounted q c ≡ true → IfSome q (λ q. IsCounted (with_slice k x i) h q.totals c)
-old_put i h k x None alone order g c of = tt
-old_put i h k x (Some q) alone order g c of = anew c (with_slice k x i) (with_slice k x (only_pool q.slice.driver q.slice.pool.name i)) h q.slice q refl (alone i k x q.slice.driver q.slice.pool.name order) g of
+both_in : (x y : ResourceSlice) (c : CounterId) → is_in x.driver x.pool.name y ≡ true → is_in c.driver c.pool y ≡ is_of_pool x c
+both_in x y c of =
+    let both = and_parts (text_eq y.driver x.driver) (text_eq y.pool.name x.pool.name) of in
+    ap (λ (d : List ℕ). text_eq d c.driver && text_eq y.pool.name c.pool) (same_text y.driver x.driver (sym both.0))
+    ∙ ap (λ (p : List ℕ). text_eq x.driver c.driver && text_eq p c.pool) (same_text y.pool.name x.pool.name (sym both.1))
 
-old_removed : (i : Inventory) (h : Holders) (n : List ℕ) (q : Option PoolTotals) → RemovedAlone → AreInOrder i → IfSome q (λ q. AreCounted (without_slice n (only_pool q.slice.driver q.slice.pool.name i)) h q.totals)
-    → (c : CounterId) → is_recounted q c ≡ true → IfSome q (λ q. IsCounted (without_slice n i) h q.totals c)
-old_removed i h n None alone order g c of = tt
-old_removed i h n (Some q) alone order g c of = anew c (without_slice n i) (without_slice n (only_pool q.slice.driver q.slice.pool.name i)) h q.slice q refl (alone i n q.slice.driver q.slice.pool.name order) g of
+replaced_elsewhere : (x : ResourceSlice) (o : Option (Stored ResourceSlice)) (q : Option PoolTotals) (c : CounterId) → IsReplaced x o q → is_recounted q c ≡ false → is_of_pool x c ≡ false → IfSome o (λ s. is_in c.driver c.pool s.object ≡ false)
+replaced_elsewhere x None q c is away other = tt
+replaced_elsewhere x (Some s) None c is away other = both_in x s.object c is ∙ other
+replaced_elsewhere x (Some s) (Some q) c is away other = ap (λ (y : ResourceSlice). is_of_pool y c) (sym is) ∙ away
+
+pub is_replaced : {E : Type 0} (r : Result (Option PoolTotals) E) (x : ResourceSlice) (o : Option (Stored ResourceSlice)) (s : Stored ResourceSlice) → o ≡ Some s → IfOk r (λ q. q ≡ None → is_in x.driver x.pool.name s.object ≡ true)
+    → IfOk r (λ q. IfSome q (λ p. p.slice ≡ s.object)) → IfOk r (IsReplaced x o)
+is_replaced (Ok None) x o s at none some = subst (λ (t : Option (Stored ResourceSlice)). IsReplaced x t None) (sym at) (none refl)
+is_replaced (Ok (Some q)) x o s at none some = subst (λ (t : Option (Stored ResourceSlice)). IsReplaced x t (Some q)) (sym at) some
+is_replaced (Err e) x o s at none some = tt
+
+taken_at : (i : Inventory) (h : Holders) (q : Option PoolTotals) → IfSome q (λ p. AreCountedFor i h p.slice p.totals) → (c : CounterId) → is_recounted q c ≡ true → IfSome q (λ p. IsCounted i h p.totals c)
+taken_at i h None g c of = tt
+taken_at i h (Some q) g c of = g.each c of
 
 -- ---- the counters of pools are taken
 
@@ -165,32 +216,32 @@ taken_by false i h (Some p) kept new c e anew others value drawn =
     seen_same c i h kept new (value ∙ ap (λ (b : Bool). cond b (value_of p.totals c) (value_of kept c)) e) (drawn ∙ ap (λ (b : Bool). cond b (drawn_in p.totals c) (drawn_in kept c)) e) (others e)
 
 -- a slice is put: the counters of its pool are taken, and then those of the slice that it replaces
-pub put_counted : (i : Inventory) (h : Holders) (kept mid new : KeptCounters) (k : ℕ) (x : ResourceSlice) (p : PoolTotals) (q : Option PoolTotals) → PutAlone → PutElsewhere → AreInOrder i → AreCounted i h kept
-    → p.slice ≡ x → AreCounted (with_slice k x (only_pool x.driver x.pool.name i)) h p.totals
-    → IsOld (at_name i.slices x.name) q → IfSome q (λ q. AreCounted (with_slice k x (only_pool q.slice.driver q.slice.pool.name i)) h q.totals)
+pub put_counted : (i : Inventory) (h : Holders) (kept mid new : KeptCounters) (k : ℕ) (x : ResourceSlice) (p : PoolTotals) (q : Option PoolTotals) → PutElsewhere → AreInOrder i → AreCounted i h kept
+    → p.slice ≡ x → AreCountedFor (with_slice k x i) h x p.totals → IsReplaced x (at_name i.slices x.name) q → IfSome q (λ q. AreCountedFor (with_slice k x i) h q.slice q.totals)
     → ((c : CounterId) → value_of mid c ≡ value_taken (Some p) (value_of kept c) c) → ((c : CounterId) → drawn_in mid c ≡ drawn_taken (Some p) (drawn_in kept c) c)
     → ((c : CounterId) → value_of new c ≡ value_taken q (value_of mid c) c) → ((c : CounterId) → drawn_in new c ≡ drawn_taken q (drawn_in mid c) c)
     → AreCounted (with_slice k x i) h new
-put_counted i h kept mid new k x p q alone away order counted is mine there others value drawn value_then drawn_then =
+put_counted i h kept mid new k x p q away order counted is mine there others value drawn value_then drawn_then =
     let put : Inventory = with_slice k x i in
     of_each put h new
     (λ c.
-    taken_by (is_recounted q c) put h q mid new c refl (old_put i h k x q alone order others c)
+    let own : is_of_pool x c ≡ is_of_pool p.slice c = ap (λ (y : ResourceSlice). is_of_pool y c) (sym is) in
+    taken_by (is_recounted q c) put h q mid new c refl (taken_at put h q others c)
     (λ second.
-    taken_by (is_of_pool p.slice c) put h (Some p) kept mid c refl (anew c put (with_slice k x (only_pool x.driver x.pool.name i)) h x p is (alone i k x x.driver x.pool.name order) mine)
+    taken_by (is_of_pool p.slice c) put h (Some p) kept mid c refl (λ of. mine.each c (own ∙ of))
     (λ first.
-    carried c i put h kept (sym (away i k x c.driver c.pool order (ap (λ (y : ResourceSlice). is_of_pool y c) (sym is) ∙ first) (old_elsewhere (at_name i.slices x.name) q c there second))) (of_all c i h kept counted))
+    carried c i put h kept (sym (away i k x c.driver c.pool order (own ∙ first) (replaced_elsewhere x (at_name i.slices x.name) q c there second (own ∙ first)))) (of_all c i h kept counted))
     (value c) (drawn c))
     (value_then c) (drawn_then c))
 
 -- a slice is removed, if it is there: the counters of its pool are taken
-pub removed_counted : (i : Inventory) (h : Holders) (kept new : KeptCounters) (n : List ℕ) (q : Option PoolTotals) → RemovedAlone → RemovedElsewhere → AreInOrder i → AreCounted i h kept
-    → IsOld (at_name i.slices n) q → IfSome q (λ q. AreCounted (without_slice n (only_pool q.slice.driver q.slice.pool.name i)) h q.totals)
+pub removed_counted : (i : Inventory) (h : Holders) (kept new : KeptCounters) (n : List ℕ) (q : Option PoolTotals) → RemovedElsewhere → AreInOrder i → AreCounted i h kept
+    → IsOld (at_name i.slices n) q → IfSome q (λ q. AreCountedFor (without_slice n i) h q.slice q.totals)
     → ((c : CounterId) → value_of new c ≡ value_taken q (value_of kept c) c) → ((c : CounterId) → drawn_in new c ≡ drawn_taken q (drawn_in kept c) c)
     → AreCounted (without_slice n i) h new
-removed_counted i h kept new n q alone away order counted there others value drawn =
+removed_counted i h kept new n q away order counted there others value drawn =
     let left : Inventory = without_slice n i in
     of_each left h new
     (λ c.
-    taken_by (is_recounted q c) left h q kept new c refl (old_removed i h n q alone order others c)
+    taken_by (is_recounted q c) left h q kept new c refl (taken_at left h q others c)
     (λ second. carried c i left h kept (sym (away i n c.driver c.pool order (old_elsewhere (at_name i.slices n) q c there second))) (of_all c i h kept counted)) (value c) (drawn c))

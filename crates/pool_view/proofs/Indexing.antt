@@ -1,10 +1,9 @@
 -- The slices of each pool after one is put or removed.
 use Rattle.std.proofs.Common.{ℕ, ◌≡◌, ◌∙◌, List, [], ◌∷◌, Bool, true, false, cond, Option, None, Some, Result, Ok, Err, refl, sym, ap, subst}
-use Rattle.std.specs.Prelude.{IfOk, IfSome, OnOk, filter}
+use Rattle.std.specs.Prelude.{IfOk, OnOk, filter}
 use Rattle.std.specs.BTreeMap.{insert_entry, is_at}
-use Rattle.std.specs.List.{AllByRecursion}
 use Rattle.std.specs.List.Sorted.{IsStrictlySortedBy}
-use Rattle.std.specs.Map.{keys_of, lookup, remove_entry, set_value}
+use Rattle.std.specs.Map.{keys_of, remove_entry, set_value}
 use Rattle.std.specs.Option.{unwrap_or}
 use Rattle.std.specs.Ordering.{is_eq, match_ordering}
 use Rattle.std.specs.declared.cmp.Ordering.{Ordering}
@@ -12,14 +11,17 @@ use Rattle.std.specs.declared.cmp.Ordering.TheVariants.{Less, Equal, Greater}
 use Rattle.api_slice.specs.declared.types.ResourceSlice.{ResourceSlice}
 use Rattle.pool_view.specs.declared.names.PoolName.{PoolName}
 use Rattle.pool_view.specs.declared.stored.Stored.{Stored}
-use Rattle.pool_view.specs.Inventory.{Named, created, put_by, updated, with_named, without_named}
+use Rattle.pool_view.specs.Groups.{objects}
+use Rattle.pool_view.specs.Inventory.{InventoryFields, Named, put_by, updated, with_named, without_named}
 use Rattle.pool_view.specs.Names.{at_name, text_cmp}
 use Rattle.pool_view.specs.OnePool.{is_in, stored_in}
 use Rattle.pool_view.specs.PoolIndexes.{AreIndexed, Index, IsIndex, at_pool, stored_by, was_in}
-use Rattle.pool_view.specs.Usable.{pool_cmp, pool_named}
+use Rattle.pool_view.specs.Pools.{pool_of, slices_of}
+use Rattle.pool_view.specs.Tally.{AreUncounted}
+use Rattle.pool_view.specs.Usable.{is_counted, pool_cmp, pool_named, usable_slices}
 use Rattle.pool_view.proofs.Found.{at, at_gone, at_insert, at_remove, is_equal}
-use Rattle.pool_view.proofs.OnePool.{Above, Elsewhere, Rising, above_in, above_lower, equal_at, front, none_above, none_gone}
-use Rattle.pool_view.proofs.PoolGroups.{is_of, pools_exact, text_same}
+use Rattle.pool_view.proofs.OnePool.{Above, Elsewhere, Rising, above_in, above_lower, equal_at, front, named, none_above, none_gone, rising_in, usable_in}
+use Rattle.pool_view.proofs.PoolGroups.{is_of, pools_exact, text_same, texts_exact}
 
 -- ---- a value that is set is a value that is put
 
@@ -218,6 +220,42 @@ no_index index es none empty = λ p. ap (λ (i : Index). at_pool i p) none ∙ a
 -- the index of the slices as they are after a put
 pub indexed_by : (k : ℕ) (n : List ℕ) (x : ResourceSlice) (es table : Named ResourceSlice) (pools : Option Index) → n ≡ x.name → table ≡ with_named k n x es → AreIndexed (with_named k x.name x es) pools → AreIndexed table pools
 indexed_by k n x es table pools own put is = subst (λ (t : Named ResourceSlice). AreIndexed t pools) (sym (put ∙ ap (λ (m : List ℕ). with_named k m x es) own)) is
+
+-- once a slice was taken out there is none of its name
+pub absent : (es : Named ResourceSlice) (old new : Index) (o : Option (Stored ResourceSlice)) (n : List ℕ) → Rising es → o ≡ at_name es n → IsIndex es old → Without old new o n
+    → (p : PoolName) → at_name (at_pool new p) n ≡ None
+absent es old new o n order at is out p =
+    ap (λ (fs : Named ResourceSlice). at_name fs n) (without_pool es old new o n order at is out p)
+    ∙ at_gone text_cmp texts_exact (stored_in p.driver p.pool es) n (rising_in p.driver p.pool es order)
+
+-- ---- whether counters are about none of a pool's usable slices
+
+objects_by : (b : Bool) (e : List ℕ × Stored ResourceSlice) (fs : Named ResourceSlice) (xs : List ResourceSlice) → objects fs ≡ xs → objects (cond b (e ∷ fs) fs) ≡ cond b (e.1.object ∷ xs) xs
+objects_by true e fs xs h = ap (λ (l : List ResourceSlice). e.1.object ∷ l) h
+objects_by false e fs xs h = h
+
+objects_in : (d p : List ℕ) (es : Named ResourceSlice) → objects (stored_in d p es) ≡ slices_of d p es
+unfolding stored_in
+objects_in d p [] = refl
+objects_in d p (e ∷ es) = objects_by (is_in d p e.1.object) e (stored_in d p es) (slices_of d p es) (objects_in d p es)
+
+uncounted_in : (d p : List ℕ) (all : Named ResourceSlice) (index : Index) → IsIndex all index → AreUncounted (objects (at_pool index (named d p))) → AreUncounted (slices_of d p all)
+uncounted_in d p all index is h = subst AreUncounted (ap (λ (fs : Named ResourceSlice). objects fs) (is (named d p)) ∙ objects_in d p all) h
+
+pub known_in : {E : Type 0} (r : Result Bool E) (d p : List ℕ) (pools : Option Index) (index : Index) → pools ≡ Some index → IfOk r (λ known. known ≡ true → AreUncounted (objects (at_pool index (named d p))))
+    → IfOk r (λ known. known ≡ true → (all : Named ResourceSlice) → AreIndexed all pools → AreUncounted (slices_of d p all))
+known_in (Ok b) d p pools index is h = λ yes all indexed. uncounted_in d p all index (subst (AreIndexed all) is indexed) (h yes)
+known_in (Err e) d p pools index is h = tt
+
+usable_uncounted : (i : InventoryFields) (d p : List ℕ) → AreUncounted (slices_of d p i.slices) → filter is_counted (filter (is_in d p) (usable_slices i)) ≡ []
+unfolding pool_of
+usable_uncounted i d p h = ap (λ (xs : List ResourceSlice). filter is_counted xs) (usable_in i d p) ∙ h
+
+pub known_of : {E : Type 0} (r : Result Bool E) (d p : List ℕ) (i : InventoryFields) (pools : Option Index) → AreIndexed i.slices pools
+    → IfOk r (λ known. known ≡ true → (all : Named ResourceSlice) → AreIndexed all pools → AreUncounted (slices_of d p all))
+    → IfOk r (λ known. known ≡ true → filter is_counted (filter (is_in d p) (usable_slices i)) ≡ [])
+known_of (Ok b) d p i pools indexed h = λ yes. usable_uncounted i d p (h yes i.slices indexed)
+known_of (Err e) d p i pools indexed h = tt
 
 pub on_ok : {T E : Type 0} (r : Result T E) (A B : Type 0) → (A → B) → OnOk r A → OnOk r B
 on_ok (Ok x) A B f h = f h

@@ -20,4 +20,5 @@ mod Learned
 mod Listing
 pub mod OnePool
 mod Indexing
+mod Tallying
 pub mod Deciding

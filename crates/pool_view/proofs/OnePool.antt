@@ -219,7 +219,7 @@ gone_else d p n (e ∷ es) old = gone_else_by (is_at (text_cmp n) e.0) d p n e e
 
 -- ---- the usable slices of a pool
 
-abbrev named : (d p : List ℕ) → PoolName
+abbrev pub named : (d p : List ℕ) → PoolName
 named d p = record { driver = d; pool = p }
 
 abbrev is_pool : PoolName → PoolName → Bool

@@ -13,6 +13,7 @@ pub mod Known
 pub mod Sets
 pub mod OnePool
 pub mod PoolIndexes
+pub mod Tally
 pub mod Matches
 pub mod Match
 pub mod Devices

@@ -1,18 +1,19 @@
-ghost use Rattle.std.specs.Prelude.{◌≡◌, ◌≤◌, ◌++◌, true, IfOk, IfSome, OnOk, OnErr};
+ghost use Rattle.std.specs.Prelude.{◌≡◌, ◌≤◌, ◌++◌, [], true, filter, IfOk, IfSome, OnOk, OnErr};
 ghost use Rattle.pool_view.specs.Sorted.{AreSorted};
 ghost use Rattle.std.specs.List.Sorted.{IsStrictlySortedBy};
 ghost use Rattle.std.specs.Map.{keys_of};
 ghost use Rattle.pool_view.specs.Inventory.{AtOwnNames, device_count, devices_by, devices_most, empty_inventory, has_room_for, with_node, with_slice, without_node, without_slice};
 ghost use Rattle.pool_view.specs.Known.{is_sure};
 ghost use Rattle.pool_view.specs.Names.{at_name, text_cmp};
-ghost use Rattle.pool_view.specs.OnePool.{only_pool};
+ghost use Rattle.pool_view.specs.OnePool.{is_in, only_pool};
+ghost use Rattle.pool_view.specs.Usable.{is_counted, usable_slices};
 
 use crate::Stored;
 use crate::kept::SortedSlices;
 use crate::known::{KnownList, KnownSlices};
 use crate::learning::{position, share_lists, with_found};
 use crate::one_pool::device_count;
-use crate::pool_index::{PoolIndex, index_with, index_without, slices_in};
+use crate::pool_index::{PoolIndex, index_with, index_without, is_uncounted_in, slices_in};
 use crate::sorting::sorted_slices;
 use crate::stored::put_named;
 use api_cluster::Node;
@@ -196,6 +197,41 @@ impl Inventory {
             known: Vec::new(alloc),
             names: None,
         })
+    }
+
+    /// Whether it is known that counters are about none of the usable slices of a pool, once the entry at this index
+    /// puts a slice. It isn't known where the pool may be complete and has slices that counters are about, nor once
+    /// memory ran out while slices changed. It doesn't go over the slices of the pool. `AllocError` is returned only if
+    /// memory runs out.
+    pub fn is_uncounted_with(
+        &self,
+        alloc: Global,
+        driver: &Text,
+        pool: &Text,
+        place: u64,
+        slice: &Shared<ResourceSlice>,
+    ) -> Result<bool, AllocError>
+        ensures { IfOk result (λ known. known ≡ true → filter is_counted (filter (is_in driver.now pool.now) (usable_slices (with_slice place slice.now self.now))) ≡ []) }
+    {
+        let pools = self.pools.duplicate(alloc)?;
+        let pools = index_with(alloc, pools, &self.slices, place, slice)?;
+        is_uncounted_in(alloc, &pools, driver, pool)
+    }
+
+    /// Whether it is known that counters are about none of the usable slices of a pool, once the slice of a name is
+    /// removed, if there is one (`is_uncounted_with`). `AllocError` is returned only if memory runs out.
+    pub fn is_uncounted_without(
+        &self,
+        alloc: Global,
+        driver: &Text,
+        pool: &Text,
+        name: &Text,
+    ) -> Result<bool, AllocError>
+        ensures { IfOk result (λ known. known ≡ true → filter is_counted (filter (is_in driver.now pool.now) (usable_slices (without_slice name.now self.now))) ≡ []) }
+    {
+        let pools = self.pools.duplicate(alloc)?;
+        let pools = index_without(alloc, pools, &self.slices, name)?;
+        is_uncounted_in(alloc, &pools, driver, pool)
     }
 
     /// Removes the node of a name, if there is one. `AllocError` is returned only if memory runs out, and then

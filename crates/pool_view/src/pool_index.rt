@@ -1,24 +1,30 @@
 //! The slices of each pool, kept beside those of all pools.
 
-ghost use Rattle.std.specs.Prelude.{◌≡◌, IfOk, OnOk, cond, option_copied};
+ghost use Rattle.std.specs.Prelude.{◌≡◌, None, IfOk, OnOk, cond, option_copied, true};
 ghost use Rattle.std.specs.BTreeMap.{insert_entry, is_at};
 ghost use Rattle.std.specs.Map.{remove_entry};
 ghost use Rattle.pool_view.specs.declared.names.PoolName.{PoolName};
-ghost use Rattle.pool_view.specs.Inventory.{with_named, without_named};
-ghost use Rattle.pool_view.specs.Names.{text_cmp};
+ghost use Rattle.api_slice.specs.declared.types.ResourceSlice.{ResourceSlice};
+ghost use Rattle.pool_view.specs.Groups.{objects};
+ghost use Rattle.pool_view.specs.Inventory.{Named, with_named, without_named};
+ghost use Rattle.pool_view.specs.Names.{at_name, text_cmp};
 ghost use Rattle.pool_view.specs.OnePool.{is_in, stored_in};
 ghost use Rattle.pool_view.specs.PoolIndexes.{AreIndexed, at_pool, stored_by, was_in};
+ghost use Rattle.pool_view.specs.Pools.{slices_of};
+ghost use Rattle.pool_view.specs.Tally.{AreUncounted};
+ghost use Rattle.pool_view.specs.Usable.{pool_named};
 
 use crate::inventory::Slices;
 use crate::one_pool::stored_in;
+use crate::pool_slices::PoolSlices;
 use crate::{PoolName, Stored};
 use api_slice::ResourceSlice;
-use dra_values::{Shared, Text};
+use dra_values::{Duplicate, Shared, Text};
 use shared_map::SharedMap;
 use std::alloc::{AllocError, Global};
 
 /// The slices of each pool that has some, by the pool's name.
-pub type PoolIndex = SharedMap<Shared<PoolName>, Slices>;
+pub type PoolIndex = SharedMap<Shared<PoolName>, PoolSlices>;
 
 /// The slices of a pool among all, which share with those that are kept. They are found by the index, or if there is none,
 /// among all slices. `AllocError` only if memory runs out.
@@ -51,20 +57,62 @@ fn indexed_in(
         driver: driver.copy(alloc)?,
         pool: pool.copy(alloc)?,
     };
-    at_pool(alloc, index, &Shared::new(alloc, name)?)
-}
-
-/// The slices of the pool of a name.
-fn at_pool(alloc: Global, index: &PoolIndex, name: &Shared<PoolName>) -> Result<Slices, AllocError>
-    ensures { IfOk result (λ slices. slices ≡ at_pool index.now name.now) }
-{
-    match index.get(name) {
-        Some(slices) => slices.share(),
+    match index.get(&Shared::new(alloc, name)?) {
+        Some(slices) => slices.slices().share(),
         None => SharedMap::new(alloc),
     }
 }
 
-/// Puts a slice of a name, which is stored, among those of its pool.
+/// The slices of the pool of a name, which are shared.
+fn at_pool(
+    alloc: Global,
+    index: &PoolIndex,
+    name: &Shared<PoolName>,
+) -> Result<PoolSlices, AllocError>
+    ensures { IfOk result (λ slices. slices ≡ at_pool index.now name.now) }
+{
+    match index.get(name) {
+        Some(slices) => slices.duplicate(alloc),
+        None => PoolSlices::new(alloc),
+    }
+}
+
+/// Whether it is known that counters are about none of the usable slices of a pool, by an index if there is one. It
+/// takes one look at the index. `AllocError` only if memory runs out.
+pub fn is_uncounted_in(
+    alloc: Global,
+    pools: &Option<PoolIndex>,
+    driver: &Text,
+    pool: &Text,
+) -> Result<bool, AllocError>
+    ensures { IfOk result (λ known. known ≡ true → (all : Named ResourceSlice) → AreIndexed all pools.now → AreUncounted (slices_of driver.now pool.now all)) }
+{
+    match pools {
+        Some(index) => is_uncounted_at(alloc, index, driver, pool),
+        None => Ok(false),
+    }
+}
+
+/// The same by an index.
+fn is_uncounted_at(
+    alloc: Global,
+    index: &PoolIndex,
+    driver: &Text,
+    pool: &Text,
+) -> Result<bool, AllocError>
+    ensures { IfOk result (λ known. known ≡ true → AreUncounted (objects (at_pool index.now (record { driver = driver.now; pool = pool.now })))) }
+{
+    let name = PoolName {
+        driver: driver.copy(alloc)?,
+        pool: pool.copy(alloc)?,
+    };
+    match index.get(&Shared::new(alloc, name)?) {
+        Some(slices) => Ok(slices.is_uncounted()),
+        None => Ok(true),
+    }
+}
+
+/// Puts a slice of a name that none of its pool has, which is stored, among those of its pool.
 fn add(
     alloc: Global,
     index: &mut PoolIndex,
@@ -72,6 +120,7 @@ fn add(
     name: Text,
     stored: Stored<Shared<ResourceSlice>>,
 ) -> Result<(), AllocError>
+    requires { at_name (at_pool index.old (pool_named slice.now)) name ≡ None }
     ensures { OnOk result ((p : PoolName) → at_pool index.new p ≡ cond (is_in p.driver p.pool slice.now) (insert_entry text_cmp (at_pool index.old p) name stored) (at_pool index.old p)) }
 {
     let pool = Shared::new(alloc, PoolName::of(alloc, slice)?)?;

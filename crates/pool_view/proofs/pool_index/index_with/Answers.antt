@@ -2,8 +2,14 @@ use Rattle.std.proofs.Common.{◌∙◌, ap, subst}
 use Rattle.std.specs.Prelude.{option_copied}
 use Rattle.api_slice.specs.declared.types.ResourceSlice.{ResourceSlice}
 use Rattle.pool_view.specs.PoolIndexes.{AreIndexed, stored_by}
-use Rattle.pool_view.proofs.Indexing.{With, index_put}
+use Rattle.pool_view.specs.Usable.{pool_named}
+use Rattle.pool_view.proofs.Indexing.{With, absent, index_put}
 use Rattle.pool_view.proofs.pool_index.index_with.Goals as goal
+
+pub add-requires : goal.add-requires
+add-requires c =
+    absent c.args.slices.now c.in-Some.index c.take_old.new.index (option_copied c.get-old.result) c.in_ok-name.name c.in_order.ensures c.get-old.ensures (subst (AreIndexed c.args.slices.now) c.in-Some.is c.requires)
+    c.in_ok-take_old.ensures (pool_named c.deref-2.result.now)
 
 pub returns : goal.returns
 returns c =
