@@ -173,18 +173,37 @@ impl Plan {
     pub fn copy(&self, alloc: Global) -> Result<Plan, AllocError>
         ensures { IfOk result (λ copy. copy ≡ self.now) }
     {
+        let (node, passed) = copy_place(alloc, self)?;
+        let (grants, joins, known) = copy_claims(alloc, self)?;
         Ok(Plan {
             at: self.at,
-            node: self.node.copy(alloc)?,
-            passed: self.passed.copy(alloc)?,
-            grants: self.grants.copy(alloc)?,
-            joins: self.joins.copy(alloc)?,
-            known: Known {
-                pod: self.known.pod,
-                claims: self.known.claims.copy(alloc)?,
-            },
+            node,
+            passed,
+            grants,
+            joins,
+            known,
         })
     }
+}
+
+/// Copies of the nodes of a plan.
+fn copy_place(alloc: Global, plan: &Plan) -> Result<(Text, PassedNodes), AllocError>
+    ensures { IfOk result (λ c. (c.0 ≡ plan.now.node) × (c.1 ≡ plan.now.passed)) }
+{
+    let node = plan.node.copy(alloc)?;
+    let passed = plan.passed.copy(alloc)?;
+    Ok((node, passed))
+}
+
+/// Copies of what a plan says of claims.
+fn copy_claims(alloc: Global, plan: &Plan) -> Result<(Seq<Grant>, Seq<Key>, Known), AllocError>
+    ensures { IfOk result (λ c. (c.0 ≡ plan.now.grants) × (c.1 ≡ plan.now.joins) × (c.2 ≡ plan.now.known)) }
+{
+    let joins = plan.joins.copy(alloc)?;
+    let grants = plan.grants.copy(alloc)?;
+    let claims = plan.known.claims.copy(alloc)?;
+    let pod = plan.known.pod;
+    Ok((grants, joins, Known { pod, claims }))
 }
 
 impl Verdict {

@@ -1,4 +1,7 @@
 ghost use Rattle.std.specs.Prelude.{◌≡◌, IfOk, OnOk, OnErr, Some, map, option_map};
+ghost use Rattle.std.specs.BTreeMap.{is_at};
+ghost use Rattle.std.specs.Map.{remove_entry};
+ghost use Rattle.pool_view.specs.Inventory.{with_named};
 ghost use Rattle.cluster.specs.Adopted.{result_of, status_grant};
 ghost use Rattle.cluster.specs.Applied.{new_claim, new_pod, updated_claim, updated_pod};
 ghost use Rattle.cluster.specs.Tables.{changed_at, changed_or_new, with_phase};
@@ -158,18 +161,9 @@ impl State {
         match kept {
             Kept::Node(node) => self.inventory.change(alloc)?.put_node(alloc, index, node),
             Kept::Slice(slice) => self.inventory.change(alloc)?.put_slice(alloc, index, slice),
-            Kept::Class(class) => {
-                let name = class.class().name.copy(alloc)?;
-                put_named(alloc, &mut self.classes, index, name, class)
-            }
-            Kept::Claim(claim) => {
-                let key = claim.claim().key.copy(alloc)?;
-                put_claim(alloc, &mut self.claims, index, key, claim)
-            }
-            Kept::Pod(pod) => {
-                let key = pod.key.copy(alloc)?;
-                put_pod(alloc, &mut self.pods, index, key, pod)
-            }
+            Kept::Class(class) => put_class(alloc, &mut self.classes, index, class),
+            Kept::Claim(claim) => put_claim(alloc, &mut self.claims, index, claim),
+            Kept::Pod(pod) => put_pod(alloc, &mut self.pods, index, pod),
         }
     }
 
@@ -180,19 +174,12 @@ impl State {
         ensures err { OnErr result (self.new ≡ self.old) }
     {
         match target {
-            Target::Node(name) => self.inventory.change(alloc)?.remove_node(alloc, name)?,
-            Target::Slice(name) => self.inventory.change(alloc)?.remove_slice(alloc, name)?,
-            Target::Class(name) => {
-                self.classes.remove(alloc, name)?;
-            }
-            Target::Claim(key) => {
-                self.claims.remove(alloc, key)?;
-            }
-            Target::Pod(key) => {
-                self.pods.remove(alloc, key)?;
-            }
+            Target::Node(name) => self.inventory.change(alloc)?.remove_node(alloc, name),
+            Target::Slice(name) => self.inventory.change(alloc)?.remove_slice(alloc, name),
+            Target::Class(name) => take_out(alloc, &mut self.classes, name),
+            Target::Claim(key) => take_out(alloc, &mut self.claims, key),
+            Target::Pod(key) => take_out(alloc, &mut self.pods, key),
         }
-        Ok(())
     }
 }
 
@@ -422,8 +409,49 @@ fn set_phase(
     }
 }
 
+/// Removes the value of a key, if there is one.
+fn take_out<K: Ord + Duplicate + Drop, V: Duplicate + Drop>(
+    alloc: Global,
+    map: &mut SharedMap<K, V>,
+    key: &K,
+) -> Result<(), AllocError>
+    ensures ok { OnOk result (map.new ≡ remove_entry (is_at (K.cmp key.now)) map.old) }
+    ensures err { OnErr result (map.new ≡ map.old) }
+{
+    map.remove(alloc, key)?;
+    Ok(())
+}
+
+/// Puts a class at its name.
+fn put_class(
+    alloc: Global,
+    classes: &mut SharedMap<Text, Stored<Shared<ReadyClass>>>,
+    index: u64,
+    class: Shared<ReadyClass>,
+) -> Result<(), AllocError>
+    ensures ok { OnOk result (classes.new ≡ with_named index class.name class classes.old) }
+    ensures err { OnErr result (classes.new ≡ classes.old) }
+{
+    let name = class.class().name.copy(alloc)?;
+    put_named(alloc, classes, index, name, class)
+}
+
 /// Puts a claim at its key.
 fn put_claim(
+    alloc: Global,
+    claims: &mut SharedMap<Key, ClaimState>,
+    index: u64,
+    claim: Shared<ReadyClaim>,
+) -> Result<(), AllocError>
+    ensures ok { OnOk result (claims.new ≡ changed_or_new claim.key (new_claim index claim) (updated_claim index claim) claims.old) }
+    ensures err { OnErr result (claims.new ≡ claims.old) }
+{
+    let key = claim.claim().key.copy(alloc)?;
+    put_claim_at(alloc, claims, index, key, claim)
+}
+
+/// Puts a claim at a key.
+fn put_claim_at(
     alloc: Global,
     claims: &mut SharedMap<Key, ClaimState>,
     index: u64,
@@ -472,12 +500,12 @@ fn put_pod(
     alloc: Global,
     pods: &mut SharedMap<Key, PodState>,
     index: u64,
-    key: Key,
     pod: Shared<Pod>,
 ) -> Result<(), AllocError>
-    ensures ok { OnOk result (pods.new ≡ changed_or_new key (new_pod index pod) (updated_pod index pod) pods.old) }
+    ensures ok { OnOk result (pods.new ≡ changed_or_new pod.key (new_pod index pod) (updated_pod index pod) pods.old) }
     ensures err { OnErr result (pods.new ≡ pods.old) }
 {
+    let key = pod.key.copy(alloc)?;
     if pods.contains_key(&key) {
         update_pod(alloc, pods, index, &key, pod)
     } else {

@@ -12,6 +12,7 @@ use Rattle.pool_view.specs.Usable.{node_devices, pool_named}
 use Rattle.counter_sets.specs.Holding.{Holders}
 use Rattle.counter_sets.specs.Totals.{KeptCounters}
 use Rattle.cluster.specs.declared.entry.Entry.{Entry}
+use Rattle.cluster.specs.declared.entry.Event.{Event}
 use Rattle.cluster.specs.declared.entry.JobState.{JobState}
 use Rattle.cluster.specs.declared.plan.DeviceResult.{DeviceResult}
 use Rattle.cluster.specs.declared.state.Granted.{Granted}
@@ -28,7 +29,7 @@ use Rattle.histories.specs.Legal.{Legal, Step}
 use Rattle.node_memo.specs.declared.nodes.LackingNode.{LackingNode}
 use Rattle.node_memo.specs.Dated.{names}
 use Rattle.node_memo.specs.Memo.{IsAmong, NodesFields, TellsRow, lacking_by}
-use Rattle.ledger_core.specs.Ledger.{IsKept}
+use Rattle.ledger_core.specs.Ledger.{IsKept, IsNote}
 use Rattle.ledger_core.specs.Remembered.{AreSet, AreTrueOf, GoesOn, IsSame, IsTrueOf, Remembers, pool_of, pools_held, pools_lost, set_in}
 use Rattle.ledger_core.proofs.Giving.{item_at}
 use Rattle.ledger_core.proofs.Histories.{Legal-more}
@@ -180,6 +181,9 @@ each_with P (z ∷ zs) y h p (suc i) x at = each_with P zs y (λ j w is. h (suc 
 
 pub unset : (index : ℕ) (d : Dates) → AreSet false [] index d d
 unset index d = record { date = refl; freed = λ p. refl }
+
+pub note_unset : (event : Event) (s : State) (index : ℕ) (d : Dates) → IsNote event → AreSet (changes_objects event) (lost_by s event) index d d
+note_unset event s index d note = rw (note.undated, note.kept s) (unset index d)
 
 pub remembers_same : (h : List Entry) (d later : Dates) (memos : List (List NodesFields)) → IsSame d later → Remembers h d memos → Remembers h later memos
 remembers_same h d later memos same was = record {

@@ -1,5 +1,5 @@
 -- What is at a number in a table that was changed.
-use Rattle.std.proofs.Common.{ℕ, ◌≡◌, ◌∙◌, ◌<◌, List, [], ◌∷◌, Bool, true, false, cond, eqb, None, Some, refl, sym, ap, arith, eq-eqb, ne_eqb}
+use Rattle.std.proofs.Common.{ℕ, ◌≡◌, ◌∙◌, ◌<◌, ◌≤◌, List, [], ◌∷◌, Bool, true, false, cond, eqb, None, Some, refl, sym, ap, arith, eq-eqb, ne_eqb}
 use Rattle.std.specs.Ordering.{nat_cmp, is_eq, MatchOrdering, match_ordering}
 use Rattle.std.specs.declared.cmp.Ordering.{Ordering}
 use Rattle.std.specs.declared.cmp.Ordering.TheVariants.{Less, Equal, Greater}
@@ -7,7 +7,9 @@ use Rattle.std.specs.BTreeMap.{insert_entry, is_at}
 use Rattle.std.specs.Map.{set_value}
 use Rattle.std.proofs.lemmas.Cmp.{ranked}
 use Rattle.std.proofs.lemmas.Bool.{eqb-true}
+use Rattle.cluster.specs.declared.entry.JobState.{JobState}
 use Rattle.ledger_core.specs.Ledger.{at}
+use Rattle.ledger_core.specs.Rows.{AreBelow}
 
 test_by : (j k : ℕ) (o : Ordering) → MatchOrdering o (j < k) (j ≡ k) (k < j) → is_eq o ≡ eqb k j
 test_by j k Less lt = sym (ne_eqb k j (λ e. omega arith))
@@ -67,3 +69,21 @@ at_set (e ∷ es) k v w j is =
     let b = test_is k e.0 in
     ap (λ (x : Bool). at (cond x ((e.0, w) ∷ es) (e ∷ set_value (is_at (nat_cmp k)) es w)) j) b
     ∙ set_by k j w v e es (eqb e.0 k) refl (ap (λ (x : Bool). cond x (Some e.1) (at es k)) (sym b) ∙ is) (at_set es k v w j)
+
+-- ---- what is kept beside the rows
+
+pub at_inserted : {V : Type 0} (t : List (ℕ × V)) (k : ℕ) (w : V) → at (insert_entry nat_cmp t k w) k ≡ Some w
+at_inserted t k w = at_insert t k w k ∙ ap (λ (b : Bool). cond b (Some w) (at t k)) (eq-eqb k k refl)
+
+pub at_one_set : {V : Type 0} (t : List (ℕ × V)) (k : ℕ) (v w : V) → at t k ≡ Some v → at (set_value (is_at (nat_cmp k)) t w) k ≡ Some w
+at_one_set t k v w is = at_set t k v w k is ∙ ap (λ (b : Bool). cond b (Some w) (at t k)) (eq-eqb k k refl)
+
+pub below_inserted : (t : List (ℕ × JobState)) (most more k : ℕ) (w : JobState) → AreBelow t most → most ≤ more → k ≤ more → AreBelow (insert_entry nat_cmp t k w) more
+below_inserted t most more k w below le within j lt =
+    at_insert t k w j ∙ ap (λ (b : Bool). cond b (Some w) (at t j)) (ne_eqb k j (λ e. omega (arith, lt, within, e))) ∙ below j (omega (arith, lt, le))
+
+never_above : (t : List (ℕ × JobState)) (most k j : ℕ) (v : JobState) → AreBelow t most → at t k ≡ Some v → most < j → k ≡ j → ⊥
+never_above t most k j v below is lt e = absurd (let none = below j lt in cc)
+
+pub below_set : (t : List (ℕ × JobState)) (most k : ℕ) (v w : JobState) → AreBelow t most → at t k ≡ Some v → AreBelow (set_value (is_at (nat_cmp k)) t w) most
+below_set t most k v w below is j lt = at_set t k v w j is ∙ ap (λ (b : Bool). cond b (Some w) (at t j)) (ne_eqb k j (never_above t most k j v below is lt)) ∙ below j lt

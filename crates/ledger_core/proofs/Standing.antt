@@ -41,6 +41,13 @@ set_pick false w o = refl
 pub row_set : (t : List (ℕ × JobState)) (job : ℕ) (v w : JobState) (j : ℕ) → at t job ≡ Some v → job_state_in (set_value (is_at (nat_cmp job)) t w) j ≡ cond (eqb job j) w (job_state_in t j)
 row_set t job v w j is = ap (λ o. unwrap_or o Fresh) (at_set t job v w j is) ∙ set_pick (eqb job j) w (at t j)
 
+set_found : (t t' : List (ℕ × JobState)) (job : ℕ) (w : JobState) (o : Option JobState) → at t job ≡ o → is_some o ≡ true → t' ≡ set_value (is_at (nat_cmp job)) t w → (j : ℕ) → job_state_in t' j ≡ cond (eqb job j) w (job_state_in t j)
+set_found t t' job w None e there is j = absurd cc
+set_found t t' job w (Some v) e there is j = ap (λ u. job_state_in u j) is ∙ row_set t job v w j e
+
+pub row_set_to : (t t' : List (ℕ × JobState)) (job : ℕ) (w : JobState) → is_some (at t job) ≡ true → t' ≡ set_value (is_at (nat_cmp job)) t w → (j : ℕ) → job_state_in t' j ≡ cond (eqb job j) w (job_state_in t j)
+row_set_to t t' job w there is j = set_found t t' job w (at t job) refl there is j
+
 pick_same : (b : Bool) (w w' x x' : JobState) → (b ≡ true → w ≡ w') → x ≡ x' → cond b w x ≡ cond b w' x'
 pick_same true w w' x x' e f = e refl
 pick_same false w w' x x' e f = f

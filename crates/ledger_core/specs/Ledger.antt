@@ -1,5 +1,5 @@
 -- A ledger as contracts see it.
-use Rattle.std.specs.Prelude.{ℕ, ◌≡◌, ◌≤◌, ◌^◌, ◌<◌, ◌++◌, ◌∷◌, [], List, length, Option}
+use Rattle.std.specs.Prelude.{ℕ, ◌≡◌, ◌≤◌, ◌^◌, ◌<◌, ◌++◌, ◌∷◌, [], List, false, length, Option}
 use Rattle.std.specs.BTreeMap.{is_at}
 use Rattle.std.specs.Map.{lookup}
 use Rattle.std.specs.Option.{unwrap_or}
@@ -14,7 +14,9 @@ use Rattle.cluster.specs.declared.entry.Entry.{Entry}
 use Rattle.cluster.specs.declared.entry.Event.{Event}
 use Rattle.pool_totals.specs.Counting.{AreCounted}
 use Rattle.histories.specs.Legal.{Legal}
+use Rattle.cluster.specs.Events.{after}
 use Rattle.cluster.specs.History.{job_state_of, state_of}
+use Rattle.histories.specs.Growth.{changes_objects, lost_by}
 
 -- its entries, and how many it may have
 pub record History : Type 0 where
@@ -42,3 +44,9 @@ pub record IsKept (entries : List Entry) (state : State) (holders : Holders) (to
   pub job_states_are : (job : ℕ) → job_state_in job_states job ≡ job_state_of entries job
   pub within : length entries ≤ limit
   pub small : limit < 2 ^ 48
+
+-- An event that changes no state and sets no date.
+pub record IsNote (event : Event) : Type 0 where
+  pub same : (index job : ℕ) (s : State) → after index job event s ≡ s
+  pub undated : changes_objects event ≡ false
+  pub kept : (s : State) → lost_by s event ≡ []

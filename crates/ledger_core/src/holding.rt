@@ -26,7 +26,7 @@ use dra_values::{Duplicate, Seq, Shared};
 use node_memo::Dates;
 use object_fields::Key;
 use pool_totals::hold;
-use pool_view::{PoolName, Pools};
+use pool_view::{Inventory, PoolName, Pools};
 use shared_map::SharedMap;
 use std::alloc::{AllocError, Global};
 
@@ -171,6 +171,33 @@ fn reserve_held(
     state.reserve(alloc, job, pod, plan)
 }
 
+/// Makes a plan's grants, where these are the state's nodes and slices. After an error each device is held as it was.
+fn reserve_over(
+    alloc: Global,
+    state: &mut State,
+    inventory: &Inventory,
+    holders: &mut Held,
+    totals: &mut SharedTotals,
+    job: u64,
+    pod: &Key,
+    plan: &Plan,
+) -> Result<(), AllocError>
+    requires counted { AreCounted inventory.now holders.old totals.old }
+    ensures ok { OnOk result (state.new ≡ with_reserved job pod.now plan.now state.old) }
+    ensures given { OnOk result ((id : DeviceId) → holder_in holders.new id ≡ given_each plan.now.grants id (holder_in holders.old id)) }
+    ensures err { OnErr result (state.new ≡ state.old) }
+    ensures same { OnErr result (holders.new ≡ holders.old) }
+    ensures counted { AreCounted inventory.now holders.new totals.new }
+{
+    let pools = Pools::of(alloc, inventory)?;
+    let mut next = holders.share()?;
+    let mut drawn = totals.share()?;
+    reserve_held(alloc, state, &pools, &mut next, &mut drawn, job, pod, plan)?;
+    *holders = next;
+    *totals = drawn;
+    Ok(())
+}
+
 /// Makes a plan's grants, and returns the pod's key and the plan again. `AllocError` is returned only if memory runs
 /// out, and then the state is as it was, and each device is held as it was.
 pub fn reserve(
@@ -190,16 +217,11 @@ pub fn reserve(
     ensures same { OnErr result (holders.new ≡ holders.old) }
     ensures counted { AreCounted state.old.inventory holders.new totals.new }
 {
+    state.sort(alloc)?;
     let kept_pod = pod.copy(alloc)?;
     let kept_plan = Shared::new(alloc, plan.copy(alloc)?)?;
-    state.sort(alloc)?;
     let inventory = state.inventory.share()?;
-    let pools = Pools::of(alloc, &inventory)?;
-    let mut next = holders.share()?;
-    let mut drawn = totals.share()?;
-    reserve_held(alloc, state, &pools, &mut next, &mut drawn, job, pod, plan)?;
-    *holders = next;
-    *totals = drawn;
+    reserve_over(alloc, state, &inventory, holders, totals, job, pod, plan)?;
     Ok((kept_pod, kept_plan))
 }
 
@@ -301,6 +323,40 @@ fn free_held(
     state.free(alloc, index, pod)
 }
 
+/// Takes the uses of a pod away, where these are the state's nodes and slices. After an error nothing has changed.
+fn free_over(
+    alloc: Global,
+    state: &mut State,
+    inventory: &Inventory,
+    holders: &mut Held,
+    totals: &mut SharedTotals,
+    dates: &mut Shared<Dates>,
+    index: u64,
+    pod: &Key,
+) -> Result<(), AllocError>
+    requires counted { AreCounted inventory.now holders.old totals.old }
+    ensures ok { OnOk result (state.new ≡ without_uses index pod.now state.old) }
+    ensures left { OnOk result ((id : DeviceId) → holder_in holders.new id ≡ left_by (lost_with state.old pod.now) id (holder_in holders.old id)) }
+    ensures dated { OnOk result (AreSet false (lost_with state.old pod.now) index dates.old dates.new) }
+    ensures err { OnErr result (state.new ≡ state.old) }
+    ensures same { OnErr result (holders.new ≡ holders.old) }
+    ensures undated { OnErr result (IsSame dates.old dates.new) }
+    ensures counted { AreCounted inventory.now holders.new totals.new }
+{
+    let pools = Pools::of(alloc, inventory)?;
+    let mut next = holders.share()?;
+    let mut drawn = totals.share()?;
+    let mut later = dates.share()?;
+    let dated = later.change(alloc)?;
+    free_held(
+        alloc, state, &pools, &mut next, &mut drawn, dated, index, pod,
+    )?;
+    *holders = next;
+    *totals = drawn;
+    *dates = later;
+    Ok(())
+}
+
 /// Takes the uses of a pod away, by the entry at this index, and returns its key again. `AllocError`
 /// is returned only if memory runs out, and then nothing changed.
 pub fn free(
@@ -322,20 +378,10 @@ pub fn free(
     ensures undated { OnErr result (IsSame dates.old dates.new) }
     ensures counted { AreCounted state.old.inventory holders.new totals.new }
 {
-    let kept = pod.copy(alloc)?;
     state.sort(alloc)?;
+    let kept = pod.copy(alloc)?;
     let inventory = state.inventory.share()?;
-    let pools = Pools::of(alloc, &inventory)?;
-    let mut next = holders.share()?;
-    let mut drawn = totals.share()?;
-    let mut later = dates.share()?;
-    let dated = later.change(alloc)?;
-    free_held(
-        alloc, state, &pools, &mut next, &mut drawn, dated, index, pod,
-    )?;
-    *holders = next;
-    *totals = drawn;
-    *dates = later;
+    free_over(alloc, state, &inventory, holders, totals, dates, index, pod)?;
     Ok(kept)
 }
 
@@ -375,6 +421,33 @@ fn remove_held(
     state.remove(alloc, target)
 }
 
+/// Takes away a claim, with whose grant these results go, where these are the state's nodes and slices. After an error
+/// each device is held as it was.
+fn remove_over(
+    alloc: Global,
+    state: &mut State,
+    inventory: &Inventory,
+    holders: &mut Held,
+    totals: &mut SharedTotals,
+    target: &Target,
+    results: &[DeviceResult],
+) -> Result<(), AllocError>
+    requires counted { AreCounted inventory.now holders.old totals.old }
+    ensures ok { OnOk result (state.new ≡ without_object target.now state.old) }
+    ensures left { OnOk result ((id : DeviceId) → holder_in holders.new id ≡ left_of results.now id (holder_in holders.old id)) }
+    ensures err { OnErr result (state.new ≡ state.old) }
+    ensures same { OnErr result (holders.new ≡ holders.old) }
+    ensures counted { AreCounted inventory.now holders.new totals.new }
+{
+    let pools = Pools::of(alloc, inventory)?;
+    let mut next = holders.share()?;
+    let mut drawn = totals.share()?;
+    remove_held(alloc, state, &pools, &mut next, &mut drawn, target, results)?;
+    *holders = next;
+    *totals = drawn;
+    Ok(())
+}
+
 /// Takes away a claim, with whose grant these results go.
 fn remove_granted(
     alloc: Global,
@@ -395,13 +468,7 @@ fn remove_granted(
 {
     state.sort(alloc)?;
     let inventory = state.inventory.share()?;
-    let pools = Pools::of(alloc, &inventory)?;
-    let mut next = holders.share()?;
-    let mut drawn = totals.share()?;
-    remove_held(alloc, state, &pools, &mut next, &mut drawn, target, results)?;
-    *holders = next;
-    *totals = drawn;
-    Ok(())
+    remove_over(alloc, state, &inventory, holders, totals, target, results)
 }
 
 /// Takes away a claim, with whose grant its devices go back.
@@ -597,6 +664,36 @@ fn adopt_held(
     state.adopt(alloc, index, claim, status)
 }
 
+/// Grants a claim what a status write says, where these are the state's nodes and slices. After an error each device is
+/// held as it was.
+fn adopt_over(
+    alloc: Global,
+    state: &mut State,
+    inventory: &Inventory,
+    holders: &mut Held,
+    totals: &mut SharedTotals,
+    index: u64,
+    claim: &Key,
+    status: &ClaimStatus,
+) -> Result<(), AllocError>
+    requires counted { AreCounted inventory.now holders.old totals.old }
+    ensures ok { OnOk result (state.new ≡ with_adopted index claim.now status.now state.old) }
+    ensures given { OnOk result ((id : DeviceId) → holder_in holders.new id ≡ given_to claim.now (map result_of status.now.results) id (holder_in holders.old id)) }
+    ensures err { OnErr result (state.new ≡ state.old) }
+    ensures same { OnErr result (holders.new ≡ holders.old) }
+    ensures counted { AreCounted inventory.now holders.new totals.new }
+{
+    let pools = Pools::of(alloc, inventory)?;
+    let mut next = holders.share()?;
+    let mut drawn = totals.share()?;
+    adopt_held(
+        alloc, state, &pools, &mut next, &mut drawn, index, claim, status,
+    )?;
+    *holders = next;
+    *totals = drawn;
+    Ok(())
+}
+
 /// Grants a claim what a status write says, by the entry at this index, and returns the claim's key again. `AllocError`
 /// is returned only if memory runs out, and then the state is as it was, and each device is held as it was.
 pub fn adopt(
@@ -616,16 +713,11 @@ pub fn adopt(
     ensures same { OnErr result (holders.new ≡ holders.old) }
     ensures counted { AreCounted state.old.inventory holders.new totals.new }
 {
-    let kept = claim.copy(alloc)?;
     state.sort(alloc)?;
+    let kept = claim.copy(alloc)?;
     let inventory = state.inventory.share()?;
-    let pools = Pools::of(alloc, &inventory)?;
-    let mut next = holders.share()?;
-    let mut drawn = totals.share()?;
-    adopt_held(
-        alloc, state, &pools, &mut next, &mut drawn, index, claim, status,
+    adopt_over(
+        alloc, state, &inventory, holders, totals, index, claim, status,
     )?;
-    *holders = next;
-    *totals = drawn;
     Ok(kept)
 }

@@ -1,7 +1,7 @@
 ghost use Rattle.std.specs.Prelude.{◌≡◌, ◌≤◌, ◌<◌, ◌^◌, ◌+◌, [], length, ℕ, true, IfOk, OnOk, OnErr, IsErrOf, IsSome, None, is_some, vec_len, option_copied};
 ghost use Rattle.std.specs.Vec.{vec_capacity};
 ghost use Rattle.std.specs.Map.{lookup};
-ghost use Rattle.counter_sets.specs.Holding.{AreHeld};
+ghost use Rattle.counter_sets.specs.Holding.{AreHeld, Holders};
 ghost use Rattle.pool_totals.specs.Counting.{AreCounted};
 ghost use Rattle.pool_totals.specs.Drawn.{AreDrawn};
 ghost use Rattle.pool_view.specs.Names.{at_key, device_eq};
@@ -27,9 +27,9 @@ ghost use Rattle.histories.specs.Denied.{MayDeny};
 ghost use Rattle.histories.specs.VerdictGiven.{MayJudge};
 ghost use Rattle.histories.specs.Growth.{AreDatesOf, is_searched};
 ghost use Rattle.plan_rules.specs.Failing.{failing};
-ghost use Rattle.ledger_core.specs.Ledger.{appended, at, job_state_in};
+ghost use Rattle.ledger_core.specs.Ledger.{IsNote, appended, at, job_state_in};
 ghost use Rattle.ledger_core.specs.Remembered.{AreSet, IsSame, IsTrueOf};
-ghost use Rattle.histories.specs.Legal.{Legal};
+ghost use Rattle.histories.specs.Legal.{Legal, Step};
 ghost use Rattle.histories.specs.Refused.{MayRefuse};
 ghost use Rattle.histories.specs.Released.{MayRelease, release_of};
 ghost use Rattle.histories.specs.Reserved.{IsPlanned, MayReserve, reservation};
@@ -43,7 +43,7 @@ use crate::deleting::delete_refusal;
 use crate::holding::{adopt, free, remove, reserve};
 use crate::memos::{put_last, take_last};
 use crate::plans::true_plans_pass;
-use crate::room::{JobStates, append, failures, job_state_in, make_room};
+use crate::room::{JobStates, add, append, failures, make_room};
 use crate::snapshot::Snapshot;
 use api_claim::ClaimStatus;
 use cluster::{
@@ -51,7 +51,7 @@ use cluster::{
     Refusal, State, Target, Use, Users, Verdict,
 };
 use counter_sets::{Held, SharedTotals};
-use dra_values::{Shared, Table, Text};
+use dra_values::{Shared, Text};
 use engine_ports::Engine;
 use full_nodes::learn_full_slices;
 use histories::{one_holder, uids_keep_claims, users_are_busy};
@@ -79,7 +79,7 @@ pub enum Start {
     /// The command was denied, which ends its job.
     Denied(Done),
     /// The pod is there and Idle, and a search over the present state may begin.
-    Seen(Snapshot),
+    Seen(Shared<Snapshot>),
 }
 
 /// A legal history, and the state after it.
@@ -117,16 +117,16 @@ impl Ledger {
         ensures { IfOk result (λ ledger. ledger ≡ record { entries = []; limit = limit }) }
     {
         memory_goes_on();
-        let state = State::new(alloc)?;
-        let holders = Held::new(alloc)?;
-        let totals = new_totals(alloc, &state.inventory)?;
         let dates = Shared::new(alloc, Dates::new(alloc)?)?;
+        let holders = Held::new(alloc)?;
+        let state = State::new(alloc)?;
+        let totals = new_totals(alloc, &state.inventory)?;
         Ok(Ledger {
             entries: Vec::new(alloc),
             state,
             holders,
             totals,
-            job_states: Table::new(alloc),
+            job_states: JobStates::new(alloc),
             limit,
             dates,
             memos: Vec::new(alloc),
@@ -174,7 +174,8 @@ impl Ledger {
     /// The counters of the usable pools after all entries, with what the devices draw from each that claims hold.
     /// Allocates nothing.
     pub fn totals(&self) -> &SharedTotals
-        ensures { AreDrawn (state_of self.now.entries).inventory (held (state_of self.now.entries)) result.now }
+        ensures drawn { AreDrawn (state_of self.now.entries).inventory (held (state_of self.now.entries)) result.now }
+        ensures counted { (h : Holders) → AreHeld h (held (state_of self.now.entries)) → AreCounted (state_of self.now.entries).inventory h result.now }
     {
         kept_totals_are_drawn();
         &self.totals
@@ -229,7 +230,7 @@ impl Ledger {
     pub fn job_state(&self, job: u64) -> JobState
         ensures { result ≡ job_state_of self.now.entries job }
     {
-        job_state_in(&self.job_states, job)
+        self.job_states.state(job)
     }
 
     /// Applies an object whose selectors are compiled, by the mode: it is created, with the entry's index
@@ -332,8 +333,7 @@ impl Ledger {
                 Ok(Start::Seen(snapshot))
             }
             Some(refusal) => {
-                let pod = pod.copy(alloc)?;
-                let done = self.refuse(job, Command::Schedule(pod), refusal)?;
+                let done = self.refuse_schedule(alloc, job, pod, refusal)?;
                 Ok(Start::Denied(done))
             }
         }
@@ -363,10 +363,7 @@ impl Ledger {
     {
         match self.state.schedule_refusal(alloc, pod)? {
             None => self.reserve_idle::<E>(alloc, job, pod, plan),
-            Some(refusal) => {
-                let pod = pod.copy(alloc)?;
-                self.refuse(job, Command::Schedule(pod), refusal)
-            }
+            Some(refusal) => self.refuse_schedule(alloc, job, pod, refusal),
         }
     }
 
@@ -468,11 +465,9 @@ impl Ledger {
         ensures full { (n : ℕ) → IsErrOf result (LedgerError.Full n) → (length self.old.entries ≡ n) × (self.old.limit ≤ n) }
         ensures err { OnErr result (self.new ≡ self.old) }
     {
-        memory_goes_on();
-        let index = make_room(&mut self.entries, &mut self.job_states, self.limit, job)?;
+        let _entries = self.len();
         let (pod, verdict) = kept(alloc, pod, verdict)?;
-        let event = Event::VerdictGiven { pod, verdict };
-        append(&mut self.entries, &mut self.job_states, job, event);
+        let index = self.note(job, Event::VerdictGiven { pod, verdict })?;
         Ok(Done {
             index,
             outcome: Outcome::Made,
@@ -494,12 +489,10 @@ impl Ledger {
         ensures full { (n : ℕ) → IsErrOf result (LedgerError.Full n) → (length self.old.entries ≡ n) × (self.old.limit ≤ n) }
         ensures err { OnErr result (self.new ≡ self.old) }
     {
+        let _entries = self.len();
         let attempts = failures(self.job_state(job));
-        memory_goes_on();
-        let index = make_room(&mut self.entries, &mut self.job_states, self.limit, job)?;
         let pod = pod.copy(alloc)?;
-        let event = Event::Contended { pod, attempts };
-        append(&mut self.entries, &mut self.job_states, job, event);
+        let index = self.note(job, Event::Contended { pod, attempts })?;
         Ok(Done {
             index,
             outcome: Outcome::Made,
@@ -548,12 +541,11 @@ impl Ledger {
         ensures full { (n : ℕ) → IsErrOf result (LedgerError.Full n) → (length self.old.entries ≡ n) × (self.old.limit ≤ n) }
         ensures err { OnErr result (self.new ≡ self.old) }
     {
-        match self.state.status_refusal(claim, &status) {
+        let _entries = self.len();
+        let status = Shared::new(alloc, status)?;
+        match self.state.status_refusal(claim, status.value()) {
             None => self.adopt_free::<E>(alloc, job, claim, status),
-            Some(refusal) => {
-                let (claim, status) = kept(alloc, claim, status)?;
-                self.refuse(job, Command::Adopt { claim, status }, refusal)
-            }
+            Some(refusal) => self.refuse_status(alloc, job, claim, status, refusal),
         }
     }
 }
@@ -629,6 +621,27 @@ impl Ledger {
         })
     }
 
+    /// Appends an entry whose event changes no state and sets no date, and returns its index.
+    fn note(&mut self, job: u64, event: Event) -> Result<u64, LedgerError>
+        requires step { Step self.old.entries (record { job = job; event = event }) }
+        requires note { IsNote event }
+        ensures ok { OnOk result (self.new ≡ appended self.old job event) }
+        ensures index { IfOk result (λ index. index ≡ length self.new.entries) }
+        ensures legal { Legal self.new.entries }
+        ensures full { (n : ℕ) → IsErrOf result (LedgerError.Full n) → (length self.old.entries ≡ n) × (self.old.limit ≤ n) }
+        ensures err { OnErr result (self.new ≡ self.old) }
+    {
+        memory_goes_on();
+        let index = add(
+            &mut self.entries,
+            &mut self.job_states,
+            self.limit,
+            job,
+            event,
+        )?;
+        Ok(index)
+    }
+
     /// Refuses a command.
     fn refuse(&mut self, job: u64, command: Command, refusal: Refusal) -> Result<Done, LedgerError>
         requires job_state { allows (job_state_of self.old.entries job) (Denied command refusal) ≡ true }
@@ -640,10 +653,7 @@ impl Ledger {
         ensures full { (n : ℕ) → IsErrOf result (LedgerError.Full n) → (length self.old.entries ≡ n) × (self.old.limit ≤ n) }
         ensures err { OnErr result (self.new ≡ self.old) }
     {
-        memory_goes_on();
-        let index = make_room(&mut self.entries, &mut self.job_states, self.limit, job)?;
-        let event = Event::Denied { command, refusal };
-        append(&mut self.entries, &mut self.job_states, job, event);
+        let index = self.note(job, Event::Denied { command, refusal })?;
         Ok(Done {
             index,
             outcome: Outcome::Denied,
@@ -683,14 +693,14 @@ impl Ledger {
         alloc: Global,
         pod: &Key,
         plan: &Plan,
-    ) -> Result<Option<Failure>, AllocError>
+    ) -> Result<Option<Shared<Failure>>, AllocError>
         requires { IsPlanned self.now.entries pod.now plan.now }
         ensures first { IfOk result (λ found. found ≡ failing (state_of self.now.entries) pod.now plan.now) }
         ensures legal { Legal self.now.entries }
     {
         true_plans_pass();
         let at = self.len();
-        E::check_again(
+        let failure = E::check_again(
             alloc,
             &self.state,
             &self.holders,
@@ -698,7 +708,8 @@ impl Ledger {
             pod,
             plan,
             at,
-        )
+        )?;
+        shared(alloc, failure)
     }
 
     /// Records why a plan fails.
@@ -708,7 +719,7 @@ impl Ledger {
         job: u64,
         pod: &Key,
         plan: &Plan,
-        why: Failure,
+        why: Shared<Failure>,
     ) -> Result<Done, LedgerError>
         requires job_state { may_try (job_state_of self.old.entries job) ≡ true }
         requires refused { MayRefuse self.old.entries pod.now plan.now why }
@@ -719,12 +730,9 @@ impl Ledger {
         ensures full { (n : ℕ) → IsErrOf result (LedgerError.Full n) → (length self.old.entries ≡ n) × (self.old.limit ≤ n) }
         ensures err { OnErr result (self.new ≡ self.old) }
     {
-        memory_goes_on();
-        let index = make_room(&mut self.entries, &mut self.job_states, self.limit, job)?;
-        let (pod, plan) = copies(alloc, pod, plan)?;
-        let why = Shared::new(alloc, why)?;
-        let event = Event::Refused { pod, plan, why };
-        append(&mut self.entries, &mut self.job_states, job, event);
+        let _entries = self.len();
+        let event = refused(alloc, pod, plan, why)?;
+        let index = self.note(job, event)?;
         Ok(Done {
             index,
             outcome: Outcome::Refused,
@@ -816,8 +824,7 @@ impl Ledger {
         ensures full { (n : ℕ) → IsErrOf result (LedgerError.Full n) → (length self.old.entries ≡ n) × (self.old.limit ≤ n) }
         ensures err { OnErr result (self.new ≡ self.old) }
     {
-        memory_goes_on();
-        let index = make_room(&mut self.entries, &mut self.job_states, self.limit, job)?;
+        let _entries = self.len();
         let pod = pod.copy(alloc)?;
         let claim = claim.copy(alloc)?;
         let event = Event::Conflict {
@@ -826,7 +833,7 @@ impl Ledger {
             had,
             now,
         };
-        append(&mut self.entries, &mut self.job_states, job, event);
+        let index = self.note(job, event)?;
         Ok(Done {
             index,
             outcome: Outcome::Conflicted,
@@ -870,7 +877,7 @@ impl Ledger {
         alloc: Global,
         job: u64,
         claim: &Key,
-        status: ClaimStatus,
+        status: Shared<ClaimStatus>,
     ) -> Result<Done, LedgerError>
         requires job_state { is_fresh (job_state_of self.old.entries job) ≡ true }
         requires unrefused { first_refusal (state_of self.old.entries) (Adopt claim.now status) ≡ None }
@@ -881,24 +888,65 @@ impl Ledger {
         ensures full { (n : ℕ) → IsErrOf result (LedgerError.Full n) → (length self.old.entries ≡ n) × (self.old.limit ≤ n) }
         ensures err { OnErr result (self.new ≡ self.old) }
     {
-        match E::check_status(
+        let failure = E::check_status(
             alloc,
             &self.state,
             &self.holders,
             &self.totals,
             claim,
-            &status,
-        )? {
-            None => {
-                let status = Shared::new(alloc, status)?;
-                self.make_grant(alloc, job, claim, status)
-            }
+            status.value(),
+        )?;
+        match shared(alloc, failure)? {
+            None => self.make_grant(alloc, job, claim, status),
             Some(failure) => {
-                let (claim, status) = kept(alloc, claim, status)?;
-                let refusal = Refusal::Failure(Shared::new(alloc, failure)?);
-                self.refuse(job, Command::Adopt { claim, status }, refusal)
+                self.refuse_status(alloc, job, claim, status, Refusal::Failure(failure))
             }
         }
+    }
+
+    /// Refuses to schedule a pod.
+    fn refuse_schedule(
+        &mut self,
+        alloc: Global,
+        job: u64,
+        pod: &Key,
+        refusal: Refusal,
+    ) -> Result<Done, LedgerError>
+        requires job_state { may_try (job_state_of self.old.entries job) ≡ true }
+        requires due { MayDeny (state_of self.old.entries) (Schedule pod.now) refusal }
+        ensures ok { OnOk result (self.new ≡ appended self.old job (Denied (Schedule pod.now) refusal)) }
+        ensures index { IfOk result (λ done. done.index ≡ length self.new.entries) }
+        ensures outcome { IfOk result (λ done. done.outcome ≡ Outcome.Denied) }
+        ensures legal { Legal self.new.entries }
+        ensures full { (n : ℕ) → IsErrOf result (LedgerError.Full n) → (length self.old.entries ≡ n) × (self.old.limit ≤ n) }
+        ensures err { OnErr result (self.new ≡ self.old) }
+    {
+        let _entries = self.len();
+        let pod = pod.copy(alloc)?;
+        self.refuse(job, Command::Schedule(pod), refusal)
+    }
+
+    /// Refuses a status write.
+    fn refuse_status(
+        &mut self,
+        alloc: Global,
+        job: u64,
+        claim: &Key,
+        status: Shared<ClaimStatus>,
+        refusal: Refusal,
+    ) -> Result<Done, LedgerError>
+        requires job_state { is_fresh (job_state_of self.old.entries job) ≡ true }
+        requires due { MayDeny (state_of self.old.entries) (Adopt claim.now status) refusal }
+        ensures ok { OnOk result (self.new ≡ appended self.old job (Denied (Adopt claim.now status) refusal)) }
+        ensures index { IfOk result (λ done. done.index ≡ length self.new.entries) }
+        ensures outcome { IfOk result (λ done. done.outcome ≡ Outcome.Denied) }
+        ensures legal { Legal self.new.entries }
+        ensures full { (n : ℕ) → IsErrOf result (LedgerError.Full n) → (length self.old.entries ≡ n) × (self.old.limit ≤ n) }
+        ensures err { OnErr result (self.new ≡ self.old) }
+    {
+        let _entries = self.len();
+        let claim = claim.copy(alloc)?;
+        self.refuse(job, Command::Adopt { claim, status }, refusal)
     }
 
     /// Grants a claim what a status write says, of which nothing refuses it.
@@ -1021,13 +1069,23 @@ fn kept<T: Drop>(alloc: Global, key: &Key, value: T) -> Result<(Key, Shared<T>),
     Ok((key, value))
 }
 
-/// Equal copies of a pod's key and a plan.
-fn copies(alloc: Global, pod: &Key, plan: &Plan) -> Result<(Key, Shared<Plan>), AllocError>
-    ensures { IfOk result (λ copies. (copies.0 ≡ pod.now) × (copies.1 ≡ plan.now)) }
+/// The same value behind a pointer, if there is one.
+fn shared<T: Drop>(alloc: Global, value: Option<T>) -> Result<Option<Shared<T>>, AllocError>
+    ensures { IfOk result (λ shared. shared ≡ value) }
+{
+    match value {
+        None => Ok(None),
+        Some(value) => Ok(Some(Shared::new(alloc, value)?)),
+    }
+}
+
+/// That a plan for a pod fails.
+fn refused(alloc: Global, pod: &Key, plan: &Plan, why: Shared<Failure>) -> Result<Event, AllocError>
+    ensures { IfOk result (λ event. event ≡ Refused pod.now plan.now why) }
 {
     let pod = pod.copy(alloc)?;
     let plan = Shared::new(alloc, plan.copy(alloc)?)?;
-    Ok((pod, plan))
+    Ok(Event::Refused { pod, plan, why })
 }
 
 /// The version of a claim that a pod assumed, if it has.
@@ -1086,7 +1144,7 @@ fn take_snapshot(
     pod: &Key,
     at: u64,
     learns: bool,
-) -> Result<Snapshot, AllocError>
+) -> Result<Shared<Snapshot>, AllocError>
     requires holders { AreHeld holders.now (held state.old) }
     requires totals { AreCounted state.old.inventory holders.now totals.now }
     ensures same { state.new ≡ state.old }
@@ -1094,10 +1152,10 @@ fn take_snapshot(
 {
     state.sort(alloc)?;
     learn(alloc, state, holders, pod, learns)?;
-    let state = state.share()?;
     let holders = holders.share()?;
     let totals = totals.share()?;
-    Ok(Snapshot::of(at, state, holders, totals))
+    let state = state.share()?;
+    Shared::new(alloc, Snapshot::of(at, state, holders, totals))
 }
 
 /// Lets the inventory find out about slices for the searches of a pod, if it exists and the inventory is to learn. The

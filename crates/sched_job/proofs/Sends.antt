@@ -1,10 +1,9 @@
 -- The ledger, and what a job holds, may go to another thread. What holds a compiled selector has no lemma of its own,
 -- since a selector holds trees, which hold trees, and a search that goes down to them runs out of steps; so it goes type
 -- by type from below.
-use denote.Param.Send.{IsSend, IsSync, sendable, view_send}
-use denote.Param.SendFields.{declared_send, variants_send}
+use denote.Param.Send.{IsSend, IsSync, sendable, view_send, view_sync}
+use denote.Param.SendFields.{declared_send, declared_sync, variants_send}
 use Rattle.std.proofs.Crossing.{crosses}
-use Rattle.std.proofs.MapsCrossing as maps
 use Rattle.api_claim.proofs.types.ClaimStatus.TheSendSync as status
 use Rattle.api_claim.proofs.types.ResourceClaim.TheSendSync as claim
 use Rattle.api_cluster.proofs.types.DeviceClass.TheSendSync as class
@@ -13,7 +12,6 @@ use Rattle.api_cluster.proofs.types.Pod.TheSendSync as pod
 use Rattle.api_slice.proofs.types.ResourceSlice.TheSendSync as slice
 use Rattle.cel_tree.proofs.tree.Kind.TheLaws.TheKnot as tree
 use Rattle.cluster.proofs.entry.Entry.TheSendSync as entry
-use Rattle.cluster.proofs.entry.JobState.TheSendSync as job_state
 use Rattle.cluster.proofs.object.Object.TheSendSync as object
 use Rattle.cluster.proofs.state.Granted.TheSendSync as granted
 use Rattle.cluster.proofs.state.PodState.TheSendSync as pod_state
@@ -21,6 +19,7 @@ use Rattle.cluster.proofs.users.Users.TheSendSync as users
 use Rattle.counter_sets.proofs.held.Held.TheSendSync as held
 use Rattle.counter_sets.proofs.shared.SharedTotals.TheSendSync as totals
 use Rattle.dra_values.proofs.text.Text.TheSendSync as text
+use Rattle.ledger_core.proofs.room.JobStates.TheSendSync as job_states
 use Rattle.node_memo.proofs.dates.Dates.TheSendSync as dates
 use Rattle.node_memo.proofs.memo.Memo.TheSendSync as memo
 use Rattle.object_fields.proofs.key.Key.TheSendSync as key
@@ -85,6 +84,18 @@ state_send = declared_send State.the_type (
   ),
 )
 
+state_sync : IsSync State.the_row
+state_sync = declared_sync State.the_type (
+  search (inventory.the_send, inventory.the_sync, crosses, sendable) depth 60 fits 20000,
+  (
+    search (class_send, class_sync, text.the_send, text.the_sync, shared_map.the_sync, crosses, sendable) depth 60 fits 20000,
+    (
+      search (claim_state_send, claim_state_sync, key.the_send, key.the_sync, shared_map.the_sync, sendable) depth 60 fits 20000,
+      (search (pod_state.the_send, pod_state.the_sync, key.the_send, key.the_sync, shared_map.the_sync, sendable) depth 60 fits 20000, tt),
+    ),
+  ),
+)
+
 pub ledger_send : IsSend Ledger.the_row
 ledger_send = view_send _ _ _ _ _ (declared_send LedgerInside.the_type (
   search (entry.the_send, crosses, sendable) depth 60 fits 20000,
@@ -95,7 +106,7 @@ ledger_send = view_send _ _ _ _ _ (declared_send LedgerInside.the_type (
       (
         search (totals.the_send, totals.the_sync, crosses, sendable) depth 60 fits 20000,
         (
-          search (job_state.the_send, maps.crosses, crosses, sendable) depth 60 fits 20000,
+          search (job_states.the_send, sendable) depth 60 fits 20000,
           (
             search sendable depth 60 fits 20000,
             (
@@ -126,6 +137,18 @@ snapshot_send = view_send _ _ _ _ _ (declared_send SnapshotInside.the_type (
   ),
 ))
 
+snapshot_sync : IsSync Snapshot.the_row
+snapshot_sync = view_sync _ _ _ _ _ (declared_sync SnapshotInside.the_type (
+  search sendable depth 60 fits 20000,
+  (
+    search (state_sync, sendable) depth 60 fits 20000,
+    (
+      search (held.the_send, held.the_sync, crosses, sendable) depth 60 fits 20000,
+      (search (totals.the_send, totals.the_sync, crosses, sendable) depth 60 fits 20000, tt),
+    ),
+  ),
+))
+
 kept_send : IsSend Kept.the_row
 kept_send = search (claim_send, claim_sync, class_send, class_sync, node.the_send, node.the_sync, slice.the_send, slice.the_sync, pod.the_send, pod.the_sync, crosses, sendable) depth 60 fits 20000
 
@@ -142,8 +165,8 @@ stage_send : IsSend Stage.the_row
 stage_send = variants_send Stage.enum (
   tt,
   (
-    (search (snapshot_send, sendable) depth 60 fits 20000, tt),
-    ((search (decision.the_send, sendable) depth 60 fits 20000, tt), tt),
+    (search (snapshot_send, snapshot_sync, crosses, sendable) depth 60 fits 20000, tt),
+    ((search (decision.the_send, decision.the_sync, crosses, sendable) depth 60 fits 20000, tt), tt),
   ),
 )
 

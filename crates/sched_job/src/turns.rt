@@ -249,7 +249,7 @@ fn attempt<E: Engine>(
 {
     match stage {
         Stage::Chosen(choice) => {
-            carry_out::<E>(alloc, ledger, job, pod, choice)?;
+            carry_out::<E>(alloc, ledger, job, pod, choice.value())?;
             Ok(Stage::Ready)
         }
         Stage::Ready | Stage::Seen(_) => begin(alloc, ledger, job, pod),

@@ -15,6 +15,7 @@ use crate::turns::step;
 use cluster::JobState;
 use commands::Command;
 use dra_ports::{Gate, Point};
+use dra_values::Shared;
 use engine_ports::{Decision, Engine, may_schedule};
 use histories::{histories_grow, legal_steps};
 use ledger_core::{Ledger, LedgerError, Snapshot};
@@ -27,9 +28,9 @@ pub enum Stage {
     /// Nothing.
     Ready,
     /// A search over this snapshot is next.
-    Seen(Snapshot),
+    Seen(Shared<Snapshot>),
     /// What a search found.
-    Chosen(Decision),
+    Chosen(Shared<Decision>),
 }
 
 /// The work of one job.
@@ -205,7 +206,7 @@ fn search_for<E: Engine>(
 {
     match stage {
         Stage::Seen(snapshot) => {
-            let made = choose::<E>(alloc, pod, snapshot, notes, budget)?;
+            let made = choose::<E>(alloc, pod, snapshot.value(), notes, budget)?;
             *stage = made;
             Ok(())
         }
@@ -227,7 +228,7 @@ fn choose<E: Engine>(
 {
     if may_schedule(snapshot.state(), pod) {
         let decision = decide_for::<E>(alloc, pod, snapshot, notes, budget)?;
-        Ok(Stage::Chosen(decision))
+        Ok(Stage::Chosen(Shared::new(alloc, decision)?))
     } else {
         Ok(Stage::Ready)
     }

@@ -1,32 +1,15 @@
-use Rattle.std.proofs.Common.{◌≡◌, ◌∙◌, ap, refl, sym, subst}
-use Rattle.cluster.specs.declared.entry.Entry.{Entry}
-use Rattle.cluster.specs.declared.entry.Event.TheVariants.{Contended}
+use Rattle.std.proofs.Common.{◌≡◌, ◌∙◌, ap, refl}
 use Rattle.cluster.specs.declared.entry.JobState.{JobState}
 use Rattle.cluster.specs.History.{job_state_of}
 use Rattle.cluster.specs.JobState.{failures}
-use Rattle.ledger_core.specs.Ledger.{History}
-use Rattle.histories.specs.Legal.{Step}
-use Rattle.ledger_core.proofs.Keeping.{few_tries, kept_more, may_contend}
-use Rattle.ledger_core.proofs.Remembering.{remembers_more, unset}
+use Rattle.ledger_core.proofs.Keeping.{may_contend}
 use Rattle.ledger_core.proofs.ledger.Ledger.record_contended.Goals as goal
 
-pub invariant_of-self-2 : goal.invariant_of-self-2
-invariant_of-self-2 c =
-    let kept = c.self.invariant.0 in
-    let room = c.in_ok-index.ensures in
-    let e : Entry = record { job = c.args.job; event = Contended c.args.pod.now (failures (job_state_of c.self.inside.entries.items c.args.job)) } in
-    let step =
-    subst (λ (h : History). Step h.entries (record { job = c.args.job; event = Contended c.args.pod.now (failures (job_state_of h.entries c.args.job)) })) (sym c.self.view_is)
-    (record { allowed = may_contend (job_state_of c.args.self.now.entries c.args.job) c.args.pod.now c.requires.job_state; follows = tt }) in
-    let attempts : c.failures-attempts.result ≡ failures (job_state_of c.self.inside.entries.items c.args.job) =
-    c.failures-attempts.ensures ∙ ap (λ (st : JobState). failures st) c.job_state.ensures ∙ ap (λ (h : History). failures (job_state_of h.entries c.args.job)) (sym c.self.view_is) in
-    rw (c.append.ensures.entries, room.entries, c.in_ok-pod.ensures, attempts) (
-      kept_more _ e _ _ _ _ _ _ _ _ _ _ kept step room.within refl kept.holders_are kept.counted room.job_states (rw room.entries at c.append.ensures.job_states),
-      remembers_more c.memory_goes_on.ensures _ e _ _ _ _ _ _ _ _ kept c.self.invariant.1 step (unset _ _),
-    )
+pub note-requires-clause-step : goal.note-requires-clause-step
+note-requires-clause-step c =
+    let before = c.args.self.now.entries in
+    let attempts : c.failures-attempts.result ≡ failures (job_state_of before c.args.job) = c.failures-attempts.ensures ∙ ap (λ (st : JobState). failures st) c.job_state.ensures in
+    rw (c.in_ok-pod.ensures, attempts) (record { allowed = may_contend (job_state_of before c.args.job) c.args.pod.now c.requires.job_state; follows = tt })
 
-pub returns-clause-legal : goal.returns-clause-legal
-returns-clause-legal c = (invariant_of-self-2 c).0.legal
-
-pub append-requires-clause-tries : goal.append-requires-clause-tries
-append-requires-clause-tries c = few_tries _ _ _ _ _ _ _ c.args.job c.self.invariant.0 c.in_ok-index.ensures.job_states
+pub note-requires-clause-note : goal.note-requires-clause-note
+note-requires-clause-note c = record { same = λ index job s. refl; undated = refl; kept = λ s. refl }
