@@ -191,7 +191,9 @@ pub fn is_full(known: &Option<Seq<KnownSlices>>, devices: &[DeviceRef], holders:
 fn is_full_by(known: &[KnownSlices], devices: &[DeviceRef], holders: &Held) -> bool
     ensures { result ≡ true → IsFullOf holders.now devices.now known.now }
 {
-    all_held(devices, holders) && are_sure(known, devices)
+    // Claims get the first devices that fit, so a node that has a free one mostly has it last.
+    let last = devices.len().saturating_sub(1);
+    all_held(&devices[last..], holders) && all_held(devices, holders) && are_sure(known, devices)
 }
 
 /// Whether each list is known to have no evaluation error on the slices of the devices. Each slice is

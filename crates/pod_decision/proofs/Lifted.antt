@@ -48,6 +48,10 @@ found_of_node s t claims node pools holders totals devices broken wants budget f
     (is_input s claims node totals devices broken wants (d ∙ ap (λ x. node_devices x node) own) (b ∙ ap (λ x. has_broken x node) own) c (k ∙ ap (λ (x : State). x.classes) ts) are)
     ∙ answer (held s) (subst (λ x. AreHeld holders (held x)) ts h)
 
+-- the devices that a node sees are those of the pools of a search
+pub of_pools : (pools : Inventory) (t s : State) (node : List ℕ) (devices : List Offered) → pools ≡ t.inventory → t ≡ s → devices ≡ node_devices s.inventory node → devices ≡ node_devices pools node
+of_pools pools t s node devices p ts d = d ∙ ap (λ (i : Inventory). node_devices i node) (sym (p ∙ ap (λ (x : State). x.inventory) ts))
+
 -- totals by what is known of each part of a search
 pub drawn_of_state : (s t : State) (i : Inventory) (totals : KeptCounters) → t ≡ s → i ≡ t.inventory → AreDrawn i (held t) totals → AreDrawn s.inventory (held s) totals
 drawn_of_state s t i totals ts e are = subst (λ (x : State). AreDrawn x.inventory (held x) totals) ts (subst (λ (j : Inventory). AreDrawn j (held t) totals) e are)

@@ -114,15 +114,33 @@ impl<'a> PodSearch<'a> {
         requires drawn { AreDrawn self.now.state.inventory (held self.now.state) totals.now }
         ensures found { IfOk result (λ found. answer_of (input_of self.now.state self.now.claims node.now) budget ≡ Some found) }
     {
+        let devices = self.devices(alloc, node)?;
+        self.outcome_over(alloc, node, &devices, totals, budget, verdicts)
+    }
+
+    /// The same, where it is known which devices the node sees.
+    pub(crate) fn outcome_over(
+        &self,
+        alloc: Global,
+        node: &Text,
+        devices: &[DeviceRef],
+        totals: &SharedTotals,
+        budget: u64,
+        verdicts: &mut Verdicts,
+    ) -> Result<Outcome, AllocError>
+        requires there { IsSome (at_name self.now.state.inventory.nodes node.now) }
+        requires devices { devices.now ≡ node_devices self.now.state.inventory node.now }
+        requires drawn { AreDrawn self.now.state.inventory (held self.now.state) totals.now }
+        ensures found { IfOk result (λ found. answer_of (input_of self.now.state self.now.claims node.now) budget ≡ Some found) }
+    {
         devices_differ(&self.state.inventory, node);
-        let devices = self.pools.devices(alloc, node)?;
-        if budget > 0 && is_full(&self.known, &devices, self.holders) {
+        if budget > 0 && is_full(&self.known, devices, self.holders) {
             return Ok(Outcome::Unsat);
         }
         let broken = self.pools.has_broken(node);
         search_among(
             alloc,
-            &devices,
+            devices,
             broken,
             &self.wants,
             self.holders,

@@ -1,6 +1,7 @@
 ghost use Rattle.std.specs.Prelude.{ℕ, ◌≡◌, None, Some, true, IfOk, IfSome, IsSome};
 ghost use Rattle.api_cluster.specs.declared.types.Pod.{Pod};
 ghost use Rattle.pool_view.specs.Names.{at_name};
+ghost use Rattle.pool_view.specs.Usable.{node_devices};
 ghost use Rattle.walk.specs.Outcome.{Unsat};
 ghost use Rattle.request_rules.specs.Growth.{specs_of};
 ghost use Rattle.cluster.specs.declared.state.State.{State};
@@ -23,6 +24,7 @@ use counter_sets::{Held, SharedTotals};
 use device_match::Verdicts;
 use dra_values::Text;
 use node_memo::{Dates, LackingNodes};
+use pool_view::DeviceRef;
 use std::alloc::{AllocError, Global};
 use std::marker::Model;
 
@@ -192,9 +194,10 @@ fn search_node(
     ensures found { IfOk result (λ found. answer_of (input_of search.now.state search.now.claims node.now) budget ≡ Some found) }
     ensures nodes { (pod : Pod) (d : lacking.Dates) → search.now.claims ≡ wanted search.now.state pod → Remembers search.now.state pod budget d at nodes.old → Remembers search.now.state pod budget d at nodes.new }
 {
-    match outcome_of(alloc, search, totals, nodes, node, budget)? {
+    let devices = search.devices(alloc, node)?;
+    match outcome_of(alloc, search, totals, nodes, node, &devices, budget)? {
         Outcome::Unsat => {
-            keep(alloc, nodes, search, position, node, dates, at)?;
+            keep(alloc, nodes, search, position, node, &devices, dates, at)?;
             Ok(Outcome::Unsat)
         }
         Outcome::Found(grants) => Ok(Outcome::Found(grants)),
@@ -203,23 +206,25 @@ fn search_node(
     }
 }
 
-/// Searches a node, with what is remembered of selectors, if something is kept of nodes.
+/// Searches a node, which sees these devices, with what is remembered of selectors, if something is kept of nodes.
 fn outcome_of(
     alloc: Global,
     search: &PodSearch,
     totals: &SharedTotals,
     nodes: &mut Option<LackingNodes>,
     node: &Text,
+    devices: &[DeviceRef],
     budget: u64,
 ) -> Result<Outcome, AllocError>
     requires there { IsSome (at_name search.now.state.inventory.nodes node.now) }
+    requires devices { devices.now ≡ node_devices search.now.state.inventory node.now }
     requires drawn { AreDrawn search.now.state.inventory (held search.now.state) totals.now }
     ensures found { IfOk result (λ found. answer_of (input_of search.now.state search.now.claims node.now) budget ≡ Some found) }
     ensures nodes { nodes.new ≡ nodes.old }
 {
     let mut verdicts = Verdicts::forgetful(alloc);
     swap_verdicts(nodes, &mut verdicts);
-    let outcome = search.outcome(alloc, node, totals, budget, &mut verdicts)?;
+    let outcome = search.outcome_over(alloc, node, devices, totals, budget, &mut verdicts)?;
     swap_verdicts(nodes, &mut verdicts);
     Ok(outcome)
 }
@@ -233,25 +238,23 @@ fn swap_verdicts(nodes: &mut Option<LackingNodes>, verdicts: &mut Verdicts)
     }
 }
 
-/// Keeps at a position that a node has no allocation, if something is kept of nodes.
+/// Keeps at a position that a node, which sees these devices, has no allocation, if something is kept of nodes.
 fn keep(
     alloc: Global,
     nodes: &mut Option<LackingNodes>,
     search: &PodSearch,
     position: usize,
     node: &Text,
+    devices: &[DeviceRef],
     dates: &Dates,
     at: u64,
 ) -> Result<(), AllocError>
-    requires { IsSome (at_name search.now.state.inventory.nodes node.now) }
+    requires { devices.now ≡ node_devices search.now.state.inventory node.now }
     ensures { (pod : Pod) (budget : ℕ) (d : lacking.Dates) → search.now.claims ≡ wanted search.now.state pod → outcome_on search.now.state pod node.now budget ≡ Unsat → Remembers search.now.state pod budget d at nodes.old → Remembers search.now.state pod budget d at nodes.new }
 {
     lacking_is_found();
     match nodes {
         None => Ok(()),
-        Some(nodes) => {
-            let devices = search.devices(alloc, node)?;
-            nodes.keep(alloc, position, node, &devices, dates, at)
-        }
+        Some(nodes) => nodes.keep(alloc, position, node, devices, dates, at),
     }
 }
