@@ -1,142 +1,143 @@
-use crate::counted::totals_are_counted;
-use crate::input::{CaseError, cut_word, done};
+use crate::input::{CaseError, both, cut_at, done};
 use crate::orders::json;
 use crate::out::Out;
 use crate::planning::{Planned, read_plan};
-use crate::setup::Setup;
 use crate::spelling::key;
 use alloc_rules::{check, check_status};
 use api_claim::ClaimStatus;
 use cluster::{Command, Entry, Event, Failure, Refusal};
 use dra_values::Shared;
 use journal_text::line;
-use object_fields::{FieldErrorKind, Key};
-use serde_json::Value;
+use object_fields::Key;
+use sched_job::Ledger;
 use std::alloc::{AllocError, Global};
 use std::str;
 
 /// Appends what a line has behind a text, up to its end.
-fn push_behind(line: &[u8], mark: &str, out: &mut Out) -> Result<(), CaseError> {
+fn push_behind(line: &[u8], mark: &str, out: &mut Out) {
     let text = str::from_utf8(line).unwrap_or("").trim_end();
-    let (_, rest) = text.split_once(mark).ok_or(CaseError::BadCase)?;
+    let (_, rest) = text.split_once(mark).unwrap_or(("", ""));
     out.say(" ");
     out.say(rest);
-    Ok(())
 }
 
 /// Appends what the line of an event has behind a text.
-fn push_event(alloc: Global, event: Event, mark: &str, out: &mut Out) -> Result<(), CaseError> {
-    let entry = Shared::new(alloc, Entry { job: 0, event })?;
-    let line = line(alloc, 0, entry.value())?;
-    push_behind(&line, mark, out)
+fn push_event(alloc: Global, event: Event, mark: &str, out: &mut Out) {
+    let entry = Entry { job: 0, event };
+    let line = line(alloc, 0, &entry);
+    drop(entry);
+    match line {
+        Ok(line) => push_behind(&line, mark, out),
+        Err(AllocError) => out.fail(),
+    }
 }
 
-/// Appends a failure of a plan, as the line of its refusal has it.
-fn push_plan_failure(
+/// A failure behind a pointer, if there is one.
+fn shared(
     alloc: Global,
-    planned: Planned,
-    why: Failure,
-    out: &mut Out,
-) -> Result<(), CaseError> {
-    let why = Shared::new(alloc, why)?;
-    let event = Event::Refused {
-        pod: planned.pod,
-        plan: planned.plan,
-        why,
-    };
-    push_event(alloc, event, " why=", out)
+    found: Result<Option<Failure>, AllocError>,
+) -> Result<Option<Shared<Failure>>, AllocError> {
+    match found? {
+        None => Ok(None),
+        Some(why) => Ok(Some(Shared::new(alloc, why)?)),
+    }
 }
 
 /// The first failure of a plan.
 fn failure_of_plan(
     alloc: Global,
-    setup: &Setup,
+    ledger: &Ledger,
     planned: &Planned,
-) -> Result<Option<Failure>, AllocError> {
-    let state = setup.ledger.state();
-    let holders = setup.ledger.holders();
-    let totals = setup.ledger.totals();
-    totals_are_counted(alloc, state, holders, totals)?;
+) -> Result<Option<Shared<Failure>>, AllocError> {
+    let state = ledger.state();
+    let holders = ledger.holders();
+    let totals = ledger.totals();
     let plan = planned.plan.value();
-    check(alloc, state, holders, totals, &planned.pod, plan)
+    shared(
+        alloc,
+        check(alloc, state, holders, totals, &planned.pod, plan),
+    )
 }
 
-/// Appends the first failure of a plan.
-pub fn push_plan(alloc: Global, setup: &Setup, text: &str, out: &mut Out) -> Result<(), CaseError> {
-    let planned = read_plan(alloc, text)?;
-    match failure_of_plan(alloc, setup, &planned)? {
-        None => {
-            out.say(" ok");
-            Ok(())
-        }
-        Some(why) => push_plan_failure(alloc, planned, why, out),
+/// That a plan is refused.
+fn refused(planned: Planned, why: Shared<Failure>) -> Event {
+    Event::Refused {
+        pod: planned.pod,
+        plan: planned.plan,
+        why,
     }
 }
 
-/// The status write that a document of a claim is.
-fn status_of(alloc: Global, document: &Value) -> Result<ClaimStatus, CaseError> {
-    match ClaimStatus::read(alloc, document) {
-        Ok(status) => Ok(status),
-        Err(error) => {
-            if error.kind == FieldErrorKind::Memory {
-                Err(CaseError::Memory)
-            } else {
-                Err(CaseError::BadCase)
-            }
-        }
-    }
-}
-
-/// Appends a failure of a status write, as the line of its denial has it.
-fn push_status_failure(
+/// Appends the first failure of a plan, as the line of its refusal has it.
+pub fn push_plan(
     alloc: Global,
-    claim: Key,
-    status: ClaimStatus,
-    why: Failure,
+    ledger: &Ledger,
+    text: &str,
     out: &mut Out,
 ) -> Result<(), CaseError> {
-    let why = Shared::new(alloc, why)?;
-    let status = Shared::new(alloc, status)?;
-    let event = Event::Denied {
-        command: Command::Adopt { claim, status },
-        refusal: Refusal::Failure(why),
-    };
-    push_event(alloc, event, " Failure ", out)
+    let planned = read_plan(alloc, text)?;
+    let found = failure_of_plan(alloc, ledger, &planned);
+    let (planned, found) = both(Ok(planned), found)?;
+    match found {
+        None => {
+            drop(planned);
+            out.say(" ok");
+        }
+        Some(why) => push_event(alloc, refused(planned, why), " why=", out),
+    }
+    Ok(())
+}
+
+/// The status write that the document of a claim is.
+fn status_of(alloc: Global, document: &str) -> Result<Shared<ClaimStatus>, CaseError> {
+    let value = json(alloc, document)?;
+    let status = ClaimStatus::read(alloc, &value);
+    drop(value);
+    done(Shared::new(alloc, status?))
 }
 
 /// The first failure of a status write to a claim that exists.
 fn failure_of_status(
     alloc: Global,
-    setup: &Setup,
+    ledger: &Ledger,
     claim: &Key,
     status: &ClaimStatus,
-) -> Result<Option<Failure>, CaseError> {
-    let state = setup.ledger.state();
+) -> Result<Option<Shared<Failure>>, CaseError> {
+    let state = ledger.state();
     if state.claims.get(claim).is_none() {
         return Err(CaseError::BadCase);
     }
-    let holders = setup.ledger.holders();
-    let totals = setup.ledger.totals();
-    totals_are_counted(alloc, state, holders, totals)?;
-    done(check_status(alloc, state, holders, totals, claim, status))
+    let holders = ledger.holders();
+    let totals = ledger.totals();
+    let found = check_status(alloc, state, holders, totals, claim, status);
+    done(shared(alloc, found))
 }
 
-/// Appends the first failure of a status write to a claim.
+/// That a status write is refused.
+fn denied(command: Command, why: Shared<Failure>) -> Event {
+    Event::Denied {
+        command,
+        refusal: Refusal::Failure(why),
+    }
+}
+
+/// Appends the first failure of a status write to a claim, as the line of its denial has it.
 pub fn push_status(
     alloc: Global,
-    setup: &Setup,
+    ledger: &Ledger,
     text: &str,
     out: &mut Out,
 ) -> Result<(), CaseError> {
-    let (name, document) = cut_word(text);
-    let claim = key(alloc, name)?;
-    let document = json(alloc, document)?;
-    let status = status_of(alloc, &document)?;
-    match failure_of_status(alloc, setup, &claim, &status)? {
+    let (name, document) = cut_at(text, ' ');
+    let (claim, status) = both(done(key(alloc, name)), status_of(alloc, document))?;
+    let found = failure_of_status(alloc, ledger, &claim, status.value());
+    let (command, found) = both(Ok(Command::Adopt { claim, status }), found)?;
+    match found {
         None => {
+            drop(command);
             out.say(" ok");
-            Ok(())
         }
-        Some(why) => push_status_failure(alloc, claim, status, why, out),
+        Some(why) => push_event(alloc, denied(command, why), " Failure ", out),
     }
+    Ok(())
 }

@@ -1,41 +1,35 @@
-use crate::input::{CaseError, cut_word, done, put, unless_done};
+use crate::input::{CaseError, both, cut_at, done, number, put, unless_done};
 use crate::jobs::{run_case, run_case_each};
 use crate::lists::Lists;
 use crate::options::Options;
 use crate::out::Out;
 use crate::states::run_states;
-use std::alloc::{AllocError, Global};
+use std::alloc::Global;
 
 /// The line between the cases of jobs and those of states.
 const BORDER: &str = "\nstates\n";
 
-/// The steps of a text such as `0 1 0`.
-fn steps_of(alloc: Global, text: &str) -> Result<Vec<usize>, CaseError> {
-    let mut steps = Vec::new(alloc);
-    for number in text.split(' ') {
-        push_step(&mut steps, number)?;
+/// Appends the steps of a text such as `0 1 0`.
+fn push_steps(text: &str, steps: &mut Vec<usize>) -> Result<(), CaseError> {
+    for step in text.split(' ') {
+        put(steps, number(step)? as usize)?;
     }
-    Ok(steps)
-}
-
-fn push_step(steps: &mut Vec<usize>, text: &str) -> Result<(), CaseError> {
-    let step = text.parse::<usize>().ok().ok_or(CaseError::BadCase)?;
-    put(steps, step)
+    Ok(())
 }
 
 /// Runs the case of a verb, the names of two lists, options and steps.
 fn run_named(
     alloc: Global,
-    verb: &str,
-    text: &str,
+    head: &str,
     steps: &[usize],
     lists: &Lists,
     out: &mut Out,
 ) -> Result<(), CaseError> {
-    let (documents, rest) = cut_word(text);
-    let (works, words) = cut_word(rest);
+    let (verb, rest) = cut_at(head, ' ');
+    let (documents, rest) = cut_at(rest, ' ');
+    let (works, words) = cut_at(rest, ' ');
     let options = Options::read(words)?;
-    let (documents, works) = (lists.get(documents)?, lists.get(works)?);
+    let (documents, works) = both(lists.get(documents), lists.get(works))?;
     match verb {
         "steps" => run_case(alloc, documents, works, steps, options, out),
         "each" => run_case_each(alloc, documents, works, steps, options, out),
@@ -46,10 +40,10 @@ fn run_named(
 /// Prints the line of a case, and runs it.
 fn do_case(alloc: Global, line: &str, lists: &Lists, out: &mut Out) -> Result<(), CaseError> {
     let (head, numbers) = line.split_once(": ").ok_or(CaseError::BadCase)?;
-    let steps = steps_of(alloc, numbers)?;
+    let mut steps = Vec::new(alloc);
+    push_steps(numbers, &mut steps)?;
     out.line("== ", line);
-    let (verb, text) = cut_word(head);
-    run_named(alloc, verb, text, &steps, lists, out)
+    run_named(alloc, head, &steps, lists, out)
 }
 
 /// Does what a line asks, unless a list takes it.
@@ -60,7 +54,7 @@ fn do_line(alloc: Global, line: &str, lists: &mut Lists, out: &mut Out) -> Resul
     if line.is_empty() || line.starts_with('#') {
         return Ok(());
     }
-    let (verb, text) = cut_word(line);
+    let (verb, text) = cut_at(line, ' ');
     match verb {
         "list" => done(lists.begin(alloc, text)),
         "lines" => lists.expect(text),
@@ -70,18 +64,17 @@ fn do_line(alloc: Global, line: &str, lists: &mut Lists, out: &mut Out) -> Resul
 }
 
 /// Runs the cases of jobs.
-fn run_jobs(alloc: Global, text: &str, out: &mut Out) -> Result<(), AllocError> {
+fn run_jobs(alloc: Global, text: &str, out: &mut Out) {
     let mut lists = Lists::new(alloc);
     for line in text.lines() {
         let answer = do_line(alloc, line, &mut lists, out);
-        unless_done(out, line, answer)?;
+        unless_done(out, line, answer);
     }
-    Ok(())
 }
 
 /// Runs the cases of a container.
-pub fn run_container(alloc: Global, container: &str, out: &mut Out) -> Result<(), AllocError> {
+pub fn run_container(alloc: Global, container: &str, out: &mut Out) {
     let (jobs, states) = container.split_once(BORDER).unwrap_or((container, ""));
-    run_jobs(alloc, jobs, out)?;
-    run_states(alloc, states, out)
+    run_jobs(alloc, jobs, out);
+    run_states(alloc, states, out);
 }

@@ -1,4 +1,5 @@
 use crate::out::Out;
+use object_fields::{FieldError, FieldErrorKind};
 use sched_job::LedgerError;
 use std::alloc::AllocError;
 
@@ -26,14 +27,19 @@ impl From<LedgerError> for CaseError {
     }
 }
 
-/// A text up to the first space, and what follows it.
-pub fn cut_word(text: &str) -> (&str, &str) {
-    text.split_once(' ').unwrap_or((text, ""))
+impl From<FieldError> for CaseError {
+    fn from(error: FieldError) -> CaseError {
+        if error.kind == FieldErrorKind::Memory {
+            CaseError::Memory
+        } else {
+            CaseError::BadCase
+        }
+    }
 }
 
-/// A text up to the first of a letter that it has, and what follows it.
-pub fn cut_at(text: &str, letter: char) -> Result<(&str, &str), CaseError> {
-    text.split_once(letter).ok_or(CaseError::BadCase)
+/// A text up to the first of a letter, and what follows it: all of it, and nothing, if it hasn't the letter.
+pub fn cut_at(text: &str, letter: char) -> (&str, &str) {
+    text.split_once(letter).unwrap_or((text, ""))
 }
 
 /// A number in decimal.
@@ -42,6 +48,20 @@ pub fn number(text: &str) -> Result<u64, CaseError> {
         Ok(number) => Ok(number),
         Err(_) => Err(CaseError::BadCase),
     }
+}
+
+/// The numbers of a text such as `0 9 NAME`, and what follows them.
+pub fn range(text: &str) -> Result<(u64, u64, &str), CaseError> {
+    let (from, rest) = cut_at(text, ' ');
+    let (to, rest) = cut_at(rest, ' ');
+    Ok((number(from)?, number(to)?, rest))
+}
+
+/// What was made by two calls, or the first error.
+pub fn both<A: Drop, B: Drop, E: Drop>(a: Result<A, E>, b: Result<B, E>) -> Result<(A, B), E> {
+    let a = a?;
+    let b = b?;
+    Ok((a, b))
 }
 
 /// The result of a call that can only run out of memory.
@@ -58,18 +78,11 @@ pub fn put<T: Drop>(list: &mut Vec<T>, item: T) -> Result<(), CaseError> {
     Ok(())
 }
 
-/// Prints a line that wasn't understood. Returns an error if memory ran out.
-pub fn unless_done(
-    out: &mut Out,
-    line: &str,
-    answer: Result<(), CaseError>,
-) -> Result<(), AllocError> {
+/// Prints a line that wasn't understood.
+pub fn unless_done(out: &mut Out, line: &str, answer: Result<(), CaseError>) {
     match answer {
-        Ok(()) => Ok(()),
-        Err(CaseError::BadCase) => {
-            out.line("not understood: ", line);
-            Ok(())
-        }
-        Err(CaseError::Memory) => Err(AllocError),
+        Ok(()) => (),
+        Err(CaseError::BadCase) => out.line("not understood: ", line),
+        Err(CaseError::Memory) => out.fail(),
     }
 }

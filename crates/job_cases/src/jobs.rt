@@ -1,56 +1,48 @@
-use crate::fresh::{is_new, may_step};
-use crate::input::{CaseError, done};
+use crate::fresh::may_step;
+use crate::input::{CaseError, both, done, put};
 use crate::options::Options;
 use crate::orders::read_orders;
 use crate::out::Out;
 use crate::report::print_case;
+use crate::setup::Setup;
 use commands::Command;
 use default_engine::DefaultEngine;
-use sched_job::{Ledger, LedgerError, Work, run_alone, run_steps};
+use sched_job::{Ledger, LedgerError, Work, run_steps};
 use std::alloc::{AllocError, Global};
 
-/// No history may have room for this many entries.
-const ENTRIES_BOUND: u64 = 281_474_976_710_656;
-
-/// Runs a command alone as a job that has no entry yet.
-pub fn run_next(
+/// Runs commands one after another.
+fn run_each(
     alloc: Global,
-    ledger: &mut Ledger,
-    job: u64,
-    order: Command,
+    setup: &mut Setup,
+    orders: Vec<Command>,
     budget: u64,
 ) -> Result<(), LedgerError> {
-    if !is_new(ledger, job, &order) {
-        drop(order);
-        return Ok(());
+    for order in orders {
+        setup.run_next(alloc, order, budget)?;
     }
-    run_alone::<DefaultEngine>(alloc, ledger, job, order, budget)?;
     Ok(())
 }
 
-/// Runs commands one after another, the first as job 1. Returns the number of the last job.
-fn run_each(
-    alloc: Global,
-    ledger: &mut Ledger,
-    orders: Vec<Command>,
-    budget: u64,
-) -> Result<u64, LedgerError> {
-    let mut job: u64 = 0;
+/// Appends the works of commands, of which the first is the job after this one.
+fn push_works(orders: Vec<Command>, before: u64, works: &mut Vec<Work>) -> Result<(), CaseError> {
+    let mut job = before;
     for order in orders {
         job = job.saturating_add(1);
-        run_next(alloc, ledger, job, order, budget)?;
+        put(works, Work::new(job, order))?;
     }
-    Ok(job)
+    Ok(())
 }
 
-/// The works of commands, of which the first is the job after this one.
-fn works_of(alloc: Global, orders: Vec<Command>, before: u64) -> Result<Vec<Work>, AllocError> {
-    let mut job = before;
+/// The works of the commands of these lines, of which the first is the job after this one.
+fn works_of(
+    alloc: Global,
+    lines: &str,
+    attempts: u64,
+    before: u64,
+) -> Result<Vec<Work>, CaseError> {
+    let orders = read_orders(alloc, lines, attempts)?;
     let mut works = Vec::new(alloc);
-    for order in orders {
-        job = job.saturating_add(1);
-        works.push(Work::new(job, order))?;
-    }
+    push_works(orders, before, &mut works)?;
     Ok(works)
 }
 
@@ -69,56 +61,41 @@ fn make_steps(
     }
 }
 
-/// Makes steps of the works of commands after the last job, and prints what they append.
-fn step_orders(
+/// Makes steps of works, if the commands before them were run, and prints what the steps append.
+fn step_works(
     alloc: Global,
-    ledger: &mut Ledger,
-    last: u64,
-    orders: Vec<Command>,
+    setup: &mut Setup,
+    ran: Result<(), LedgerError>,
+    works: &mut [Work],
     steps: &[usize],
     budget: u64,
     out: &mut Out,
-) -> Result<(), AllocError> {
-    let mut works = works_of(alloc, orders, last)?;
-    let from = ledger.len();
-    let turns = make_steps(alloc, ledger, works.as_mut_slice(), steps, budget);
-    let jobs = last.saturating_add(works.len() as u64);
-    print_case(alloc, ledger, from, turns, works.as_slice(), jobs, out)
-}
-
-/// Runs the commands of documents over a ledger, and then makes steps of the works of other commands.
-fn run_over(
-    alloc: Global,
-    ledger: &mut Ledger,
-    documents: Vec<Command>,
-    orders: Vec<Command>,
-    steps: &[usize],
-    budget: u64,
-    out: &mut Out,
-) -> Result<(), AllocError> {
-    match run_each(alloc, ledger, documents, budget) {
-        Ok(last) => step_orders(alloc, ledger, last, orders, steps, budget, out),
-        Err(error) => {
-            drop(orders);
-            print_case(alloc, ledger, 0, Err(error), &[], 0, out)
+) {
+    match ran {
+        Ok(()) => {
+            let from = setup.ledger.len();
+            let turns = make_steps(alloc, &mut setup.ledger, works, steps, budget);
+            let jobs = setup.jobs.saturating_add(works.len() as u64);
+            print_case(alloc, &setup.ledger, from, turns, works, jobs, out);
         }
+        Err(error) => print_case(alloc, &setup.ledger, 0, Err(error), &[], 0, out),
     }
 }
 
-/// Runs the commands of documents, and then makes steps of the works of other commands.
+/// Runs the commands of documents, and then makes steps of works.
 fn run_orders(
     alloc: Global,
     documents: Vec<Command>,
-    orders: Vec<Command>,
+    works: &mut [Work],
     steps: &[usize],
     options: Options,
     out: &mut Out,
 ) -> Result<(), AllocError> {
-    let mut ledger = Ledger::new(alloc, options.entries.min(ENTRIES_BOUND - 1))?;
-    let budget = options.budget;
-    let done = run_over(alloc, &mut ledger, documents, orders, steps, budget, out);
-    drop(ledger);
-    done
+    let mut setup = Setup::new(alloc, options.entries)?;
+    let ran = run_each(alloc, &mut setup, documents, options.budget);
+    step_works(alloc, &mut setup, ran, works, steps, options.budget, out);
+    drop(setup);
+    Ok(())
 }
 
 /// Runs the commands of documents, and then makes steps of the works of other lines.
@@ -132,8 +109,9 @@ pub fn run_case(
 ) -> Result<(), CaseError> {
     let attempts = options.attempts.max(1);
     let documents = read_orders(alloc, documents, attempts)?;
-    let orders = read_orders(alloc, works, attempts)?;
-    done(run_orders(alloc, documents, orders, steps, options, out))
+    let works = works_of(alloc, works, attempts, documents.len() as u64);
+    let (documents, mut works) = both(Ok(documents), works)?;
+    done(run_orders(alloc, documents, works.as_mut_slice(), steps, options, out))
 }
 
 /// Does the same for each of these lines alone.

@@ -1,4 +1,4 @@
-use crate::input::{CaseError, cut_word, number};
+use crate::input::{CaseError, number, range};
 use std::alloc::{AllocError, Global};
 
 /// Lines by the name of their list.
@@ -72,9 +72,8 @@ impl Lists {
 
     /// Appends the copies that a text such as `0 9 NAME` asks for to the last list.
     pub fn append_copies(&mut self, alloc: Global, text: &str) -> Result<(), CaseError> {
-        let (from, rest) = cut_word(text);
-        let (to, name) = cut_word(rest);
-        for number in number(from)?..=number(to)? {
+        let (from, to, name) = range(text)?;
+        for number in from..=to {
             self.append_copy(alloc, name, number)?;
         }
         Ok(())

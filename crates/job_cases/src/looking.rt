@@ -1,17 +1,16 @@
-use crate::input::{CaseError, cut_word};
+use crate::input::{CaseError, cut_at};
 use crate::out::Out;
-use crate::setup::Setup;
 use crate::spelling::key;
 use api_slice::ResourceSlice;
-use cluster::{Command, Refusal, Target};
+use cluster::{Command, Refusal, State, Target};
 use dra_values::Text;
 use object_fields::Key;
 use pool_view::usable;
 use std::alloc::{AllocError, Global};
 
 /// Appends the names of the slices of usable pools, in order, or `-` if there are none.
-pub fn push_usable(alloc: Global, setup: &Setup, out: &mut Out) -> Result<(), AllocError> {
-    let slices = usable(alloc, setup.ledger.state().inventory.value())?;
+pub fn push_usable(alloc: Global, state: &State, out: &mut Out) -> Result<(), AllocError> {
+    let slices = usable(alloc, state.inventory.value())?;
     push_names(slices.as_slice(), out);
     Ok(())
 }
@@ -26,41 +25,45 @@ fn push_names(slices: &[&ResourceSlice], out: &mut Out) {
 }
 
 /// Appends a refusal that was looked for.
-fn push_found(found: Result<Option<Refusal>, AllocError>, out: &mut Out) -> Result<(), CaseError> {
-    match found? {
-        None => out.say(" ok"),
-        Some(refusal) => push_word(&refusal, out),
+fn push_found(found: &Result<Option<Refusal>, AllocError>, out: &mut Out) {
+    match found {
+        Ok(None) => out.say(" ok"),
+        Ok(Some(refusal)) => push_word(refusal, out),
+        Err(AllocError) => out.fail(),
     }
-    Ok(())
 }
 
 /// Appends the first refusal of a command such as `delete-node n1` or `schedule default/p`.
 pub fn push_refusal(
     alloc: Global,
-    setup: &Setup,
+    state: &State,
     text: &str,
     out: &mut Out,
 ) -> Result<(), CaseError> {
-    let (verb, name) = cut_word(text);
+    let (verb, name) = cut_at(text, ' ');
     let command = command_of(alloc, verb, name)?;
-    let found = setup.ledger.state().first_refusal(alloc, &command);
+    let found = state.first_refusal(alloc, &command);
     drop(command);
-    push_found(found, out)
+    push_found(&found, out);
+    drop(found);
+    Ok(())
 }
 
 fn command_of(alloc: Global, verb: &str, name: &str) -> Result<Command, CaseError> {
     match verb {
-        "schedule" | "release" | "delete-claim" | "delete-pod" => of_key(verb, key(alloc, name)?),
+        "schedule" | "release" | "delete-claim" | "delete-pod" => {
+            Ok(of_key(verb, key(alloc, name)?))
+        }
         _ => of_name(verb, Text::from_str(alloc, name)?),
     }
 }
 
-fn of_key(verb: &str, key: Key) -> Result<Command, CaseError> {
+fn of_key(verb: &str, key: Key) -> Command {
     match verb {
-        "schedule" => Ok(Command::Schedule(key)),
-        "release" => Ok(Command::Release(key)),
-        "delete-claim" => Ok(Command::Delete(Target::Claim(key))),
-        _ => Ok(Command::Delete(Target::Pod(key))),
+        "schedule" => Command::Schedule(key),
+        "release" => Command::Release(key),
+        "delete-claim" => Command::Delete(Target::Claim(key)),
+        _ => Command::Delete(Target::Pod(key)),
     }
 }
 

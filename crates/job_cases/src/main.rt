@@ -5,7 +5,6 @@
 
 mod checking;
 mod container;
-mod counted;
 mod fresh;
 mod input;
 mod jobs;
@@ -31,6 +30,6 @@ fn main(rt: HostRuntime) -> io::Result<()> {
     let mut bytes = Vec::new(alloc);
     rt.stdin().read_to_end(&mut bytes)?;
     let mut out = Out::new(alloc);
-    run_container(alloc, str::from_utf8(&bytes).unwrap_or(""), &mut out)?;
+    run_container(alloc, str::from_utf8(&bytes).unwrap_or(""), &mut out);
     rt.stdout().write_all(out.text()?.as_bytes())
 }

@@ -12,25 +12,17 @@ pub struct Options {
 }
 
 impl Options {
-    /// The options with one changed by an argument such as `attempts=2`.
-    fn with_word(self, word: &str) -> Result<Self, CaseError> {
-        let (key, text) = cut_at(word, '=')?;
+    /// Changes an option by an argument such as `attempts=2`.
+    fn set(&mut self, word: &str) -> Result<(), CaseError> {
+        let (key, text) = cut_at(word, '=');
         let number = number(text)?;
         match key {
-            "entries" => Ok(Options {
-                entries: number,
-                ..self
-            }),
-            "budget" => Ok(Options {
-                budget: number,
-                ..self
-            }),
-            "attempts" => Ok(Options {
-                attempts: number,
-                ..self
-            }),
-            _ => Err(CaseError::BadCase),
+            "entries" => self.entries = number,
+            "budget" => self.budget = number,
+            "attempts" => self.attempts = number,
+            _ => return Err(CaseError::BadCase),
         }
+        Ok(())
     }
 
     /// Reads options, with a space between two. Those that are missing are the ones of the program `dra`.
@@ -42,7 +34,7 @@ impl Options {
         };
         for word in words.split(' ') {
             if !word.is_empty() {
-                options = options.with_word(word)?;
+                options.set(word)?;
             }
         }
         Ok(options)

@@ -1,4 +1,4 @@
-use crate::input::{CaseError, cut_word, put};
+use crate::input::{CaseError, both, cut_at, put};
 use api_claim::ClaimStatus;
 use cluster::Mode;
 use commands::{Command, Given, GivenError, commands};
@@ -15,11 +15,12 @@ fn by_mode(command: Command, mode: Mode) -> Command {
     }
 }
 
-/// The command that is asked for, if that is one.
-fn command_of(given: Given) -> Result<Command, CaseError> {
+/// Appends what is asked for, if that is one command.
+fn push_given(given: Given, mode: Mode, orders: &mut Vec<Command>) -> Result<(), CaseError> {
     match given {
-        Given::One(command) => Ok(command),
-        Given::Together(_) | Given::Prepare(_) | Given::Unprepare(_) | Given::Reopen => {
+        Given::One(command) => put(orders, by_mode(command, mode)),
+        other => {
+            drop(other);
             Err(CaseError::BadCase)
         }
     }
@@ -28,14 +29,13 @@ fn command_of(given: Given) -> Result<Command, CaseError> {
 /// Appends what a document asks for, if all of it is commands.
 fn push_each(given: Vec<Given>, mode: Mode, orders: &mut Vec<Command>) -> Result<(), CaseError> {
     for one in given {
-        let command = command_of(one)?;
-        put(orders, by_mode(command, mode))?;
+        push_given(one, mode, orders)?;
     }
     Ok(())
 }
 
 /// Appends the commands of a document, of which objects are applied by the mode.
-pub fn push_commands(
+fn push_commands(
     alloc: Global,
     document: &str,
     mode: Mode,
@@ -46,7 +46,9 @@ pub fn push_commands(
         at: 0,
         bytes: document.as_bytes().to_vec(alloc)?,
     };
-    match commands(alloc, &doc, attempts) {
+    let given = commands(alloc, &doc, attempts);
+    drop(doc);
+    match given {
         Ok(given) => push_each(given, mode, orders),
         Err(GivenError::NotJson | GivenError::NotACommand) => Err(CaseError::BadCase),
         Err(GivenError::Memory) => Err(CaseError::Memory),
@@ -69,30 +71,31 @@ pub fn json(alloc: Global, text: &str) -> Result<Value, CaseError> {
 
 /// The status write of a claim's document.
 fn read_status(alloc: Global, value: &Value) -> Result<Command, FieldError> {
-    let status = ClaimStatus::read(alloc, value)?;
-    let meta = ObjectMeta::read(alloc, value, Scope::Namespaced)?;
+    let status = ClaimStatus::read(alloc, value);
+    let meta = ObjectMeta::read(alloc, value, Scope::Namespaced);
+    let (status, meta) = both(status, meta)?;
     Ok(Command::Adopt(meta.key, status))
 }
 
-/// The same, or Invalid with the error.
-fn status_order(alloc: Global, value: &Value) -> Result<Command, CaseError> {
-    match read_status(alloc, value) {
-        Ok(order) => Ok(order),
-        Err(error) => {
-            if error.kind == FieldErrorKind::Memory {
-                Err(CaseError::Memory)
-            } else {
-                Ok(Command::Invalid(error))
-            }
-        }
+/// The command to refuse a document by its first error.
+fn invalid(error: FieldError) -> Result<Command, CaseError> {
+    if error.kind == FieldErrorKind::Memory {
+        drop(error);
+        Err(CaseError::Memory)
+    } else {
+        Ok(Command::Invalid(error))
     }
 }
 
-/// Appends the status write of a claim's document.
-fn push_status(alloc: Global, document: &str, orders: &mut Vec<Command>) -> Result<(), CaseError> {
+/// The status write of a claim's document, or Invalid with the error.
+fn status_order(alloc: Global, document: &str) -> Result<Command, CaseError> {
     let value = json(alloc, document)?;
-    let order = status_order(alloc, &value)?;
-    put(orders, order)
+    let order = read_status(alloc, &value);
+    drop(value);
+    match order {
+        Ok(order) => Ok(order),
+        Err(error) => invalid(error),
+    }
 }
 
 /// Appends what a line asks for.
@@ -102,9 +105,9 @@ fn push_line(
     attempts: u64,
     orders: &mut Vec<Command>,
 ) -> Result<(), CaseError> {
-    let (verb, document) = cut_word(line);
+    let (verb, document) = cut_at(line, ' ');
     match verb {
-        "status" => push_status(alloc, document, orders),
+        "status" => put(orders, status_order(alloc, document)?),
         "create" => push_commands(alloc, document, Mode::Create, attempts, orders),
         "update" => push_commands(alloc, document, Mode::Update, attempts, orders),
         _ => push_commands(alloc, line, Mode::Apply, attempts, orders),

@@ -26,6 +26,11 @@ impl Out {
         }
     }
 
+    /// Says that memory ran out.
+    pub fn fail(&mut self) {
+        self.whole = false;
+    }
+
     fn note(&mut self, written: bool) {
         self.whole = self.whole && written;
     }
@@ -54,7 +59,7 @@ impl Out {
     pub fn lines(&mut self, lines: Result<Vec<u8>, AllocError>) {
         match lines {
             Ok(lines) => self.say(str::from_utf8(&lines).unwrap_or("not UTF-8\n")),
-            Err(AllocError) => self.note(false),
+            Err(AllocError) => self.fail(),
         }
     }
 }

@@ -1,5 +1,5 @@
-use crate::input::{CaseError, cut_at, cut_word, done};
-use crate::spelling::{grant, key, known_claim, known_pod};
+use crate::input::{CaseError, both, cut_at, done, number};
+use crate::spelling::{grant, key, known_claim};
 use cluster::{Known, PassedNodes, Plan};
 use dra_values::{Seq, Shared, Text};
 use object_fields::Key;
@@ -14,10 +14,12 @@ pub struct Planned {
 
 /// A plan for a pod of that uid and node, which has nothing else yet.
 fn begun(alloc: Global, pod: u64, node: &str) -> Result<Plan, AllocError> {
+    let node = Text::from_str(alloc, node);
+    let (node, passed) = both(node, PassedNodes::none(alloc))?;
     Ok(Plan {
         at: 0,
-        node: Text::from_str(alloc, node)?,
-        passed: PassedNodes::none(alloc)?,
+        node,
+        passed,
         grants: Seq::empty(alloc),
         joins: Seq::empty(alloc),
         known: Known {
@@ -27,30 +29,20 @@ fn begun(alloc: Global, pod: u64, node: &str) -> Result<Plan, AllocError> {
     })
 }
 
+/// Appends what was read to a list.
+fn add<T: Drop>(list: &mut Seq<T>, read: Result<T, CaseError>) -> Result<(), CaseError> {
+    done(list.push(read?))
+}
+
 /// Adds to a plan what a part such as `knew=default/c:5` says.
 fn add_part(alloc: Global, plan: &mut Plan, part: &str) -> Result<(), CaseError> {
-    let (name, text) = cut_at(part, '=')?;
+    let (name, text) = cut_at(part, '=');
     match name {
-        "knew" => add_known(alloc, plan, text),
-        "grant" => add_grant(alloc, plan, text),
-        "join" => add_join(alloc, plan, text),
+        "knew" => add(&mut plan.known.claims, known_claim(alloc, text)),
+        "grant" => add(&mut plan.grants, done(grant(alloc, text))),
+        "join" => add(&mut plan.joins, done(key(alloc, text))),
         _ => Err(CaseError::BadCase),
     }
-}
-
-fn add_known(alloc: Global, plan: &mut Plan, text: &str) -> Result<(), CaseError> {
-    let claim = known_claim(alloc, text)?;
-    done(plan.known.claims.push(claim))
-}
-
-fn add_grant(alloc: Global, plan: &mut Plan, text: &str) -> Result<(), CaseError> {
-    let grant = grant(alloc, text)?;
-    done(plan.grants.push(grant))
-}
-
-fn add_join(alloc: Global, plan: &mut Plan, text: &str) -> Result<(), CaseError> {
-    let claim = key(alloc, text)?;
-    done(plan.joins.push(claim))
 }
 
 /// Adds to a plan what parts with a space between two say.
@@ -63,13 +55,24 @@ fn add_parts(alloc: Global, plan: &mut Plan, parts: &str) -> Result<(), CaseErro
     Ok(())
 }
 
+/// The plan of a node and parts, for a pod of that uid.
+fn plan_of(alloc: Global, pod: u64, text: &str) -> Result<Shared<Plan>, CaseError> {
+    let (node, parts) = cut_at(text, ' ');
+    let mut plan = begun(alloc, pod, node)?;
+    match add_parts(alloc, &mut plan, parts) {
+        Ok(()) => done(Shared::new(alloc, plan)),
+        Err(error) => {
+            drop(plan);
+            Err(error)
+        }
+    }
+}
+
 /// A plan such as `default/p:6 n1 knew=default/c:5 grant=default/c:gpu@gpu.example.com/n1/gpu-0`.
 pub fn read_plan(alloc: Global, text: &str) -> Result<Planned, CaseError> {
-    let (first, rest) = cut_word(text);
-    let (node, parts) = cut_word(rest);
-    let (pod, uid) = known_pod(alloc, first)?;
-    let mut plan = begun(alloc, uid, node)?;
-    add_parts(alloc, &mut plan, parts)?;
-    let plan = Shared::new(alloc, plan)?;
+    let (first, rest) = cut_at(text, ' ');
+    let (pod, uid) = cut_at(first, ':');
+    let plan = plan_of(alloc, number(uid)?, rest);
+    let (pod, plan) = both(done(key(alloc, pod)), plan)?;
     Ok(Planned { pod, plan })
 }

@@ -2,13 +2,13 @@
 
 use crate::input::CaseError;
 use crate::out::Out;
-use crate::setup::Setup;
 use crate::spelling::key;
 use crate::states::BUDGET;
 use cluster::State;
 use node_inputs::wanted_claims;
 use node_memo::{LackingNodes, Memo};
 use object_fields::Key;
+use sched_job::Ledger;
 use std::alloc::Global;
 
 /// What a memo has of nodes for what the claims of a pod ask for.
@@ -26,20 +26,21 @@ fn nodes_in(
 }
 
 /// What is remembered of nodes for what the claims of a pod ask for. All that is remembered is forgotten then.
-fn nodes_for(alloc: Global, setup: &mut Setup, pod: &Key) -> Result<LackingNodes, CaseError> {
-    let mut memo = setup.ledger.take_memo(alloc);
-    let nodes = nodes_in(alloc, &mut memo, setup.ledger.state(), pod);
+fn nodes_for(alloc: Global, ledger: &mut Ledger, pod: &str) -> Result<LackingNodes, CaseError> {
+    let pod = key(alloc, pod)?;
+    let mut memo = ledger.take_memo(alloc);
+    let nodes = nodes_in(alloc, &mut memo, ledger.state(), &pod);
     drop(memo);
     nodes
 }
 
 /// Appends the names of the nodes that are known to have no allocation, in order, or `-` if there are none.
-fn push_names(setup: &Setup, nodes: &mut LackingNodes, out: &mut Out) {
-    let dates = setup.ledger.dates();
-    let at = setup.ledger.len();
+fn push_names(ledger: &Ledger, nodes: &mut LackingNodes, out: &mut Out) {
+    let dates = ledger.dates();
+    let at = ledger.len();
     let mut position: usize = 0;
     let mut is_known = false;
-    for (name, _) in setup.ledger.state().inventory.nodes().iter() {
+    for (name, _) in ledger.state().inventory.nodes().iter() {
         if nodes.has(position, name, dates, at) {
             out.show_after(" ", name);
             is_known = true;
@@ -54,12 +55,12 @@ fn push_names(setup: &Setup, nodes: &mut LackingNodes, out: &mut Out) {
 /// Appends the nodes that are remembered to have no allocation for what the claims of a pod ask for.
 pub fn push_known(
     alloc: Global,
-    setup: &mut Setup,
+    ledger: &mut Ledger,
     pod: &str,
     out: &mut Out,
 ) -> Result<(), CaseError> {
-    let pod = key(alloc, pod)?;
-    let mut nodes = nodes_for(alloc, setup, &pod)?;
-    push_names(setup, &mut nodes, out);
+    let mut nodes = nodes_for(alloc, ledger, pod)?;
+    push_names(ledger, &mut nodes, out);
+    drop(nodes);
     Ok(())
 }

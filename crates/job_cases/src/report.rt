@@ -2,16 +2,15 @@ use crate::out::Out;
 use cluster::JobState;
 use journal_text::{lines, summary};
 use sched_job::{Ledger, LedgerError, Work};
-use std::alloc::{AllocError, Global};
+use std::alloc::Global;
 
 /// Prints how many turns there were, or that the history was full.
-fn print_turns(turns: Result<u64, LedgerError>, out: &mut Out) -> Result<(), AllocError> {
+fn print_turns(turns: Result<u64, LedgerError>, out: &mut Out) {
     match turns {
         Ok(turns) => out.show_after("turns ", &turns),
         Err(LedgerError::Full(count)) => out.show_after("full ", &count),
-        Err(LedgerError::Memory) => return Err(AllocError),
+        Err(LedgerError::Memory) => out.fail(),
     }
-    Ok(())
 }
 
 /// Prints the index of the last entry of a job that has ended, and `-` for one that hasn't.
@@ -43,10 +42,9 @@ pub fn print_case(
     works: &[Work],
     jobs: u64,
     out: &mut Out,
-) -> Result<(), AllocError> {
+) {
     out.lines(lines(alloc, ledger.entries(), from));
-    print_turns(turns, out)?;
+    print_turns(turns, out);
     print_ends(ledger, works, out);
     out.lines(summary(alloc, ledger.len(), ledger.state(), jobs));
-    Ok(())
 }

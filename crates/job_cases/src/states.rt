@@ -1,16 +1,20 @@
 use crate::checking::{push_plan, push_status};
-use crate::input::{CaseError, cut_word, done, number, unless_done};
-use crate::jobs::run_next;
+use crate::input::{CaseError, cut_at, done, range, unless_done};
 use crate::lists::copy_of;
 use crate::looking::{push_refusal, push_usable};
-use crate::orders::push_commands;
+use crate::orders::read_orders;
 use crate::out::Out;
 use crate::remembering::push_known;
 use crate::setup::Setup;
-use cluster::{Event, Mode};
+use cluster::Event;
 use commands::Command;
 use journal_text::line;
+use sched_job::{Ledger, LedgerError};
 use std::alloc::{AllocError, Global};
+use std::mem;
+
+/// The most entries of a state's history.
+const MOST_ENTRIES: u64 = 1_000_000;
 
 /// The most items of a node's walk that a search looks at.
 pub const BUDGET: u64 = 100_000;
@@ -24,25 +28,25 @@ fn is_done(event: &Event) -> bool {
 }
 
 /// Appends the last entry's line, if its job hasn't done what it was to do.
-fn push_undone(alloc: Global, setup: &Setup, out: &mut Out) {
-    let index = setup.ledger.len();
-    match setup.ledger.entry(index) {
+fn push_undone(alloc: Global, ledger: &Ledger, out: &mut Out) {
+    let index = ledger.len();
+    match ledger.entry(index) {
         Some(entry) if !is_done(&entry.event) => out.lines(line(alloc, index, entry)),
         _ => {}
     }
 }
 
-/// Does a command as the next job, and prints the line of its last entry if it isn't done.
-fn do_command(
+/// Does commands, each as the next job, and prints the line of the last entry of each that isn't done.
+fn do_each(
     alloc: Global,
     setup: &mut Setup,
-    command: Command,
+    orders: Vec<Command>,
     out: &mut Out,
-) -> Result<(), CaseError> {
-    let job = setup.jobs.saturating_add(1);
-    setup.jobs = job;
-    run_next(alloc, &mut setup.ledger, job, command, BUDGET)?;
-    push_undone(alloc, setup, out);
+) -> Result<(), LedgerError> {
+    for order in orders {
+        setup.run_next(alloc, order, BUDGET)?;
+        push_undone(alloc, &setup.ledger, out);
+    }
     Ok(())
 }
 
@@ -53,19 +57,14 @@ fn do_document(
     document: &str,
     out: &mut Out,
 ) -> Result<(), CaseError> {
-    let mut orders = Vec::new(alloc);
-    push_commands(alloc, document, Mode::Apply, 1, &mut orders)?;
-    for order in orders {
-        do_command(alloc, setup, order, out)?;
-    }
-    Ok(())
+    let orders = read_orders(alloc, document, 1)?;
+    Ok(do_each(alloc, setup, orders, out)?)
 }
 
 /// Does a document such as that of `1 9 DOCUMENT`, once for each of these numbers.
 fn do_copies(alloc: Global, setup: &mut Setup, text: &str, out: &mut Out) -> Result<(), CaseError> {
-    let (first, rest) = cut_word(text);
-    let (last, pattern) = cut_word(rest);
-    for at in number(first)?..=number(last)? {
+    let (first, last, pattern) = range(text)?;
+    for at in first..=last {
         let document = copy_of(alloc, pattern, at)?;
         do_document(alloc, setup, document.as_str(), out)?;
     }
@@ -81,11 +80,11 @@ fn push_found(
     out: &mut Out,
 ) -> Result<(), CaseError> {
     match verb {
-        "plan" => push_plan(alloc, setup, text, out),
-        "status" => push_status(alloc, setup, text, out),
-        "usable" => done(push_usable(alloc, setup, out)),
-        "refusal" => push_refusal(alloc, setup, text, out),
-        "known" => push_known(alloc, setup, text, out),
+        "plan" => push_plan(alloc, &setup.ledger, text, out),
+        "status" => push_status(alloc, &setup.ledger, text, out),
+        "usable" => done(push_usable(alloc, setup.ledger.state(), out)),
+        "refusal" => push_refusal(alloc, setup.ledger.state(), text, out),
+        "known" => push_known(alloc, &mut setup.ledger, text, out),
         _ => Err(CaseError::BadCase),
     }
 }
@@ -98,7 +97,7 @@ fn do_case(
     text: &str,
     out: &mut Out,
 ) -> Result<(), CaseError> {
-    let (name, rest) = cut_word(text);
+    let (name, rest) = cut_at(text, ' ');
     out.say(name);
     out.say(":");
     push_found(alloc, setup, verb, rest, out)?;
@@ -107,8 +106,9 @@ fn do_case(
 }
 
 /// Begins a state of no objects.
-fn begin(alloc: Global, setup: &mut Setup) -> Result<(), CaseError> {
-    *setup = Setup::new(alloc)?;
+fn begin(alloc: Global, setup: &mut Setup) -> Result<(), AllocError> {
+    let before = mem::replace(setup, Setup::new(alloc, MOST_ENTRIES)?);
+    drop(before);
     Ok(())
 }
 
@@ -121,28 +121,30 @@ fn do_line(alloc: Global, setup: &mut Setup, line: &str, out: &mut Out) -> Resul
     if line.starts_with('{') {
         return do_document(alloc, setup, line, out);
     }
-    let (verb, text) = cut_word(line);
+    let (verb, text) = cut_at(line, ' ');
     match verb {
-        "state" => begin(alloc, setup),
+        "state" => done(begin(alloc, setup)),
         "copies" => do_copies(alloc, setup, text, out),
         _ => do_case(alloc, setup, verb, text, out),
     }
 }
 
 /// Does what each line asks for.
-fn do_lines(alloc: Global, setup: &mut Setup, text: &str, out: &mut Out) -> Result<(), AllocError> {
+fn do_lines(alloc: Global, setup: &mut Setup, text: &str, out: &mut Out) {
     for line in text.lines() {
         let answer = do_line(alloc, setup, line, out);
-        unless_done(out, line, answer)?;
+        unless_done(out, line, answer);
     }
-    Ok(())
 }
 
 /// Runs the cases of states.
-pub fn run_states(alloc: Global, text: &str, out: &mut Out) -> Result<(), AllocError> {
+pub fn run_states(alloc: Global, text: &str, out: &mut Out) {
     out.line("== ", "states");
-    let mut setup = Setup::new(alloc)?;
-    let done = do_lines(alloc, &mut setup, text, out);
-    drop(setup);
-    done
+    match Setup::new(alloc, MOST_ENTRIES) {
+        Ok(mut setup) => {
+            do_lines(alloc, &mut setup, text, out);
+            drop(setup);
+        }
+        Err(AllocError) => out.fail(),
+    }
 }
