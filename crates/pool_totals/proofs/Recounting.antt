@@ -195,12 +195,6 @@ replaced_elsewhere x None q c is away other = tt
 replaced_elsewhere x (Some s) None c is away other = both_in x s.object c is ∙ other
 replaced_elsewhere x (Some s) (Some q) c is away other = ap (λ (y : ResourceSlice). is_of_pool y c) (sym is) ∙ away
 
-pub is_replaced : {E : Type 0} (r : Result (Option PoolTotals) E) (x : ResourceSlice) (o : Option (Stored ResourceSlice)) (s : Stored ResourceSlice) → o ≡ Some s → IfOk r (λ q. q ≡ None → is_in x.driver x.pool.name s.object ≡ true)
-    → IfOk r (λ q. IfSome q (λ p. p.slice ≡ s.object)) → IfOk r (IsReplaced x o)
-is_replaced (Ok None) x o s at none some = subst (λ (t : Option (Stored ResourceSlice)). IsReplaced x t None) (sym at) (none refl)
-is_replaced (Ok (Some q)) x o s at none some = subst (λ (t : Option (Stored ResourceSlice)). IsReplaced x t (Some q)) (sym at) some
-is_replaced (Err e) x o s at none some = tt
-
 taken_at : (i : Inventory) (h : Holders) (q : Option PoolTotals) → IfSome q (λ p. AreCountedFor i h p.slice p.totals) → (c : CounterId) → is_recounted q c ≡ true → IfSome q (λ p. IsCounted i h p.totals c)
 taken_at i h None g c of = tt
 taken_at i h (Some q) g c of = g.each c of
