@@ -16,6 +16,7 @@ use Rattle.api_slice.specs.declared.types.ResourceSlice.{ResourceSlice}
 use Rattle.pool_view.specs.declared.inventory.Inventory.{Inventory}
 use Rattle.pool_view.specs.Differing.{offers, usable_devices}
 use Rattle.pool_view.specs.Names.{device_eq, text_eq}
+use Rattle.pool_view.specs.OnePool.{is_in}
 use Rattle.pool_view.specs.Pools.{Offered, id_in, id_of, offered_by, pool_of}
 use Rattle.pool_view.specs.Inventory.{Named}
 use Rattle.pool_view.specs.Usable.{counted_slices, if_usable, is_counted, pools, usable_slices}
@@ -573,5 +574,23 @@ pub some_from : {A : Type 0} (r : Option (Bor A)) (w : Option A) → option_copi
 some_from None w e t = absurd (cc)
 some_from (Some x) w e t = ap is_some (sym e)
 
-pub found_as : (i : Inventory) (id : DeviceId) (xs : List ResourceSlice) (r o : Option Offered) → xs ≡ counted_slices i → r ≡ found_in id xs → r ≡ o → found_in id (counted_slices i) ≡ o
-found_as i id xs r o e f g = ap (found_in id) (sym e) ∙ sym f ∙ g
+swapped : (a b : Bool) → (a && b) ≡ false → (b && a) ≡ false
+swapped true true e = absurd (cc)
+swapped true false e = refl
+swapped false true e = refl
+swapped false false e = refl
+
+-- the slices of other pools don't have the device
+apart_by : (b : Bool) (id : DeviceId) (x : ResourceSlice) (xs : List ResourceSlice) → is_in id.driver id.pool x ≡ b → found_in id (cond b (x ∷ xs) xs) ≡ found_or (option_map (offered_by x) (device_of id x)) (found_in id xs)
+apart_by true id x xs e = refl
+apart_by false id x xs e =
+    let other : is_of id x ≡ false = swapped (text_eq x.driver id.driver) (text_eq x.pool.name id.pool) e in
+    ap (λ (b : Bool). found_or (option_map (offered_by x) (cond b (find (λ d. text_eq d.name id.device) x.devices) None)) (found_in id xs)) (sym other)
+
+found_apart : (id : DeviceId) (xs : List ResourceSlice) → found_in id (filter (is_in id.driver id.pool) xs) ≡ found_in id xs
+found_apart id [] = refl
+found_apart id (x ∷ xs) =
+    apart_by (is_in id.driver id.pool x) id x (filter (is_in id.driver id.pool) xs) refl ∙ ap (found_or (option_map (offered_by x) (device_of id x))) (found_apart id xs)
+
+pub found_as : (i : Inventory) (id : DeviceId) (xs : List ResourceSlice) (r o : Option Offered) → xs ≡ filter (is_in id.driver id.pool) (counted_slices i) → r ≡ found_in id xs → r ≡ o → found_in id (counted_slices i) ≡ o
+found_as i id xs r o e f g = sym (found_apart id (counted_slices i)) ∙ ap (found_in id) (sym e) ∙ sym f ∙ g

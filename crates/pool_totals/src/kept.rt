@@ -99,7 +99,7 @@ fn device_of<'a>(slice: &'a ResourceSlice, id: &DeviceId) -> Option<&'a Device>
     }
 }
 
-/// The device of the slices that has the id: the slices of other pools are passed over by their pool's name.
+/// The device of the slices that has the id.
 fn found_in<'a>(slices: &'a [Shared<ResourceSlice>], id: &DeviceId) -> Option<DeviceRef<'a>>
     ensures { result ≡ found_in id.now slices.now }
 {
@@ -131,7 +131,7 @@ pub fn hold(
     let is_free = holders.holder(device).is_none();
     holders.insert(device, claim, alloc)?;
     if is_free {
-        if let Some(found) = found_in(pools.counted(), device) {
+        if let Some(found) = found_in(pools.counted_in(&device.driver, &device.pool), device) {
             totals.hold(&found, alloc)?;
         }
     }
@@ -155,7 +155,7 @@ pub fn leave(
     let is_held = holders.holder(device).is_some();
     holders.remove(device, alloc)?;
     if is_held {
-        if let Some(found) = found_in(pools.counted(), device) {
+        if let Some(found) = found_in(pools.counted_in(&device.driver, &device.pool), device) {
             totals.give_back(&found, alloc)?;
         }
     }

@@ -1,5 +1,5 @@
 -- Slices of usable pools and their devices differ.
-use Rattle.std.proofs.Common.{ℕ, ◌≡◌, ◌∙◌, ⊎_elim, List, [], ◌∷◌, ◌++◌, Bool, true, false, not, cond, ◌&&◌, ◌||◌, Option, None, Some, refl, sym, ap, subst}
+use Rattle.std.proofs.Common.{ℕ, ◌≡◌, ◌∙◌, ⊎_elim, List, [], ◌∷◌, ◌++◌, Bool, true, false, not, cond, ◌&&◌, Option, None, Some, refl, sym, ap, subst}
 use Rattle.std.specs.Prelude.{filter, map, slice_get}
 use Rattle.std.specs.List.{AllByRecursion, Contains, flat_map, list_any}
 use Rattle.std.specs.List.Sorted.{IsStrictlySortedBy}
@@ -94,7 +94,7 @@ pairs_block R all p h =
     pairs_if (is_usable (pool_of all p.driver p.pool)) R (pool_of all p.driver p.pool) (pairs_filter R _ (slices_of p.driver p.pool all) h)
 
 -- they are of it
-is_pool : (x : ResourceSlice) (p : PoolName) → (text_eq x.driver p.driver && text_eq x.pool.name p.pool) ≡ true → pool_named x ≡ p
+pub is_pool : (x : ResourceSlice) (p : PoolName) → (text_eq x.driver p.driver && text_eq x.pool.name p.pool) ≡ true → pool_named x ≡ p
 is_pool x p e =
     let both = and_parts (text_eq x.driver p.driver) (text_eq x.pool.name p.pool) e in
     same_parts x.driver p.driver x.pool.name p.pool (same_text x.driver p.driver (sym both.0)) (same_text x.pool.name p.pool (sym both.1))

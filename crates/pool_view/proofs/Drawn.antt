@@ -1,5 +1,5 @@
 -- The counters from which devices of usable pools draw.
-use Rattle.std.proofs.Common.{ℕ, ℤ, ◌≡◌, ◌∙◌, List, [], ◌∷◌, Bool, true, false, not, cond, ◌&&◌, ◌||◌, Option, None, Some, refl, sym, ap}
+use Rattle.std.proofs.Common.{ℕ, ℤ, ◌≡◌, ◌∙◌, List, [], ◌∷◌, Bool, true, false, not, cond, Option, None, Some, refl, sym, ap}
 use Rattle.std.specs.List.{AllByRecursion, Contains, find, flat_map, list_all}
 use Rattle.std.specs.Option.{is_some, option_or}
 use Rattle.std.proofs.lemmas.Bool.{and_parts, or_parts}

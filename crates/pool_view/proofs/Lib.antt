@@ -19,6 +19,7 @@ mod NodeSees
 mod Learned
 mod Listing
 pub mod OnePool
+mod PoolOrder
 mod Indexing
 mod Tallying
 pub mod Deciding

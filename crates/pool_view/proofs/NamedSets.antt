@@ -4,9 +4,7 @@ use Rattle.std.specs.BTreeMap.{insert_entry}
 use Rattle.std.specs.Cmp.Lexicographic.{nat_list_eq_equiv, same_text, texts_ties}
 use Rattle.std.specs.List.{list_all, list_any}
 use Rattle.std.specs.Option.{is_some}
-use Rattle.api_slice.specs.declared.types.CounterConsumption.{CounterConsumption}
 use Rattle.api_slice.specs.declared.types.CounterSet.{CounterSet}
-use Rattle.api_slice.specs.declared.types.Device.{Device}
 use Rattle.api_slice.specs.declared.types.ResourceSlice.{ResourceSlice}
 use Rattle.pool_view.specs.Names.{at_name, text_cmp, text_eq}
 use Rattle.pool_view.specs.Pools.{draws_are_there, has_each, has_twice, is_there, set_named, set_names}

@@ -1,6 +1,6 @@
 -- Which slices of a pool are usable depends on its own slices alone.
-use Rattle.std.proofs.Common.{ℕ, ◌+◌, ◌≤◌, ◌≡◌, ◌∙◌, List, [], ◌∷◌, ◌++◌, Bool, true, false, cond, ◌&&◌, ◌||◌, Option, None, Some, length, refl, sym, ap, subst, arith, append_assoc, append-nil}
-use Rattle.std.specs.Prelude.{IfSome, filter, nat_le}
+use Rattle.std.proofs.Common.{ℕ, ◌+◌, ◌≤◌, ◌≡◌, ◌∙◌, List, [], ◌∷◌, ◌++◌, Bool, true, false, cond, ◌||◌, Option, None, Some, length, refl, sym, ap, subst, arith, append_assoc, append-nil}
+use Rattle.std.specs.Prelude.{IfSome, filter}
 use Rattle.std.specs.List.{AllByRecursion, flat_map, list_any}
 use Rattle.std.specs.List.Sorted.{IsStrictlySortedBy}
 use Rattle.std.specs.BTreeMap.{insert_entry, is_at}
@@ -17,7 +17,7 @@ use Rattle.pool_view.specs.declared.inventory.Inventory.{Inventory}
 use Rattle.pool_view.specs.declared.names.PoolName.{PoolName}
 use Rattle.pool_view.specs.declared.stored.Stored.{Stored}
 use Rattle.pool_view.specs.Inventory.{AtOwnNames, IsKept, Named, created, device_count, devices_most, has_room_for, put_by, updated, with_named, with_slice, without_named, without_slice}
-use Rattle.pool_view.specs.Names.{at_name, text_cmp, text_eq}
+use Rattle.pool_view.specs.Names.{at_name, text_cmp}
 use Rattle.pool_view.specs.OnePool.{AreInOrder, IsElsewhere, is_in, only_pool, stored_in}
 use Rattle.pool_view.specs.Pools.{is_usable, newest, pool_of, slices_of}
 use Rattle.pool_view.specs.Usable.{if_usable, pool_cmp, pool_named, pools, pools_with, usable_slices}

@@ -1,12 +1,12 @@
 //! The slices of one pool.
 
-ghost use Rattle.std.specs.Prelude.{◌≡◌, ◌≤◌, IfOk};
+ghost use Rattle.std.specs.Prelude.{◌≡◌, ◌≤◌, IfOk, filter};
 ghost use Rattle.pool_view.specs.Inventory.{device_count, devices_most};
-ghost use Rattle.pool_view.specs.OnePool.{is_in, stored_in};
+ghost use Rattle.pool_view.specs.OnePool.{AreByPool, is_before, is_in, stored_in};
 
 use crate::inventory::Slices;
 use api_slice::ResourceSlice;
-use dra_values::{Duplicate, Text};
+use dra_values::{Duplicate, Shared, Text};
 use shared_map::SharedMap;
 use std::alloc::{AllocError, Global};
 
@@ -48,4 +48,27 @@ pub fn device_count(slices: &Slices) -> usize
         count += stored.object.devices.as_slice().len();
     }
     count
+}
+
+/// Whether the slice's pool comes before that one, by driver and then by its own name.
+fn is_before(slice: &ResourceSlice, driver: &Text, pool: &Text) -> bool
+    ensures { result ≡ is_before driver.now pool.now slice.now }
+{
+    let by_driver = slice.driver.as_text().cmp(driver);
+    by_driver.then(slice.pool.name.cmp(pool)).is_lt()
+}
+
+/// Those of slices, in the order of their pools, that are of one pool: two binary searches.
+pub fn slices_of<'a>(
+    slices: &'a [Shared<ResourceSlice>],
+    driver: &Text,
+    pool: &Text,
+) -> &'a [Shared<ResourceSlice>]
+    requires { AreByPool slices.now }
+    ensures { result.now ≡ filter (is_in driver.now pool.now) slices.now }
+{
+    let first = slices.partition_point(|slice| is_before(slice.value(), driver, pool));
+    let rest = &slices[first..];
+    let count = rest.partition_point(|slice| is_in(slice.value(), driver, pool));
+    &rest[..count]
 }

@@ -1,5 +1,6 @@
-ghost use Rattle.std.specs.Prelude.{◌≡◌, [], IfOk, IsSome};
+ghost use Rattle.std.specs.Prelude.{◌≡◌, [], IfOk, IsSome, filter};
 ghost use Rattle.pool_view.specs.Names.{at_name};
+ghost use Rattle.pool_view.specs.OnePool.{is_in};
 ghost use Rattle.pool_view.specs.Sorted.{AreSorted};
 ghost use Rattle.pool_view.specs.Usable.{counted_slices, has_broken, node_devices};
 ghost use Rattle.pool_view.specs.Views.{places_from, position_of, with_place};
@@ -7,6 +8,7 @@ ghost use Rattle.pool_view.specs.Views.{places_from, position_of, with_place};
 use crate::Inventory;
 use crate::device::DeviceRef;
 use crate::kept::SortedSlices;
+use crate::one_pool::slices_of;
 use crate::seen::{are_seen, devices_seen};
 use crate::sorting::{sort_all, sorted_slices};
 use api_slice::ResourceSlice;
@@ -104,6 +106,13 @@ impl<'a> Pools<'a> {
         ensures { result.now ≡ counted_slices self.now }
     {
         self.sorted.value().counted.as_slice()
+    }
+
+    /// Those of them that are of one pool: two binary searches. Allocates nothing.
+    pub fn counted_in(&self, driver: &Text, pool: &Text) -> &[Shared<ResourceSlice>]
+        ensures { result.now ≡ filter (is_in driver.now pool.now) (counted_slices self.now) }
+    {
+        slices_of(self.counted(), driver, pool)
     }
 }
 

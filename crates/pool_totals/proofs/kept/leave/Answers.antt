@@ -7,10 +7,10 @@ pub returns-in_ok-give_back-clause-counted : goal.returns-in_ok-give_back-clause
 returns-in_ok-give_back-clause-counted c =
     left_found c.args.pools.now c.args.holders.now c.remove.new.self c.args.totals.now c.give_back.new.self c.args.device.now c.in-Some.found (c.usable_slices_differ.ensures.ids c.args.pools.now) c.requires
     (some_from c.holder.result (holder_in c.args.holders.now c.args.device.now) c.holder.ensures (search rules)) c.in_ok-remove.ensures.ok
-    (found_as c.args.pools.now c.args.device.now c.counted.result.now c.found_in.result (Some c.in-Some.found) c.counted.ensures c.found_in.ensures c.in-Some.is) c.in_ok-give_back.ensures.value c.in_ok-give_back.ensures.drawn
+    (found_as c.args.pools.now c.args.device.now c.counted_in.result.now c.found_in.result (Some c.in-Some.found) c.counted_in.ensures c.found_in.ensures c.in-Some.is) c.in_ok-give_back.ensures.value c.in_ok-give_back.ensures.drawn
 
 pub returns-in_default-clause-counted : goal.returns-in_default-clause-counted
 returns-in_default-clause-counted c =
     left_none c.args.pools.now c.args.holders.now c.remove.new.self c.args.totals.now c.args.device.now c.requires
     (some_from c.holder.result (holder_in c.args.holders.now c.args.device.now) c.holder.ensures (search rules)) c.in_ok-remove.ensures.ok
-    (found_as c.args.pools.now c.args.device.now c.counted.result.now c.found_in.result None c.counted.ensures c.found_in.ensures c.in_default.is)
+    (found_as c.args.pools.now c.args.device.now c.counted_in.result.now c.found_in.result None c.counted_in.ensures c.found_in.ensures c.in_default.is)
