@@ -102,9 +102,8 @@ impl Path {
     pub fn then(&self, alloc: Global, step: Step) -> Result<Path, FieldError>
         ensures { Reads result (Ok (self.now ++ step ∷ [])) }
     {
-        let mut path = or_memory(alloc, self.copy(alloc))?;
-        or_memory(alloc, path.steps.push(step))?;
-        Ok(path)
+        let steps = or_memory(alloc, longer(alloc, self.steps.as_slice(), step))?;
+        Ok(Path { steps })
     }
 
     /// An equal path.
@@ -115,6 +114,18 @@ impl Path {
             steps: self.steps.copy(alloc)?,
         })
     }
+}
+
+/// Copies of steps and a step behind them, in one allocation.
+fn longer(alloc: Global, steps: &[Step], step: Step) -> Result<Seq<Step>, AllocError>
+    ensures { IfOk result (λ longer. longer ≡ steps.now ++ step ∷ []) }
+{
+    let mut longer = Seq::with_capacity(alloc, steps.len() + 1)?;
+    for earlier in steps {
+        longer.push(earlier.duplicate(alloc)?)?;
+    }
+    longer.push(step)?;
+    Ok(longer)
 }
 
 impl Duplicate for Path {
