@@ -5,3 +5,4 @@ pub mod ValueLemmas
 pub mod ReadBackLemmas
 pub mod DigitLemmas
 pub mod GrammarLemmas
+mod FewLemmas

@@ -8,7 +8,7 @@ ghost use Rattle.quantity.specs.Value.{digits_value, up_to_most, AreDigits};
 use crate::QuantityError;
 
 /// The greatest magnitude of a quantity, in 10^-9.
-const MOST: u128 = 9_223_372_036_854_775_807_000_000_000;
+pub const MOST: u128 = 9_223_372_036_854_775_807_000_000_000;
 
 /// Multiplies by the factor and adds, carrying digit by digit.
 pub fn scale(cells: &mut [u8], factor: u128, add: u128)

@@ -7,6 +7,7 @@
 
 mod cells;
 mod error;
+mod few;
 mod laws;
 mod magnitude;
 mod print;

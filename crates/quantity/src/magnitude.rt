@@ -6,9 +6,13 @@ ghost use Rattle.quantity.specs.Value.{digits_value, magnitude_of, AreDigits};
 
 use crate::QuantityError;
 use crate::cells::{are_zero, number, push_digits, scale};
+use crate::few::magnitude_of_few;
 
 /// Room for 64 digits times the greatest factor, which has 28.
 const CELLS: usize = 92;
+
+/// Of so many digits and the greatest factor, the product is below 2^128.
+const FEW: usize = 10;
 
 /// Digits with a point, times a factor in 10^-9, as a number of 10^-9.
 pub fn magnitude(whole: &[u8], fraction: &[u8], factor: u128) -> Result<u128, QuantityError>
@@ -18,6 +22,9 @@ pub fn magnitude(whole: &[u8], fraction: &[u8], factor: u128) -> Result<u128, Qu
     requires factor { factor ≤ 2 ^ 60 * 10 ^ 9 }
     ensures { result ≡ magnitude_of (digits_value (whole.now ++ fraction.now) * factor) (length fraction.now) }
 {
+    if whole.len() + fraction.len() <= FEW {
+        return magnitude_of_few(whole, fraction, factor);
+    }
     let cells = product(whole, fraction, factor);
     let (below, above) = cells.split_at(fraction.len());
     if !are_zero(below) {
