@@ -6,8 +6,8 @@ use Rattle.object_fields.specs.declared.error.FieldError.{FieldError}
 use Rattle.object_fields.specs.declared.path.Step.{Step}
 
 -- what a reading returns for a value is what it returns after the reading of that value
-pub behind : {A : Type 0} (r : Result A FieldError) (x : Result Data FieldError) (v : Data) (path inside : List Step) (f : List Step → Data → Result A FieldError) → x ≡ Ok v → path ≡ inside → Reads r (f inside v) → Reads r (x >>= f path)
-behind {A = A} r x v path inside f is at h =
+pub behind : {A B : Type 0} (r : Result A FieldError) (x : Result B FieldError) (v : B) (path inside : List Step) (f : List Step → B → Result A FieldError) → x ≡ Ok v → path ≡ inside → Reads r (f inside v) → Reads r (x >>= f path)
+behind {A = A} {B = B} r x v path inside f is at h =
     let P : List Step → Type 0 = λ q. Reads r (f q v) in
-    let Q : Result Data FieldError → Type 0 = λ y. Reads r (y >>= f path) in
+    let Q : Result B FieldError → Type 0 = λ y. Reads r (y >>= f path) in
     subst Q (sym is) (subst P (sym at) h)

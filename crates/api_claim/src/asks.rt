@@ -53,7 +53,7 @@ fn read_first_available(
     ensures { Reads result (fields.first_available_at path.now (view request.now)) }
 {
     let subrequests = list(alloc, request, path, "firstAvailable")?;
-    let path = path.member(alloc, "firstAvailable")?;
+    let path = path.member("firstAvailable");
     read_items(alloc, subrequests, &path)
 }
 
@@ -65,7 +65,7 @@ fn read_exactly(
     ensures { Reads result (fields.exactly_at path.now (view request.now)) }
 {
     let exactly = object(alloc, request, path, "exactly")?;
-    let path = path.member(alloc, "exactly")?;
+    let path = path.member("exactly");
     read_exact(alloc, exactly, &path)
 }
 

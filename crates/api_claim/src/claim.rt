@@ -64,9 +64,9 @@ impl ResourceClaim {
 fn read_devices(alloc: Global, document: &Value) -> Result<Devices, FieldError>
     ensures { Reads result (fields.devices_at (view document.now)) }
 {
-    let top = Path::top(alloc);
+    let top = Path::top();
     let spec = object(alloc, document, &top, "spec")?;
-    let path = top.member(alloc, "spec")?;
+    let path = top.member("spec");
     read_spec(alloc, spec, &path)
 }
 
@@ -75,7 +75,7 @@ fn read_spec(alloc: Global, spec: &Value, path: &Path) -> Result<Devices, FieldE
         and_then fields.devices_in (path.now ++ Member (codes "devices") ∷ [])) }
 {
     let devices = object(alloc, spec, path, "devices")?;
-    let path = path.member(alloc, "devices")?;
+    let path = path.member("devices");
     read_lists(alloc, devices, &path)
 }
 

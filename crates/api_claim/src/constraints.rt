@@ -30,7 +30,7 @@ pub(crate) fn read_constraints(
 {
     match optional_short_list(alloc, devices, path, "constraints", CONSTRAINTS_MOST)? {
         Some(constraints) => {
-            let path = path.member(alloc, "constraints")?;
+            let path = path.member("constraints");
             read_each(alloc, constraints, &path, names)
         }
         None => Ok(Seq::empty(alloc)),
@@ -65,7 +65,7 @@ fn read_constraint_in(
     ensures { Reads result
         (fields.constraint_at names.now (path.now ++ Place place ∷ []) (view value.now)) }
 {
-    let at = path.place(alloc, place)?;
+    let at = path.place(place);
     read_constraint(alloc, value, &at, names)
 }
 
@@ -98,7 +98,7 @@ fn read_requests(
 {
     match optional_list(alloc, constraint, path, "requests")? {
         Some(requests) => {
-            let path = path.member(alloc, "requests")?;
+            let path = path.member("requests");
             read_each_request(alloc, requests, &path, names)
         }
         None => Ok(Seq::empty(alloc)),
@@ -132,7 +132,7 @@ fn read_known_in(
     ensures { Reads result
         (fields.known_at names.now (path.now ++ Place place ∷ []) (view value.now)) }
 {
-    let at = path.place(alloc, place)?;
+    let at = path.place(place);
     read_known(alloc, value, &at, names)
 }
 
@@ -151,7 +151,7 @@ fn read_attribute(alloc: Global, constraint: &Value, path: &Path) -> Result<Qual
     ensures { Reads result (fields.attribute_at path.now (view constraint.now)) }
 {
     let text = borrowed(alloc, constraint, path, "matchAttribute")?;
-    let path = path.member(alloc, "matchAttribute")?;
+    let path = path.member("matchAttribute");
     read_full_name(alloc, &path, text)
 }
 

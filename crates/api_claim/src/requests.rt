@@ -31,7 +31,7 @@ pub(crate) fn read_requests(
     ensures { Reads result (fields.requests_at path.now (view devices.now)) }
 {
     let requests = some_items(alloc, devices, path, "requests", REQUESTS_MOST)?;
-    let path = path.member(alloc, "requests")?;
+    let path = path.member("requests");
     read_rows(alloc, requests, &path)
 }
 
@@ -66,7 +66,7 @@ fn read_names(alloc: Global, requests: &[Value], path: &Path) -> Result<Seq<Text
 {
     let mut names = Seq::empty(alloc);
     for place in 0..requests.len() {
-        let at = path.place(alloc, place)?;
+        let at = path.place(place);
         let name = read_name(alloc, &requests[place], &at, names.as_slice())?;
         or_memory(alloc, names.push(name))?;
     }
@@ -105,7 +105,7 @@ fn read_inner_names(
 {
     let mut names = Seq::empty(alloc);
     for place in 0..requests.len() {
-        let at = path.place(alloc, place)?;
+        let at = path.place(place);
         let inner = read_subrequest_names(alloc, &requests[place], &at)?;
         or_memory(alloc, names.push(inner))?;
     }
@@ -123,7 +123,7 @@ fn read_subrequest_names(
         return Ok(Seq::empty(alloc));
     }
     let subrequests = short_list(alloc, request, path, "firstAvailable", SUBREQUESTS_MOST)?;
-    let path = path.member(alloc, "firstAvailable")?;
+    let path = path.member("firstAvailable");
     read_each_name(alloc, subrequests, &path)
 }
 
@@ -137,7 +137,7 @@ fn read_each_name(
 {
     let mut names = Seq::empty(alloc);
     for place in 0..subrequests.len() {
-        let at = path.place(alloc, place)?;
+        let at = path.place(place);
         let subrequest = value_object(alloc, &subrequests[place], &at)?;
         let name = read_new_name(alloc, subrequest, &at, names.as_slice())?;
         or_memory(alloc, names.push(name))?;

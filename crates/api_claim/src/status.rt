@@ -61,9 +61,9 @@ impl ClaimStatus {
 fn read_status(alloc: Global, document: &Value) -> Result<Allocation, FieldError>
     ensures { Reads result (fields.status_at (view document.now)) }
 {
-    let top = Path::top(alloc);
+    let top = Path::top();
     let status = object(alloc, document, &top, "status")?;
-    let path = top.member(alloc, "status")?;
+    let path = top.member("status");
     read_members(alloc, status, &path)
 }
 
@@ -79,7 +79,7 @@ fn read_allocation(alloc: Global, status: &Value, path: &Path) -> Result<Allocat
     ensures { Reads result (fields.allocation_at path.now (view status.now)) }
 {
     let allocation = object(alloc, status, path, "allocation")?;
-    let path = path.member(alloc, "allocation")?;
+    let path = path.member("allocation");
     read_parts(alloc, allocation, &path)
 }
 
@@ -99,7 +99,7 @@ fn read_results(
     ensures { Reads result (fields.results_at path.now (view allocation.now)) }
 {
     let devices = object(alloc, allocation, path, "devices")?;
-    let path = path.member(alloc, "devices")?;
+    let path = path.member("devices");
     read_result_list(alloc, devices, &path)
 }
 
@@ -113,7 +113,7 @@ fn read_result_list(
         and_then each fields.result_at (path.now ++ Member (codes "results") ∷ [])) }
 {
     let results = some_items(alloc, devices, path, "results", RESULTS_MOST)?;
-    let path = path.member(alloc, "results")?;
+    let path = path.member("results");
     read_items(alloc, results, &path)
 }
 

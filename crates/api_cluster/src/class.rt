@@ -35,10 +35,10 @@ impl DeviceClass {
 fn read_spec(alloc: Global, document: &Value) -> Result<Seq<Text>, FieldError>
     ensures { Reads result (fields.spec_at (view document.now)) }
 {
-    let top = Path::top(alloc);
+    let top = Path::top();
     match optional_object(alloc, document, &top, "spec")? {
         Some(spec) => {
-            let path = top.member(alloc, "spec")?;
+            let path = top.member("spec");
             read_selectors(alloc, spec, &path)
         }
         None => Ok(Seq::empty(alloc)),

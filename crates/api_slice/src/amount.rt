@@ -12,16 +12,16 @@ const ONE: i128 = 1_000_000_000;
 
 /// A field that is a quantity: a text, or a whole number of 64 bits. Missing, then WrongType, then
 /// BadQuantity or OutOfRange.
-pub(crate) fn read_quantity(
+pub(crate) fn read_quantity<'a>(
     alloc: Global,
     object: &Value,
-    path: &Path,
-    name: &str,
+    path: &'a Path<'a>,
+    name: &'a str,
 ) -> Result<Quantity, FieldError>
     ensures { Reads result (fields.quantity_at path.now name.now (view object.now)) }
 {
     let value = field(alloc, object, path, name)?;
-    let path = path.member(alloc, name)?;
+    let path = path.member(name);
     quantity_of(alloc, value, &path)
 }
 

@@ -29,7 +29,7 @@ pub(crate) fn read_attributes(
     ensures { Reads result (fields.attributes_of driver.now path.now (view device.now)) }
 {
     let members = optional_table(alloc, device, path, "attributes")?;
-    let path = path.member(alloc, "attributes")?;
+    let path = path.member("attributes");
     attributes_in(alloc, members, &path, driver)
 }
 
@@ -60,25 +60,32 @@ fn attributes_of(
 {
     let mut attributes = Table::new(alloc);
     for (key, value) in members {
-        let (name, attribute) = read_entry(alloc, key.as_str(), value, path, driver, &attributes)?;
+        let (name, attribute) = read_entry(
+            alloc,
+            key.as_str(),
+            value,
+            &*path,
+            driver,
+            &attributes,
+        )?;
         or_memory(alloc, attributes.insert(name, attribute))?;
     }
     Ok(attributes)
 }
 
 /// The full name of a member, which none before has, and its value.
-fn read_entry(
+fn read_entry<'a>(
     alloc: Global,
-    key: &str,
+    key: &'a str,
     value: &Value,
-    path: &Path,
+    path: &'a Path<'a>,
     driver: &str,
     before: &Table<QualName, Attribute>,
 ) -> Result<(QualName, Attribute), FieldError>
     ensures { Reads result
         (attribute_entry driver.now path.now before.now key.now (view value.now)) }
 {
-    let at = path.key(alloc, key)?;
+    let at = path.key(key);
     let name = new_name(alloc, key, &at, driver, before)?;
     let attribute = read_attribute(alloc, value, &at)?;
     Ok((name, attribute))

@@ -33,7 +33,7 @@ pub(crate) fn read_capacity(
     check_together(alloc, device, path)?;
     match members {
         Some(members) => {
-            let path = path.member(alloc, "capacity")?;
+            let path = path.member("capacity");
             capacity_with(alloc, members, &path, driver)
         }
         None => Ok(Table::new(alloc)),
@@ -62,25 +62,25 @@ fn capacity_with(
 {
     let mut capacity = Table::new(alloc);
     for (key, value) in members {
-        let (name, amount) = read_entry(alloc, key.as_str(), value, path, driver, &capacity)?;
+        let (name, amount) = read_entry(alloc, key.as_str(), value, &*path, driver, &capacity)?;
         or_memory(alloc, capacity.insert(name, amount))?;
     }
     Ok(capacity)
 }
 
 /// The full name of a member, which none before has, and its value.
-fn read_entry(
+fn read_entry<'a>(
     alloc: Global,
-    key: &str,
+    key: &'a str,
     value: &Value,
-    path: &Path,
+    path: &'a Path<'a>,
     driver: &str,
     before: &Table<QualName, Quantity>,
 ) -> Result<(QualName, Quantity), FieldError>
     ensures { Reads result
         (capacity_entry driver.now path.now before.now key.now (view value.now)) }
 {
-    let at = path.key(alloc, key)?;
+    let at = path.key(key);
     let name = new_name(alloc, key, &at, driver, before)?;
     let amount = read_one(alloc, value, &at)?;
     Ok((name, amount))

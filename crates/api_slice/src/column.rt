@@ -149,6 +149,6 @@ fn read_place<T: ReadRow + Drop>(
     ensures { Reads result
         (T.reading driver.now per_device (path.now ++ Place place ∷ []) (view device.now)) }
 {
-    let at = path.place(alloc, place)?;
+    let at = path.place(place);
     T::read_row(alloc, device, &at, driver, per_device)
 }

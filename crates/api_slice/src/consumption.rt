@@ -29,7 +29,7 @@ pub(crate) fn read_consumption(
     ensures { Reads result (fields.consumes_of path.now (view device.now)) }
 {
     let values = optional_list(alloc, device, path, "consumesCounters")?;
-    let path = path.member(alloc, "consumesCounters")?;
+    let path = path.member("consumesCounters");
     each_draw(alloc, items_or_none(values), &path)
 }
 
@@ -70,7 +70,7 @@ fn read_draw(
 ) -> Result<(CounterConsumption, usize), FieldError>
     ensures { Reads result (draw_entry list.now place met draws.now (view value.now)) }
 {
-    let at = list.place(alloc, place)?;
+    let at = list.place(place);
     let set = new_drawn_set(alloc, value, &at, draws)?;
     let (amounts, more) = read_amounts(alloc, value, list, &at, met)?;
     Ok((CounterConsumption { set, amounts }, more))
@@ -108,21 +108,21 @@ fn read_amounts(
 {
     let members = table(alloc, object, path, "counters")?;
     let met = count_on(alloc, list, AMOUNTS_MOST, met, members)?;
-    let path = path.member(alloc, "counters")?;
+    let path = path.member("counters");
     let amounts = amounts_of(alloc, members, &path)?;
     Ok((amounts, met))
 }
 
-fn amounts_of(
+fn amounts_of<'a>(
     alloc: Global,
-    members: &Map<String, Value>,
-    path: &Path,
+    members: &'a Map<String, Value>,
+    path: &'a Path<'a>,
 ) -> Result<Table<Text, Quantity>, FieldError>
     ensures { Reads result (fields.amounts_with path.now [] (members_view members.now.entries)) }
 {
     let mut amounts = Table::new(alloc);
     for (key, value) in members {
-        let at = path.key(alloc, key.as_str())?;
+        let at = path.key(key.as_str());
         let amount = read_amount(alloc, value, &at)?;
         let name = or_memory(alloc, Text::from_str(alloc, key.as_str()))?;
         or_memory(alloc, amounts.insert(name, amount))?;

@@ -51,7 +51,7 @@ fn sets_alone(
 fn sets_at(alloc: Global, path: &Path, values: &[Value]) -> Result<Seq<CounterSet>, FieldError>
     ensures { Reads result (fields.sets_at path.now (items_view values.now)) }
 {
-    let path = path.member(alloc, "sharedCounters")?;
+    let path = path.member("sharedCounters");
     each_set(alloc, values, &path)
 }
 
@@ -109,7 +109,7 @@ fn read_set(
         reading.◌>>=◌ (fields.counters_at list.now (list.now ++ Place place ∷ []) met (view value.now)) (λ counters.
         Ok (record { name = name; counters = counters.0 }, counters.1)))) }
 {
-    let at = list.place(alloc, place)?;
+    let at = list.place(place);
     let name = new_set_name(alloc, value, &at, sets)?;
     let (counters, more) = read_counters(alloc, value, list, &at, met)?;
     Ok((CounterSet { name, counters }, more))
@@ -147,7 +147,7 @@ fn read_counters(
 {
     let members = table(alloc, object, path, "counters")?;
     let met = count_on(alloc, list, COUNTERS_MOST, met, members)?;
-    let path = path.member(alloc, "counters")?;
+    let path = path.member("counters");
     let counters = counters_of(alloc, members, &path)?;
     Ok((counters, met))
 }
@@ -161,22 +161,22 @@ fn counters_of(
 {
     let mut counters = Table::new(alloc);
     for (key, value) in members {
-        let (name, amount) = read_entry(alloc, key.as_str(), value, path)?;
+        let (name, amount) = read_entry(alloc, key.as_str(), value, &*path)?;
         or_memory(alloc, counters.insert(name, amount))?;
     }
     Ok(counters)
 }
 
 /// The name and the amount of a counter.
-fn read_entry(
+fn read_entry<'a>(
     alloc: Global,
-    key: &str,
+    key: &'a str,
     value: &Value,
-    path: &Path,
+    path: &'a Path<'a>,
 ) -> Result<(Text, Quantity), FieldError>
     ensures { Reads result (counter_entry path.now key.now (view value.now)) }
 {
-    let at = path.key(alloc, key)?;
+    let at = path.key(key);
     let name = counter_name(alloc, key, &at)?;
     let amount = read_amount(alloc, value, &at)?;
     Ok((name, amount))

@@ -37,7 +37,7 @@ pub(crate) fn read_devices(
         (fields.devices_at driver.now per_device path.now (view spec.now)) }
 {
     let values = optional_short_list(alloc, spec, path, "devices", MAX_DEVICES_PER_SLICE)?;
-    let path = path.member(alloc, "devices")?;
+    let path = path.member("devices");
     read_rows(alloc, items_or_none(values), &path, driver, per_device)
 }
 
@@ -101,7 +101,7 @@ fn each_name(alloc: Global, values: &[Value], path: &Path) -> Result<Seq<Text>, 
 {
     let mut names = ByName::empty(alloc);
     for place in 0..values.len() {
-        let at = path.place(alloc, place)?;
+        let at = path.place(place);
         let name = new_device_name(alloc, &values[place], &at, &names)?;
         names = or_memory(alloc, names.with(alloc, name))?;
     }
@@ -131,7 +131,7 @@ fn each_nothing_more(alloc: Global, values: &[Value], path: &Path) -> Result<(),
     ensures { Reads result (fields.nothing_more_from path.now 0 (items_view values.now)) }
 {
     for place in 0..values.len() {
-        let at = path.place(alloc, place)?;
+        let at = path.place(place);
         nothing_more(alloc, &values[place], &at)?;
     }
     Ok(())

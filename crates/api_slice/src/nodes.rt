@@ -100,7 +100,7 @@ fn selector_field(alloc: Global, object: &Value, path: &Path) -> Result<Selector
         (fields.selector_at path.now (codes "nodeSelector") (view object.now)) }
 {
     let value = field(alloc, object, path, "nodeSelector")?;
-    let path = path.member(alloc, "nodeSelector")?;
+    let path = path.member("nodeSelector");
     read_selector(alloc, value, &path)
 }
 

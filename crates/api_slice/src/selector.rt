@@ -34,7 +34,7 @@ pub fn read_selector(alloc: Global, value: &Value, path: &Path) -> Result<Select
 {
     let object = value_object(alloc, value, path)?;
     let terms = list(alloc, object, path, "nodeSelectorTerms")?;
-    let path = path.member(alloc, "nodeSelectorTerms")?;
+    let path = path.member("nodeSelectorTerms");
     read_one_term(alloc, terms, &path)
 }
 
@@ -44,7 +44,7 @@ fn read_one_term(alloc: Global, terms: &[Value], path: &Path) -> Result<Selector
     match terms.split_first() {
         None => Err(FieldError::at(alloc, path, FieldErrorKind::NotOne)),
         Some((term, others)) => match others.split_first() {
-            None => read_term(alloc, term, &path.place(alloc, 0)?),
+            None => read_term(alloc, term, &path.place(0)),
             Some(_) => Err(FieldError::at(alloc, path, FieldErrorKind::NotOne)),
         },
     }
@@ -70,7 +70,7 @@ fn read_expressions(
     ensures { Reads result (fields.expressions_at path.now (view term.now)) }
 {
     let values = optional_list(alloc, term, path, "matchExpressions")?;
-    let path = path.member(alloc, "matchExpressions")?;
+    let path = path.member("matchExpressions");
     each_expression(alloc, items_or_none(values), &path)
 }
 
@@ -83,7 +83,7 @@ fn each_expression(
 {
     let mut requirements = Seq::empty(alloc);
     for place in 0..values.len() {
-        let at = path.place(alloc, place)?;
+        let at = path.place(place);
         let requirement = read_expression(alloc, &values[place], &at)?;
         or_memory(alloc, requirements.push(requirement))?;
     }
@@ -105,7 +105,7 @@ fn read_fields(alloc: Global, term: &Value, path: &Path) -> Result<Seq<Requireme
     ensures { Reads result (fields.fields_at path.now (view term.now)) }
 {
     let values = optional_list(alloc, term, path, "matchFields")?;
-    let path = path.member(alloc, "matchFields")?;
+    let path = path.member("matchFields");
     each_field(alloc, items_or_none(values), &path)
 }
 
@@ -114,7 +114,7 @@ fn each_field(alloc: Global, values: &[Value], path: &Path) -> Result<Seq<Requir
 {
     let mut requirements = Seq::empty(alloc);
     for place in 0..values.len() {
-        let at = path.place(alloc, place)?;
+        let at = path.place(place);
         let requirement = read_field(alloc, &values[place], &at)?;
         or_memory(alloc, requirements.push(requirement))?;
     }
@@ -153,7 +153,7 @@ fn read_test(
     ensures { Reads result (fields.test_at path.now (view object.now) operator) }
 {
     let values = optional_list(alloc, object, path, "values")?;
-    let path = path.member(alloc, "values")?;
+    let path = path.member("values");
     test_of(alloc, items_or_none(values), &path, operator)
 }
 
@@ -216,7 +216,7 @@ fn one_number(alloc: Global, values: &[Value], path: &Path) -> Result<i64, Field
 fn read_number(alloc: Global, value: &Value, path: &Path) -> Result<i64, FieldError>
     ensures { Reads result (fields.number_of path.now (view value.now)) }
 {
-    let at = path.place(alloc, 0)?;
+    let at = path.place(0);
     let text = value_text(alloc, value, &at)?;
     match whole(text.as_str()) {
         Some(number) => Ok(number),

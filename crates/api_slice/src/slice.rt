@@ -84,9 +84,9 @@ fn read_named(
     requires version { VersionKept version }
     ensures { Reads result (fields.spec_at name version (view document.now)) }
 {
-    let top = Path::top(alloc);
+    let top = Path::top();
     let spec = object(alloc, document, &top, "spec")?;
-    let path = top.member(alloc, "spec")?;
+    let path = top.member("spec");
     read_spec(alloc, spec, &path, name, version)
 }
 
@@ -150,7 +150,7 @@ fn read_pool(alloc: Global, spec: &Value, path: &Path) -> Result<Pool, FieldErro
     ensures { Reads result (fields.pool_at path.now (view spec.now)) }
 {
     let pool = object(alloc, spec, path, "pool")?;
-    let path = path.member(alloc, "pool")?;
+    let path = path.member("pool");
     read_pool_members(alloc, pool, &path)
 }
 

@@ -77,7 +77,7 @@ fn read_key(alloc: Global, taint: &Value, path: &Path) -> Result<Text, FieldErro
     ensures { Reads result (fields.taint_key_at path.now (view taint.now)) }
 {
     let text = borrowed(alloc, taint, path, "key")?;
-    let path = path.member(alloc, "key")?;
+    let path = path.member("key");
     named(alloc, &path, text, KEY_MOST, !text.is_empty())
 }
 
@@ -89,7 +89,7 @@ fn read_value(alloc: Global, taint: &Value, path: &Path) -> Result<Text, FieldEr
         return or_memory(alloc, Text::from_str(alloc, ""));
     }
     let text = borrowed(alloc, taint, path, "value")?;
-    let path = path.member(alloc, "value")?;
+    let path = path.member("value");
     named(alloc, &path, text, VALUE_MOST, true)
 }
 

@@ -10,3 +10,4 @@ pub mod Selectors
 pub mod Limits
 pub mod Places
 pub mod NewNames
+pub mod Trails

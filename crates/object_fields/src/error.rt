@@ -2,7 +2,7 @@ ghost use Rattle.std.specs.Prelude.{◌≡◌, ◌∷◌, [], IfOk, MatchResult,
 ghost use Rattle.object_fields.specs.Fields.{IsError, error_at, field_error};
 
 use crate::kind::FieldErrorKind;
-use crate::path::Path;
+use crate::path::{FieldPath, Path};
 use dra_values::Duplicate;
 use std::alloc::{AllocError, Global};
 use thiserror::Error;
@@ -11,7 +11,7 @@ use thiserror::Error;
 #[derive(Debug, Drop, Error)]
 #[error("{kind} {path}")]
 pub struct FieldError {
-    pub path: Path,
+    pub path: FieldPath,
     pub kind: FieldErrorKind,
 }
 
@@ -21,7 +21,7 @@ impl FieldError {
         ensures { result ≡ error_at [] FieldErrorKind.Memory }
     {
         FieldError {
-            path: Path::top(alloc),
+            path: FieldPath::top(alloc),
             kind: FieldErrorKind::Memory,
         }
     }
@@ -40,9 +40,9 @@ impl FieldError {
     pub fn of_field(alloc: Global, path: &Path, name: &str, kind: FieldErrorKind) -> FieldError
         ensures { IsError result (field_error path.now name.now kind) }
     {
-        match path.member(alloc, name) {
+        match path.copy_to(alloc, name) {
             Ok(path) => FieldError { path, kind },
-            Err(error) => error,
+            Err(_) => FieldError::memory(alloc),
         }
     }
 

@@ -42,7 +42,7 @@ pub fn read_items<T: ReadItem + Drop>(
 {
     let mut read = Seq::empty(alloc);
     for place in 0..items.len() {
-        let at = path.place(alloc, place)?;
+        let at = path.place(place);
         let item = T::read_item(alloc, &items[place], &at)?;
         or_memory(alloc, read.push(item))?;
     }
@@ -62,7 +62,7 @@ pub fn optional_items<T: ReadItem + Drop>(
 {
     match optional_short_list(alloc, object, path, name, most)? {
         Some(items) => {
-            let path = path.member(alloc, name)?;
+            let path = path.member(name);
             read_items(alloc, items, &path)
         }
         None => Ok(Seq::empty(alloc)),

@@ -36,6 +36,6 @@ pub use optional::{
     optional_dns_label, optional_list, optional_natural, optional_object, optional_short_list,
     optional_signed, optional_table, optional_text, optional_truth, unset,
 };
-pub use path::{Path, Step};
+pub use path::{FieldPath, Path, Step};
 pub use qualified::QualName;
 pub use selectors::read_selectors;

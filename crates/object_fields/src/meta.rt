@@ -47,9 +47,9 @@ impl ObjectMeta {
     pub fn read(alloc: Global, document: &Value, scope: Scope) -> Result<ObjectMeta, FieldError>
         ensures { Reads result (meta_at scope (view document.now)) }
     {
-        let top = Path::top(alloc);
+        let top = Path::top();
         let meta = object_field(alloc, document, &top, "metadata")?;
-        let path = top.member(alloc, "metadata")?;
+        let path = top.member("metadata");
         members(alloc, meta, &path, scope)
     }
 }
@@ -94,7 +94,7 @@ fn labels(alloc: Global, meta: &Value, path: &Path) -> Result<Table<Text, Text>,
 {
     match optional_table(alloc, meta, path, "labels")? {
         Some(members) => {
-            let path = path.member(alloc, "labels")?;
+            let path = path.member("labels");
             texts(alloc, members, &path)
         }
         None => Ok(Table::new(alloc)),
@@ -102,16 +102,16 @@ fn labels(alloc: Global, meta: &Value, path: &Path) -> Result<Table<Text, Text>,
 }
 
 /// The members as texts, each at its key.
-fn texts(
+fn texts<'a>(
     alloc: Global,
-    members: &Map<String, Value>,
-    path: &Path,
+    members: &'a Map<String, Value>,
+    path: &'a Path<'a>,
 ) -> Result<Table<Text, Text>, FieldError>
     ensures { Reads result (spec.labels_with path.now [] (members_view members.now.entries)) }
 {
     let mut labels = Table::new(alloc);
     for (key, value) in members {
-        let at = path.key(alloc, key.as_str())?;
+        let at = path.key(key.as_str());
         let text = value_text(alloc, value, &at)?;
         let key = or_memory(alloc, Text::from_str(alloc, key.as_str()))?;
         or_memory(alloc, labels.insert(key, text))?;

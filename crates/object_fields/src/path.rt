@@ -1,7 +1,7 @@
 ghost use Rattle.std.specs.Prelude.{◌≡◌, ◌∷◌, [], ◌++◌, IfOk, Ok, Some};
+ghost use Rattle.object_fields.specs.Trails.{steps_of};
 ghost use Rattle.object_fields.specs.Words.{path_text, step_text, steps_text};
 
-use crate::error::{FieldError, or_memory};
 use dra_values::{Duplicate, Seq, Text};
 use std::alloc::{AllocError, Global};
 use std::fmt;
@@ -41,13 +41,114 @@ impl fmt::Display for Step {
     }
 }
 
+/// The steps from the top of a document to a value in it, in the order of reading: each borrows the path above it and its
+/// own name. Contracts see a list.
+#[derive(Drop)]
+pub struct Path<'a> {
+    trail: Trail<'a>,
+}
+
+/// The last step of a path, and the path above it.
+#[derive(Drop)]
+enum Trail<'a> {
+    Top,
+    Member(&'a Trail<'a>, &'a str),
+    Place(&'a Trail<'a>, usize),
+    Key(&'a Trail<'a>, &'a str),
+}
+
+impl<'a> Model for Path<'a> {
+    ghost use Rattle.std.specs.Prelude.{List};
+    ghost use Rattle.object_fields.specs.declared.path.Step.{Step};
+    ghost use Rattle.object_fields.specs.Trails.{steps_of};
+
+    ghost Value = { List Step };
+
+    ghost view = { λ p. steps_of p.trail };
+}
+
+impl<'a> Path<'a> {
+    /// The top of the document.
+    pub fn top() -> Path<'a>
+        ensures { result ≡ [] }
+    {
+        Path { trail: Trail::Top }
+    }
+
+    /// This path with a member appended.
+    pub fn member<'b>(&'b self, name: &'b str) -> Path<'b>
+        ensures { result ≡ self.now ++ Step.Member name.now ∷ [] }
+    {
+        Path {
+            trail: Trail::Member(&self.trail, name),
+        }
+    }
+
+    /// This path with an index of a list appended, counted from 0.
+    pub fn place<'b>(&'b self, place: usize) -> Path<'b>
+        ensures { result ≡ self.now ++ Step.Place place ∷ [] }
+    {
+        Path {
+            trail: Trail::Place(&self.trail, place),
+        }
+    }
+
+    /// This path with a key of a map appended.
+    pub fn key<'b>(&'b self, key: &'b str) -> Path<'b>
+        ensures { result ≡ self.now ++ Step.Key key.now ∷ [] }
+    {
+        Path {
+            trail: Trail::Key(&self.trail, key),
+        }
+    }
+
+    /// Its steps. `AllocError` is returned only if memory runs out.
+    pub fn copy(&self, alloc: Global) -> Result<FieldPath, AllocError>
+        ensures { IfOk result (λ p. p ≡ self.now) }
+    {
+        let mut steps = Seq::empty(alloc);
+        push_steps(&mut steps, alloc, &self.trail)?;
+        Ok(FieldPath { steps })
+    }
+
+    /// Its steps, with a member appended. `AllocError` is returned only if memory runs out.
+    pub fn copy_to(&self, alloc: Global, name: &str) -> Result<FieldPath, AllocError>
+        ensures { IfOk result (λ p. p ≡ self.now ++ Step.Member name.now ∷ []) }
+    {
+        let mut path = self.copy(alloc)?;
+        path.steps.push(Step::Member(Text::from_str(alloc, name)?))?;
+        Ok(path)
+    }
+}
+
+/// Puts the steps of a trail at the end.
+fn push_steps(steps: &mut Seq<Step>, alloc: Global, trail: &Trail<'_>) -> Result<(), AllocError>
+    ensures { IfOk result (λ _. steps.new ≡ steps.old ++ steps_of trail.now) }
+{
+    match trail {
+        Trail::Top => Ok(()),
+        Trail::Member(above, name) => {
+            push_steps(steps, alloc, above)?;
+            steps.push(Step::Member(Text::from_str(alloc, name)?))
+        }
+        Trail::Place(above, place) => {
+            push_steps(steps, alloc, above)?;
+            steps.push(Step::Place(*place))
+        }
+        Trail::Key(above, key) => {
+            push_steps(steps, alloc, above)?;
+            steps.push(Step::Key(Text::from_str(alloc, key)?))
+        }
+    }
+}
+
 /// The steps from the top of a document to a value in it, which contracts see as a list.
 #[derive(Drop)]
-pub struct Path {
+pub struct FieldPath {
     steps: Seq<Step>,
 }
 
-impl Model for Path {
+impl Model for FieldPath {
     ghost use Rattle.std.specs.Prelude.{List};
     ghost use Rattle.object_fields.specs.declared.path.Step.{Step};
 
@@ -56,14 +157,12 @@ impl Model for Path {
     ghost view = { λ p. p.steps };
 }
 
-impl Path {
-    ghost use Rattle.object_fields.specs.Fields.{Reads};
-
+impl FieldPath {
     /// The top of the document. Allocates nothing.
-    pub fn top(alloc: Global) -> Path
+    pub fn top(alloc: Global) -> FieldPath
         ensures { result ≡ [] }
     {
-        Path {
+        FieldPath {
             steps: Seq::empty(alloc),
         }
     }
@@ -75,67 +174,24 @@ impl Path {
         self.steps.as_slice()
     }
 
-    /// This path with a member appended; Memory is its only error.
-    pub fn member(&self, alloc: Global, name: &str) -> Result<Path, FieldError>
-        ensures { Reads result (Ok (self.now ++ Step.Member name.now ∷ [])) }
-    {
-        let name = or_memory(alloc, Text::from_str(alloc, name))?;
-        self.then(alloc, Step::Member(name))
-    }
-
-    /// This path with an index of a list appended, counted from 0; Memory is its only error.
-    pub fn place(&self, alloc: Global, place: usize) -> Result<Path, FieldError>
-        ensures { Reads result (Ok (self.now ++ Step.Place place ∷ [])) }
-    {
-        self.then(alloc, Step::Place(place))
-    }
-
-    /// This path with a key of a map appended; Memory is its only error.
-    pub fn key(&self, alloc: Global, key: &str) -> Result<Path, FieldError>
-        ensures { Reads result (Ok (self.now ++ Step.Key key.now ∷ [])) }
-    {
-        let key = or_memory(alloc, Text::from_str(alloc, key))?;
-        self.then(alloc, Step::Key(key))
-    }
-
-    /// This path with a step appended; Memory is its only error.
-    pub fn then(&self, alloc: Global, step: Step) -> Result<Path, FieldError>
-        ensures { Reads result (Ok (self.now ++ step ∷ [])) }
-    {
-        let steps = or_memory(alloc, longer(alloc, self.steps.as_slice(), step))?;
-        Ok(Path { steps })
-    }
-
     /// An equal path.
-    pub fn copy(&self, alloc: Global) -> Result<Path, AllocError>
+    pub fn copy(&self, alloc: Global) -> Result<FieldPath, AllocError>
         ensures { IfOk result (λ p. p ≡ self.now) }
     {
-        Ok(Path {
+        Ok(FieldPath {
             steps: self.steps.copy(alloc)?,
         })
     }
 }
 
-/// Copies of steps and a step behind them, in one allocation.
-fn longer(alloc: Global, steps: &[Step], step: Step) -> Result<Seq<Step>, AllocError>
-    ensures { IfOk result (λ longer. longer ≡ steps.now ++ step ∷ []) }
-{
-    let mut longer = Seq::with_capacity(alloc, steps.len() + 1)?;
-    for earlier in steps {
-        longer.push(earlier.duplicate(alloc)?)?;
-    }
-    longer.push(step)?;
-    Ok(longer)
-}
-
-impl Duplicate for Path {
-    fn duplicate(&self, alloc: Global) -> Result<Path, AllocError> {
+impl Duplicate for FieldPath {
+    fn duplicate(&self, alloc: Global) -> Result<FieldPath, AllocError> {
         self.copy(alloc)
     }
 }
 
 /// As `a.b[0][key]`.
-impl fmt::Display for Path {
+impl fmt::Display for FieldPath {
     ghost output = { λ p. Some (path_text p) };
 
     fn fmt<W: fmt::Write>(&self, f: &mut fmt::Formatter<W>) -> fmt::Result {
@@ -147,7 +203,7 @@ impl fmt::Display for Path {
     }
 }
 
-impl fmt::Debug for Path {
+impl fmt::Debug for FieldPath {
     fn fmt<W: fmt::Write>(&self, f: &mut fmt::Formatter<W>) -> fmt::Result {
         write!(f, "{self}")
     }

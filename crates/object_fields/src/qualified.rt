@@ -32,7 +32,7 @@ impl QualName {
     pub fn parse(alloc: Global, text: &str, driver: &str) -> Result<QualName, FieldError>
         ensures { Reads result (qual_name_in [] driver.now text.now) }
     {
-        QualName::read(alloc, &Path::top(alloc), text, driver)
+        QualName::read(alloc, &Path::top(), text, driver)
     }
 
     /// The same for a text at that path.

@@ -24,7 +24,7 @@ pub fn read_selectors(alloc: Global, object: &Value, path: &Path) -> Result<Seq<
 {
     match optional_short_list(alloc, object, path, "selectors", SELECTORS_MOST)? {
         Some(selectors) => {
-            let path = path.member(alloc, "selectors")?;
+            let path = path.member("selectors");
             read_each(alloc, selectors, &path)
         }
         None => Ok(Seq::empty(alloc)),
@@ -36,7 +36,7 @@ fn read_each(alloc: Global, selectors: &[Value], path: &Path) -> Result<Seq<Text
 {
     let mut texts = Seq::empty(alloc);
     for place in 0..selectors.len() {
-        let at = path.place(alloc, place)?;
+        let at = path.place(place);
         let text = read_selector(alloc, &selectors[place], &at)?;
         or_memory(alloc, texts.push(text))?;
     }
@@ -48,6 +48,6 @@ fn read_selector(alloc: Global, value: &Value, path: &Path) -> Result<Text, Fiel
 {
     let selector = value_object(alloc, value, path)?;
     let cel = object_field(alloc, selector, path, "cel")?;
-    let path = path.member(alloc, "cel")?;
+    let path = path.member("cel");
     text(alloc, cel, &path, "expression")
 }

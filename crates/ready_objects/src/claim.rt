@@ -63,23 +63,28 @@ fn compile_requests(
 ) -> Result<Seq<Seq<Seq<DeviceSelector>>>, FieldError>
     ensures { Reads result (requests_from 0 [] requests.now) }
 {
-    let path = all_requests(alloc)?;
+    let top = Path::top();
+    let spec = top.member("spec");
+    let devices = spec.member("devices");
+    let path = devices.member("requests");
+    compile_list(alloc, requests, &path)
+}
+
+fn compile_list(
+    alloc: Global,
+    requests: &[DeviceRequest],
+    path: &Path,
+) -> Result<Seq<Seq<Seq<DeviceSelector>>>, FieldError>
+    requires { path.now ≡ requests_path }
+    ensures { Reads result (requests_from 0 [] requests.now) }
+{
     let mut selectors = Seq::empty(alloc);
     for place in 0..requests.len() {
-        let at = path.place(alloc, place)?;
+        let at = path.place(place);
         let options = compile_kind(alloc, &requests[place].kind, &at)?;
         or_memory(alloc, selectors.push(options))?;
     }
     Ok(selectors)
-}
-
-/// `spec.devices.requests`; Memory is the only error.
-fn all_requests(alloc: Global) -> Result<Path, FieldError>
-    ensures { Reads result (Ok requests_path) }
-{
-    let path = Path::top(alloc).member(alloc, "spec")?;
-    let path = path.member(alloc, "devices")?;
-    path.member(alloc, "requests")
 }
 
 fn compile_kind(
@@ -104,7 +109,7 @@ fn compile_exactly(
 ) -> Result<Seq<Seq<DeviceSelector>>, FieldError>
     ensures { Reads result (only_texts (path.now ++ Step.Member (codes "exactly") ∷ []) ask.now.selectors) }
 {
-    let path = path.member(alloc, "exactly")?;
+    let path = path.member("exactly");
     compile_only(alloc, ask, &path)
 }
 
@@ -115,7 +120,7 @@ fn compile_subrequests(
 ) -> Result<Seq<Seq<DeviceSelector>>, FieldError>
     ensures { Reads result (options_from (path.now ++ Step.Member (codes "firstAvailable") ∷ []) 0 [] requests.now) }
 {
-    let path = path.member(alloc, "firstAvailable")?;
+    let path = path.member("firstAvailable");
     compile_options(alloc, requests, &path)
 }
 
@@ -141,7 +146,7 @@ fn compile_options(
 {
     let mut options = Seq::empty(alloc);
     for place in 0..requests.len() {
-        let at = path.place(alloc, place)?;
+        let at = path.place(place);
         let selectors = compile_ask(alloc, &requests[place].ask, &at)?;
         or_memory(alloc, options.push(selectors))?;
     }
@@ -155,6 +160,6 @@ fn compile_ask(
 ) -> Result<Seq<DeviceSelector>, FieldError>
     ensures { Reads result (texts_at (selectors_path path.now) ask.now.selectors) }
 {
-    let path = path.member(alloc, "selectors")?;
+    let path = path.member("selectors");
     compile_each(alloc, ask.selectors.as_slice(), &path)
 }

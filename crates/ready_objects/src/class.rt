@@ -58,7 +58,8 @@ impl ReadyClass {
 fn class_selectors(alloc: Global, class: &DeviceClass) -> Result<Seq<DeviceSelector>, FieldError>
     ensures { Reads result (texts_at class_path class.now.selectors) }
 {
-    let path = Path::top(alloc).member(alloc, "spec")?;
-    let path = path.member(alloc, "selectors")?;
+    let top = Path::top();
+    let spec = top.member("spec");
+    let path = spec.member("selectors");
     compile_each(alloc, class.selectors.as_slice(), &path)
 }

@@ -20,7 +20,7 @@ pub fn compile_each(
 {
     let mut selectors = Seq::empty(alloc);
     for place in 0..texts.len() {
-        let at = path.place(alloc, place)?;
+        let at = path.place(place);
         let selector = compile_one(alloc, &texts[place], &at)?;
         or_memory(alloc, selectors.push(selector))?;
     }
@@ -43,13 +43,6 @@ fn compile_one(alloc: Global, text: &Text, path: &Path) -> Result<DeviceSelector
 fn refused(alloc: Global, path: &Path, stage: Stage) -> FieldError
     ensures { IsError result (field_error (path.now ++ Step.Member (codes "cel") ∷ []) (codes "expression") (FieldErrorKind.Selector stage)) }
 {
-    match path.member(alloc, "cel") {
-        Ok(path) => FieldError::of_field(
-            alloc,
-            &path,
-            "expression",
-            FieldErrorKind::Selector(stage),
-        ),
-        Err(error) => error,
-    }
+    let path = path.member("cel");
+    FieldError::of_field(alloc, &path, "expression", FieldErrorKind::Selector(stage))
 }

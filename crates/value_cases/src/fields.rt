@@ -68,7 +68,7 @@ pub fn required(
     reader: &str,
     value: &Value,
 ) -> Result<(), CaseError> {
-    required_at(alloc, out, reader, value, &Path::top(alloc))
+    required_at(alloc, out, reader, value, &Path::top())
 }
 
 fn required_at(

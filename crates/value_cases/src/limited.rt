@@ -11,7 +11,7 @@ use std::alloc::Global;
 
 /// Appends the field `f`, or the whole value, by one of the readers with limits.
 pub fn limited(alloc: Global, out: &mut Out, reader: &str, value: &Value) -> Result<(), CaseError> {
-    limited_at(alloc, out, reader, value, &Path::top(alloc))
+    limited_at(alloc, out, reader, value, &Path::top())
 }
 
 fn limited_at(

@@ -98,20 +98,18 @@ fn all(alloc: Global, out: &mut Out, input: &Value) -> Result<(), CaseError> {
     push_qualified(alloc, out, driver, text)
 }
 
-fn place_seven(alloc: Global) -> Result<Path, FieldError> {
-    Path::top(alloc).place(alloc, 7)
-}
-
 /// Appends the text as a label at index 7 of a list.
 fn label_at_seven(alloc: Global, out: &mut Out, text: &str) -> Result<(), CaseError> {
-    let path = read(alloc, out, place_seven(alloc))?;
+    let top = Path::top();
+    let path = top.place(7);
     printed(alloc, out, label_of(alloc, &path, text))
 }
 
 /// Appends the steps of the path to index 7 of a list, one after another.
 fn steps(alloc: Global, out: &mut Out) -> Result<(), CaseError> {
-    let path = read(alloc, out, place_seven(alloc))?;
-    for step in path.steps() {
+    let top = Path::top();
+    let path = top.place(7);
+    for step in path.copy(alloc)?.steps() {
         out.show(step);
     }
     Ok(())

@@ -19,7 +19,7 @@ pub fn answer(alloc: Global, out: &mut Out, word: &str, input: &Value) -> Result
 }
 
 fn selector(alloc: Global, out: &mut Out, input: &Value) -> Result<(), CaseError> {
-    let answer = read_selector(alloc, input, &Path::top(alloc));
+    let answer = read_selector(alloc, input, &Path::top());
     show(alloc, out, answer)
 }
 
@@ -53,7 +53,7 @@ fn selects_node(
     name: &str,
     labels: &Table<Text, Text>,
 ) -> Result<(), CaseError> {
-    let answer = read_selector(alloc, selector, &Path::top(alloc));
+    let answer = read_selector(alloc, selector, &Path::top());
     let selector = read(alloc, out, answer)?;
     out.show(&selector.matches(name, labels));
     Ok(())

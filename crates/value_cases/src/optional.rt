@@ -17,7 +17,7 @@ pub fn optional(
     reader: &str,
     value: &Value,
 ) -> Result<(), CaseError> {
-    optional_at(alloc, out, reader, value, &Path::top(alloc))
+    optional_at(alloc, out, reader, value, &Path::top())
 }
 
 fn optional_at(

@@ -18,9 +18,9 @@ there r names path inside devices o ds h is p k =
     let P : Result (List DeviceConstraint) FieldError → Type 0 = λ x. Reads r x in
     subst P (sym f) k
 
-pub returns-in_ok-path-in-Some : goal.returns-in_ok-path-in-Some
-returns-in_ok-path-in-Some c =
+pub returns-in-Some : goal.returns-in-Some
+returns-in-Some c =
     let o : Option Items = option_map (λ v. items_view v.now) c.in_ok-constraints.field-0 in
     let is : o ≡ Some (items_view c.in-Some.constraints.now) = ap (option_map (λ v. items_view v.now)) c.in-Some.is in
-    let at : c.args.path.now ++ Member (codes "constraints") ∷ [] ≡ c.in_ok-path-in-Some.path = cc c.in_ok-path-in-Some.ensures in
-    there c.read_each.result c.args.names.now c.args.path.now c.in_ok-path-in-Some.path (view c.args.devices.now) o (items_view c.in-Some.constraints.now) c.in_ok-constraints.ensures is at c.read_each.ensures
+    let at : c.args.path.now ++ Member (codes "constraints") ∷ [] ≡ c.member-path.result = sym c.member-path.ensures in
+    there c.read_each.result c.args.names.now c.args.path.now c.member-path.result (view c.args.devices.now) o (items_view c.in-Some.constraints.now) c.in_ok-constraints.ensures is at c.read_each.ensures

@@ -1,6 +1,6 @@
 use Rattle.std.proofs.Common.{◌≡◌, [], drop}
 use Rattle.ready_objects.specs.Ready.{requests_from}
-use Rattle.ready_objects.proofs.claim.compile_requests.Given as goal
+use Rattle.ready_objects.proofs.claim.compile_list.Given as goal
 
 -- the requests that are left, after those done, are all requests
 abbrev pub invariant-loop-place : goal.invariant-loop-place
