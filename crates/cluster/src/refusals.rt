@@ -59,9 +59,9 @@ impl State {
             Mode::Update => self.update_refusal(object),
             Mode::Apply => {
                 if self.is_there(object) {
-                    self.update_refusal(object)
+                    self.refusal_there(object)
                 } else {
-                    self.create_refusal(object)
+                    self.room_refusal(object)
                 }
             }
         }
@@ -124,9 +124,17 @@ impl State {
     fn update_refusal(&self, object: &Object) -> Option<Refusal>
         ensures { result ≡ first_refusal self.now (Apply object.now Update) }
     {
-        if !self.is_there(object) {
-            return Some(Refusal::NotFound);
+        if self.is_there(object) {
+            self.refusal_there(object)
+        } else {
+            Some(Refusal::NotFound)
         }
+    }
+
+    /// The refusals of an update of an object that is there.
+    fn refusal_there(&self, object: &Object) -> Option<Refusal>
+        ensures { result ≡ or_else (conflict self.now object.now) (or_else (when (is_changed self.now object.now) refusal.Immutable) (no_room self.now object.now)) }
+    {
         match self.conflict(object) {
             Some(refusal) => Some(refusal),
             None => self.change_refusal(object),
