@@ -1,9 +1,9 @@
 use crate::fields::printed;
 use crate::input::{CaseError, number_at, text_at};
-use crate::shown::{Out, read};
+use crate::shown::Out;
 use api_slice::DriverName;
 use dra_values::Text;
-use object_fields::{FieldError, Path, QualName, dns_label, dns_subdomain, label_of, pool_name};
+use object_fields::{Path, QualName, dns_label, dns_subdomain, label_of, pool_name};
 use semver::Version;
 use serde_json::Value;
 use std::alloc::{AllocError, Global};
